@@ -1,0 +1,4 @@
+pub mod Types
+pub mod Expression
+pub mod Statement
+pub mod Process
