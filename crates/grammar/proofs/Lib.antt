@@ -1,0 +1,11 @@
+pub mod Sets
+pub mod Tables
+pub mod Trees
+pub mod Steps
+pub mod Completions
+pub mod Runs
+pub mod Exact
+pub mod Laws
+pub mod Descent
+pub mod Loop
+pub mod Examples

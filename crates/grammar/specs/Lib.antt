@@ -1,0 +1,9 @@
+pub mod Token
+pub mod Tree
+pub mod Grammar
+pub mod Derivation
+pub mod Meter
+pub mod Limits
+pub mod Acceptance
+pub mod Reader
+pub mod Descent
