@@ -1,0 +1,33 @@
+-- The tests on types decide equality. Assumes nothing.
+use mathlib.Core.Path.{_≡_, refl, sym, ap}
+use mathlib.Core.Bool.{Bool, true, false}
+use Prim.Native.Nat.{ℕ}
+use native.Mathlib.Omega.{arith}
+use Rattle.design.specs.Types.{Ty, std-logic, integer, ExprTy, plain, boolean, sameTy, sameType}
+
+clash : {A : Type 0} → false ≡ true → A
+clash e = absurd (let z : _≡_ {A = ℕ} 0 1 = cc in omega arith)
+
+pub sameTy-eq : (t u : Ty) → sameTy t u ≡ true → t ≡ u
+unfolding sameTy
+sameTy-eq std-logic std-logic e = refl
+sameTy-eq std-logic integer e = clash e
+sameTy-eq integer std-logic e = clash e
+sameTy-eq integer integer e = refl
+
+pub sameTy-refl : (t : Ty) → sameTy t t ≡ true
+unfolding sameTy
+sameTy-refl std-logic = refl
+sameTy-refl integer = refl
+
+pub sameType-eq : (t u : ExprTy) → sameType t u ≡ true → t ≡ u
+unfolding sameType
+sameType-eq (plain t) (plain u) e = ap plain (sameTy-eq t u e)
+sameType-eq (plain t) boolean e = clash e
+sameType-eq boolean (plain u) e = clash e
+sameType-eq boolean boolean e = refl
+
+pub sameType-refl : (t : ExprTy) → sameType t t ≡ true
+unfolding sameType
+sameType-refl (plain t) = sameTy-refl t
+sameType-refl boolean = refl

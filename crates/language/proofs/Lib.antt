@@ -1,0 +1,5 @@
+pub mod Facts
+pub mod Lexing
+pub mod LexExact
+pub mod TokenAt
+pub mod Folding

@@ -1,0 +1,16 @@
+pub mod Lists
+pub mod Bytes
+pub mod Words
+pub mod Lexing
+pub mod Lexer
+pub mod Declarations
+pub mod Names
+pub mod Typing
+pub mod Values
+pub mod Clock
+pub mod Classes
+pub mod Rules
+pub mod Elaboration
+pub mod Reading
+pub mod Validity
+pub mod Verdict

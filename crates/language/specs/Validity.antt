@@ -1,0 +1,66 @@
+-- Which texts are accepted, with which process, and which are refused, by which number of 1 to 9 and at which place: document 01's rows, in terms of
+-- Lexing, derivations, limits, offences and Elaborates. Nothing here goes by a way of reading. Assumes nothing.
+use mathlib.Core.Path.{_≡_}
+use mathlib.Core.List.{List, [], _∷_}
+use Prim.Native.Nat.{ℕ, zero, suc, _≤_, _<_}
+use lib.ListN.{length}
+use Rattle.grammar.specs.Token.{Token}
+use Rattle.grammar.specs.Tree.{Text}
+use Rattle.grammar.specs.Grammar.{text, Mark}
+use Rattle.grammar.specs.Derivation.{Reads}
+use Rattle.grammar.specs.Acceptance as A
+use Rattle.grammar.specs.Acceptance.{Within, Exactly}
+use Rattle.design.specs.Process.{Process}
+use Rattle.language.specs.Lexing.{Lexes, Stops}
+use Rattle.language.specs.Rules.{Rule, table}
+use Rattle.language.specs.Elaboration.{Elaborates}
+
+-- p is one of the places
+pub data In (p : ℕ) : List ℕ → Type 0 where
+  here : {l : List ℕ} → In p (p ∷ l)
+  there : {q : ℕ} {l : List ℕ} → In p l → In p (q ∷ l)
+
+-- "the lowest place first within a stage"
+pub record Lowest (l : List ℕ) (p : ℕ) : Type 0 where
+  pub one : In p l
+  pub least : (q : ℕ) → In q l → p ≤ q
+
+-- no rule of the list is offended
+abbrev pub Free : List Rule → Text → Type 0
+Free [] t = Unit {0}
+Free (r ∷ rs) t = (r .offences t ≡ []) × Free rs t
+
+-- "Stages in table order": the first rule of the list that is offended has the number n, and its lowest offence stands at p
+pub data First (t : Text) (n p : ℕ) : List Rule → Type 0 where
+  here : {r : Rule} {rs : List Rule} → r .number ≡ n → Lowest (r .offences t) p → First t n p (r ∷ rs)
+  there : {r : Rule} {rs : List Rule} → r .offences t ≡ [] → First t n p rs → First t n p (r ∷ rs)
+
+-- "Places in 1 to 9 are byte offsets": that of token k, or the text's length n where there is no such token
+unfoldable pub placeOf : ℕ → List Token → ℕ → ℕ
+placeOf n [] k = n
+placeOf n (x ∷ ts) zero = x .place
+placeOf n (x ∷ ts) (suc k) = placeOf n ts k
+
+-- "At most 16,384 bytes"; tokens; a sentence of the grammar with the tree t, within the limits
+pub record Parses (b : List ℕ) (t : Text) : Type 0 where
+  pub short : length b ≤ 16384
+  pub tokens : List Token
+  pub lexes : Lexes 0 b tokens
+  pub marks : List Mark
+  pub reads : Reads text tokens marks t
+  pub within : Within tokens (length tokens)
+
+-- "A text is accepted exactly when" it parses and breaks no rule; it then means d
+pub record Valid (b : List ℕ) (d : Process) : Type 0 where
+  pub tree : Text
+  pub parses : Parses b tree
+  pub free : Free table tree
+  pub means : Elaborates tree d
+
+-- the rows 1 to 9 of the table of refusals
+pub data Refuses (b : List ℕ) : ℕ → ℕ → Type 0 where
+  too-long : 16384 < length b → Refuses b 1 0
+  no-token : {p : ℕ} → length b ≤ 16384 → Stops 0 b p → Refuses b 2 p
+  no-sentence : {k : ℕ} (ts : List Token) → length b ≤ 16384 → Lexes 0 b ts → Exactly ts (A.no-sentence k) → Refuses b 3 (placeOf (length b) ts k)
+  past-limit : {k : ℕ} (ts : List Token) → length b ≤ 16384 → Lexes 0 b ts → Exactly ts (A.past-limit k) → Refuses b 4 (placeOf (length b) ts k)
+  offends : {n p : ℕ} {t : Text} → Parses b t → First t n p table → Refuses b n p

@@ -1,0 +1,72 @@
+-- Words, numbers, and the fixed tokens of document 01. Assumes nothing.
+use mathlib.Core.Bool.{Bool, true, false, cond, not, _&&_}
+use mathlib.Core.List.{List, [], _∷_}
+use Prim.Native.Nat.{ℕ, _+_, _*_, _-_, min}
+use Prim.Native.String.{String}
+use lib.Dec.{eqb}
+use Rattle.grammar.specs.Token.{NAME, ZERO, ONE, LP, RP, SEMI, COLON, COMMA, BECOMES, PLUS, MINUS, EQ, NE, LT, LE, GT, GE, AND, OR, XOR, NOT}
+use Rattle.grammar.specs.Token.{ENTITY, IS, PORT, END, ARCHITECTURE, OF, BEGIN, PROCESS, IN, OUT, VARIABLE, NULL, WAIT, UNTIL, IF, THEN, ELSE, WHILE, LOOP, STD-LOGIC, INTEGER}
+use Rattle.language.specs.Bytes.{bytes, isUnder, lower}
+
+-- "no doubled or last underscore"; u says that an underscore stands before
+unfoldable pub wellMade : Bool → List ℕ → Bool
+wellMade u [] = not u
+wellMade u (b ∷ l) = not (u && isUnder b) && wellMade (isUnder b) l
+
+-- "compared without regard to case": a word folded to lower case, as one number, its bytes being the digits to base 256.
+-- Two words have one number exactly when they are the same without regard to case (proofs/Folding.antt).
+unfoldable pub folded : ℕ → List ℕ → ℕ
+folded v [] = v
+folded v (b ∷ l) = folded (v * 256 + lower b) l
+
+-- a number's value, or 2147483648 where it is above that; 48 is the byte of 0
+unfoldable pub value : ℕ → List ℕ → ℕ
+value v [] = v
+value v (b ∷ l) = value (min (v * 10 + (b - 48)) 2147483648) l
+
+pub record Word : Type 0 where
+  pub bytes : List ℕ
+  pub kind : ℕ
+
+abbrev word : String → ℕ → Word
+word s k = record { bytes = bytes s; kind = k }
+
+-- "Reserved are the words shown below, the operator words and both type names"
+unfoldable pub reserved : List Word
+reserved =
+    word "entity" ENTITY ∷ word "is" IS ∷ word "port" PORT ∷ word "end" END ∷ word "architecture" ARCHITECTURE ∷ word "of" OF ∷
+    word "begin" BEGIN ∷ word "process" PROCESS ∷ word "in" IN ∷ word "out" OUT ∷ word "variable" VARIABLE ∷ word "null" NULL ∷
+    word "wait" WAIT ∷ word "until" UNTIL ∷ word "if" IF ∷ word "then" THEN ∷ word "else" ELSE ∷ word "while" WHILE ∷ word "loop" LOOP ∷
+    word "and" AND ∷ word "or" OR ∷ word "xor" XOR ∷ word "not" NOT ∷ word "std_logic" STD-LOGIC ∷ word "integer" INTEGER ∷ []
+
+-- the kind of a word, by its folded number: that of its reserved word, else a name
+unfoldable pub wordKind : List Word → ℕ → ℕ
+wordKind [] v = NAME
+wordKind (w ∷ ws) v = let r = wordKind ws v in cond (eqb (folded 0 (w .bytes)) v) (w .kind) r
+
+pub record Fixed : Type 0 where
+  pub bytes : List ℕ
+  pub kind : ℕ
+  pub value : ℕ
+
+abbrev mark : String → ℕ → Fixed
+mark s k = record { bytes = bytes s; kind = k; value = 0 }
+
+abbrev bit : String → ℕ → ℕ → Fixed
+bit s k v = record { bytes = bytes s; kind = k; value = v }
+
+-- '0', '1' and the marks, "the longest taken first"
+unfoldable pub fixed : List Fixed
+fixed =
+    bit "'0'" ZERO 0 ∷ bit "'1'" ONE 1 ∷
+    mark ":=" BECOMES ∷ mark "/=" NE ∷ mark "<=" LE ∷ mark ">=" GE ∷
+    mark "(" LP ∷ mark ")" RP ∷ mark ";" SEMI ∷ mark ":" COLON ∷ mark "," COMMA ∷ mark "+" PLUS ∷ mark "-" MINUS ∷ mark "=" EQ ∷ mark "<" LT ∷ mark ">" GT ∷ []
+
+-- the byte after
+unfoldable pub peek : List ℕ → ℕ
+peek [] = 0
+peek (b ∷ l) = b
+
+-- "--": two of the byte 45
+unfoldable pub isDashes : ℕ → List ℕ → Bool
+isDashes b l = eqb b 45 && eqb (peek l) 45
