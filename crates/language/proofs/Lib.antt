@@ -3,3 +3,7 @@ pub mod Lexing
 pub mod LexExact
 pub mod TokenAt
 pub mod Folding
+pub mod Expressions
+pub mod Statements
+pub mod Elaborated
+pub mod Judged

@@ -1,0 +1,180 @@
+-- The verdict is exactly what is promised. Assumes nothing.
+use mathlib.Core.Path.{_≡_, refl, sym, _∙_, ap, subst}
+use mathlib.Core.Bool.{Bool, true, false, cond}
+use mathlib.Core.Logic.{_↔_}
+use mathlib.Core.Option.{Option, none, some}
+use mathlib.Core.List.{List, [], _∷_}
+use Prim.Native.Nat.{ℕ, zero, suc, _≤_, _<_, min}
+use native.Mathlib.Omega.{arith}
+use native.Mathlib.Decide.{decLe}
+use lib.Dec.{T, leb, leb→le, le→leb}
+use lib.ListN.{length}
+use Rattle.grammar.specs.Token.{Token}
+use Rattle.grammar.specs.Tree.{Text}
+use Rattle.grammar.specs.Grammar.{text}
+use Rattle.grammar.specs.Acceptance as P
+use Rattle.grammar.specs.Acceptance.{Answer, Exactly, Within}
+use Rattle.grammar.specs.Reader.{answer}
+use Rattle.grammar.proofs.Exact.{answers}
+use Rattle.language.specs.Lists.{least, lowest}
+use Rattle.design.specs.Process.{Process}
+use Rattle.language.specs.Lexer.{Lexed, tokens, lex}
+use Rattle.language.specs.Lexer as L
+use Rattle.language.specs.Rules.{Rule, table}
+use Rattle.language.specs.Elaboration.{Elaborates, elaborate}
+use Rattle.language.specs.Verdict.{Verdict, accepted, refused, judged, ruled, parsed, lexed, verdict}
+use Rattle.language.specs.Validity.{placeOf}
+use Rattle.language.specs.Validity.{In, Lowest, Free, First, Parses, Valid, Refuses}
+use Rattle.language.specs.Validity as Q
+use Rattle.language.proofs.Facts.{clash, no-cons, no-some, T-is, is-T}
+use Rattle.language.proofs.Elaborated.{Clean, elaborated, elaborated-only}
+use Rattle.language.proofs.LexExact.{lex-tokens, lex-stops}
+
+-- the lowest place
+least-low : (p : ℕ) (l : List ℕ) → (least p l ≤ p) × ((q : ℕ) → In q l → least p l ≤ q)
+unfolding least
+least-low p [] = (omega arith, λ q i. elim i [ ])
+least-low p (x ∷ l) = let h = least-low (min p x) l in (omega (arith, h .0), λ q i. go q i (h .0) (h .1))
+  where
+    go : (q : ℕ) → In q (x ∷ l) → least (min p x) l ≤ min p x → ((q : ℕ) → In q l → least (min p x) l ≤ q) → least (min p x) l ≤ q
+    go q Q.In.here a b = omega arith
+    go q (Q.In.there i) a b = b q i
+
+least-in : (p : ℕ) (l : List ℕ) → In (least p l) (p ∷ l)
+unfolding least
+least-in p [] = Q.In.here
+least-in p (x ∷ l) = go (least-in (min p x) l)
+  where
+    pick : (m : ℕ) → m ≡ min p x → In m (p ∷ (x ∷ l))
+    pick m e = at (decLe p x)
+      where
+        at : Dec (p ≤ x) → In m (p ∷ (x ∷ l))
+        at (yes h) = let z : m ≡ p = omega arith in rw z Q.In.here
+        at (no h) = let z : m ≡ x = omega arith in rw z (Q.In.there Q.In.here)
+
+    go : {m : ℕ} → In m (min p x ∷ l) → In m (p ∷ (x ∷ l))
+    go Q.In.here = pick (min p x) refl
+    go (Q.In.there i) = Q.In.there (Q.In.there i)
+
+pub lowest-is : (l : List ℕ) (p : ℕ) → lowest l ≡ some p → Lowest l p
+unfolding lowest
+lowest-is [] p e = no-some e
+lowest-is (x ∷ l) p e =
+    let z : least x l ≡ p = cc in
+    let h = least-low x l in
+    subst (Lowest (x ∷ l)) z (record { one = least-in x l; least = λ q i. go q i (h .0) (h .1) })
+  where
+    go : (q : ℕ) → In q (x ∷ l) → least x l ≤ x → ((q : ℕ) → In q l → least x l ≤ q) → least x l ≤ q
+    go q Q.In.here a b = a
+    go q (Q.In.there i) a b = b q i
+
+lowest-none : (l : List ℕ) → lowest l ≡ none → l ≡ []
+unfolding lowest
+lowest-none [] e = refl
+lowest-none (x ∷ l) e = no-some (sym e)
+
+is-lowest : (l : List ℕ) (p : ℕ) → Lowest l p → lowest l ≡ some p
+is-lowest l p h = go (lowest l) refl
+  where
+    nothing-in : {A : Type 0} → In p [] → A
+    nothing-in i = elim i [ ]
+
+    go : (o : Option ℕ) → lowest l ≡ o → o ≡ some p
+    go none e = nothing-in (subst (In p) (lowest-none l e) (h .one))
+    go (some q) e = let k = lowest-is l q e in ap some (let a = k .least p (h .one) in let b = h .least q (k .one) in omega arith)
+
+-- the rules
+ruled-free : (rs : List Rule) (t : Text) → Free rs t → ruled rs t ≡ accepted (elaborate t)
+unfolding ruled judged lowest
+ruled-free [] t f = refl
+ruled-free (r ∷ rs) t f = rw (f .0) (ruled-free rs t (f .1))
+
+ruled-first : (rs : List Rule) (t : Text) (n p : ℕ) → First t n p rs → ruled rs t ≡ refused n p
+unfolding ruled judged lowest
+ruled-first (r ∷ rs) t n p (Q.First.here e h) = rw (is-lowest (r .offences t) p h, e)
+ruled-first (r ∷ rs) t n p (Q.First.there e h) = rw e (ruled-first rs t n p h)
+
+abbrev RuledRight : List Rule → Text → Verdict → Type 0
+RuledRight rs t (accepted d) = Free rs t × (elaborate t ≡ d)
+RuledRight rs t (refused n p) = First t n p rs
+
+ruled-right : (rs : List Rule) (t : Text) → RuledRight rs t (ruled rs t)
+unfolding ruled judged
+ruled-right [] t = (tt, refl)
+ruled-right (r ∷ rs) t = go (lowest (r .offences t)) refl (ruled rs t) (ruled-right rs t)
+  where
+    go : (o : Option ℕ) → lowest (r .offences t) ≡ o → (v : Verdict) → RuledRight rs t v → RuledRight (r ∷ rs) t (judged (r .number) o v)
+    go none e (accepted d) h = ((lowest-none (r .offences t) e, h .0), h .1)
+    go none e (refused n p) h = Q.First.there (lowest-none (r .offences t) e) h
+    go (some q) e v h = Q.First.here refl (lowest-is (r .offences t) q e)
+
+clean : (t : Text) → Free table t → Clean t
+unfolding table
+clean t f = record { names = f .0; types = f .1 .0; values = f .1 .1 .0; clock = f .1 .1 .1 .0; loops = f .1 .1 .1 .1 .0 }
+
+-- all stages: what is computed is so
+abbrev Right : List ℕ → Verdict → Type 0
+Right b (accepted d) = Valid b d
+Right b (refused n p) = Refuses b n p
+
+parses : (b : List ℕ) (ts : List Token) (t : Text) → length b ≤ 16384 → lex b ≡ tokens ts → answer ts ≡ P.accepted t → Parses b t
+parses b ts t s l e = let x = answers ts (P.accepted t) .0 e in record { short = s; tokens = ts; lexes = lex-tokens b ts .0 l; marks = x .0; reads = x .1; within = x .2 }
+
+pub right : (b : List ℕ) → Right b (verdict b)
+unfolding verdict lexed parsed
+right b = size (leb (length b) 16384) refl
+  where
+    rules : (t : Text) → Parses b t → (v : Verdict) → RuledRight table t v → Right b v
+    rules t p (accepted d) h = record { tree = t; parses = p; free = h .0; means = subst (Elaborates t) (h .1) (elaborated t (clean t (h .0))) }
+    rules t p (refused n q) h = Q.offends p h
+
+    parse : length b ≤ 16384 → (ts : List Token) → lex b ≡ tokens ts → (a : Answer) → answer ts ≡ a → Right b (parsed (length b) ts a)
+    parse s ts l (P.accepted t) e = rules t (parses b ts t s l e) (ruled table t) (ruled-right table t)
+    parse s ts l (P.no-sentence k) e = Q.no-sentence ts s (lex-tokens b ts .0 l) (answers ts (P.no-sentence k) .0 e)
+    parse s ts l (P.past-limit k) e = Q.past-limit ts s (lex-tokens b ts .0 l) (answers ts (P.past-limit k) .0 e)
+
+    lexing : length b ≤ 16384 → (x : Lexed) → lex b ≡ x → Right b (lexed (length b) x)
+    lexing s (tokens ts) l = parse s ts l (answer ts) refl
+    lexing s (L.malformed p) l = Q.no-token s (lex-stops b p .0 l)
+
+    long : leb (length b) 16384 ≡ false → 16384 < length b
+    long e = at (decLe (length b) 16384)
+      where
+        at : Dec (length b ≤ 16384) → 16384 < length b
+        at (yes h) = clash (sym (T-is (leb (length b) 16384) (le→leb (length b) 16384 h)) ∙ e)
+        at (no h) = omega arith
+
+    size : (q : Bool) → leb (length b) 16384 ≡ q → Right b (verdict b)
+    size true e = rw e (lexing (leb→le (length b) 16384 (is-T e)) (lex b) refl)
+    size false e = rw e (Q.too-long (long e))
+
+-- what is so is computed
+parses-computed : (b : List ℕ) (t : Text) → Parses b t → verdict b ≡ ruled table t
+unfolding verdict lexed parsed
+parses-computed b t p =
+    let s = T-is (leb (length b) 16384) (le→leb (length b) 16384 (p .short)) in
+    let l = lex-tokens b (p .tokens) .1 (p .lexes) in
+    let a = answers (p .tokens) (P.accepted t) .1 (p .marks, p .reads, p .within) in
+    rw (s, l, a)
+
+valid-computed : (b : List ℕ) (d : Process) → Valid b d → verdict b ≡ accepted d
+valid-computed b d v = parses-computed b (v .tree) (v .parses) ∙ (ruled-free table (v .tree) (v .free) ∙ ap accepted (elaborated-only (v .tree) d (clean (v .tree) (v .free)) (v .means)))
+
+refuses-computed : (b : List ℕ) (n p : ℕ) → Refuses b n p → verdict b ≡ refused n p
+unfolding verdict lexed parsed
+refuses-computed b n p (Q.too-long h) = at (leb (length b) 16384) refl
+  where
+    at : (q : Bool) → leb (length b) 16384 ≡ q → verdict b ≡ refused 1 0
+    at true e = let k = leb→le (length b) 16384 (is-T e) in absurd (omega arith)
+    at false e = rw e
+refuses-computed b n p (Q.no-token s h) = rw (T-is (leb (length b) 16384) (le→leb (length b) 16384 s), lex-stops b p .1 h)
+refuses-computed b n p (Q.no-sentence {k} ts s l e) = rw (T-is (leb (length b) 16384) (le→leb (length b) 16384 s), lex-tokens b ts .1 l, answers ts (P.no-sentence k) .1 e)
+refuses-computed b n p (Q.past-limit {k} ts s l e) = rw (T-is (leb (length b) 16384) (le→leb (length b) 16384 s), lex-tokens b ts .1 l, answers ts (P.past-limit k) .1 e)
+refuses-computed b n p (Q.offends {t} q f) = parses-computed b t q ∙ ruled-first table t n p f
+
+-- THE THEOREMS
+pub accepts : (b : List ℕ) (d : Process) → (verdict b ≡ accepted d) ↔ Valid b d
+accepts b d = (λ e. subst (Right b) e (right b), valid-computed b d)
+
+pub refuses : (b : List ℕ) (n p : ℕ) → (verdict b ≡ refused n p) ↔ Refuses b n p
+refuses b n p = (λ e. subst (Right b) e (right b), refuses-computed b n p)
