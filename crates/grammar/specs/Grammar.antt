@@ -4,7 +4,7 @@ use Prim.Native.Nat.{ℕ}
 use mathlib.Core.List.{List, [], _∷_}
 use Rattle.grammar.specs.Token.{Token, NAME, NUMBER, ZERO, ONE, LP, RP, SEMI, COLON, COMMA, BECOMES, PLUS, MINUS, EQ, NE, LT, LE, GT, GE, AND, OR, XOR, NOT}
 use Rattle.grammar.specs.Token.{ENTITY, IS, PORT, END, ARCHITECTURE, OF, BEGIN, PROCESS, IN, OUT, VARIABLE, NULL, WAIT, UNTIL, IF, THEN, ELSE, WHILE, LOOP, STD-LOGIC, INTEGER}
-use Rattle.grammar.specs.Tree.{Expr, number, bit, name, sign, negate, binary, parens, Stmt, output, assign, null, wait, if-then, if-else, while, Body, only, andThen, Init, without, literal, minus, Mode, input, output-port, variable-mode, Group, Text}
+use Rattle.grammar.specs.Tree.{Expr, number, bit, name, sign, negate, binary, parens, Stmt, output, assign, null, wait, if-then, if-else, while, Body, only, andThen, Init, without, integer-literal, logic-literal, minus, Mode, input, output-port, variable-mode, Group, Text}
 
 -- the nonterminals
 pub data NonTerminal : Type 0 where
@@ -104,8 +104,8 @@ productions type = (tok STD-LOGIC ∷ [] ↠ λ x. x) ∷ (tok INTEGER ∷ [] �
 productions init = ([] ↠ without) ∷ (tok BECOMES ∷ nt value ∷ [] ↠ λ _ i. i) ∷ []
 -- "An initial value is a literal; a number may have -."
 productions value =
-    (tok NUMBER ∷ [] ↠ λ n. literal n) ∷ (tok MINUS ∷ tok NUMBER ∷ [] ↠ λ s n. minus s n) ∷
-    (tok ZERO ∷ [] ↠ λ x. literal x) ∷ (tok ONE ∷ [] ↠ λ x. literal x) ∷ []
+    (tok NUMBER ∷ [] ↠ λ n. integer-literal n) ∷ (tok MINUS ∷ tok NUMBER ∷ [] ↠ λ s n. minus s n) ∷
+    (tok ZERO ∷ [] ↠ λ x. logic-literal x) ∷ (tok ONE ∷ [] ↠ λ x. logic-literal x) ∷ []
 -- "A variable group is variable, names, :, type, perhaps := value, ;."
 productions vars =
     ([] ↠ []) ∷

@@ -1,11 +1,9 @@
 -- The limits of document 01 as counts on the tree of a text. Assumes nothing.
-use mathlib.Core.Bool.{cond}
 use mathlib.Core.List.{List, [], _∷_, _++_}
 use Prim.Native.Nat.{ℕ, zero, suc, _+_, _≤_, max}
 use lib.ListN.{length}
-use lib.Dec.{eqb}
-use Rattle.grammar.specs.Token.{Token, NUMBER}
-use Rattle.grammar.specs.Tree.{Expr, number, bit, name, sign, negate, binary, parens, Stmt, output, assign, null, wait, if-then, if-else, while, Body, only, andThen, Init, without, literal, minus, Mode, input, output-port, variable-mode, Group, Text}
+use Rattle.grammar.specs.Token.{Token}
+use Rattle.grammar.specs.Tree.{Expr, number, bit, name, sign, negate, binary, parens, Stmt, output, assign, null, wait, if-then, if-else, while, Body, only, andThen, Init, without, integer-literal, logic-literal, minus, Mode, input, output-port, variable-mode, Group, Text}
 
 -- P holds of each element
 abbrev pub Each : {A : Type 0} → (A → Type 0) → List A → Type 0
@@ -63,7 +61,8 @@ unfoldable mutual
 -- a number that is an initial value; '0' and '1' are no numbers
 unfoldable pub initNumbers : Init → List Token
 initNumbers without = []
-initNumbers (literal x) = cond (eqb (x .kind) NUMBER) (x ∷ []) []
+initNumbers (integer-literal x) = x ∷ []
+initNumbers (logic-literal x) = []
 initNumbers (minus s x) = x ∷ []
 
 -- how many names the groups of a mode declare

@@ -28,10 +28,11 @@ mutual
     only : Stmt → Body
     andThen : Stmt → Body → Body
 
--- an initial value: none, a literal, a number after -
+-- an initial value: none, a number, '0' or '1', a number after -
 pub data Init : Type 0 where
   without : Init
-  literal : Token → Init
+  integer-literal : Token → Init
+  logic-literal : Token → Init
   minus : Token → Token → Init
 
 -- `in`, `out`, or a variable

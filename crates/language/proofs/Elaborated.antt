@@ -18,7 +18,7 @@ use Rattle.language.specs.Typing.{types, typesOf, initialsOf}
 use Rattle.language.specs.Values.{values, firstAt, missing, valuesOf}
 use Rattle.language.specs.Clock.{clock, readsOf, strays, clockFor}
 use Rattle.language.specs.Classes.{loops, loopsOf, orWhole, isC, classes}
-use Rattle.language.specs.Elaboration.{Elaborates, Slots, nil, cons, Holds, Begins, literal, negative, initial, slot, processFor, elaborate, stmts}
+use Rattle.language.specs.Elaboration.{Elaborates, Slots, nil, cons, Holds, Begins, negative, initial, slot, processFor, elaborate, stmts}
 use Rattle.language.proofs.Facts.{clash, no-cons, both-nil, each-nil, unless-nil}
 use Rattle.language.proofs.Statements.{Unreads, Fair, doesAll, all-only, Classed, classed-all}
 
@@ -70,7 +70,8 @@ valued d = cond (isInput (d .mode)) [] (missing (d .name ∷ []) (d .init))
 missing-more : (x : Token) (xs : List Token) (i : Init) (y : Token) → missing (x ∷ xs) i ≡ [] → missing (y ∷ []) i ≡ []
 unfolding missing firstAt
 missing-more x xs T.without y e = no-cons e
-missing-more x xs (T.literal z) y e = refl
+missing-more x xs (T.integer-literal z) y e = refl
+missing-more x xs (T.logic-literal z) y e = refl
 missing-more x xs (T.minus s z) y e = refl
 
 valued-all : (g : Group) (ys : List Token) → ((y : Token) → cond (isInput (g .mode)) [] (missing (y ∷ []) (g .init)) ≡ []) → each valued (declare g ys) ≡ []
@@ -103,7 +104,8 @@ valued-groups (g ∷ gs) e =
 begins : (i : Init) (x : Token) → missing (x ∷ []) i ≡ [] → Begins i (initial i)
 unfolding missing firstAt initial
 begins T.without x e = no-cons e
-begins (T.literal y) x e = literal y
+begins (T.integer-literal y) x e = Begins.number y
+begins (T.logic-literal y) x e = Begins.bit y
 begins (T.minus s y) x e = negative s y
 
 slots : (p : Decl → Bool) → ((d : Decl) → p d ≡ true → isInput (d .mode) ≡ false) → (Δ : List Decl) → each valued Δ ≡ [] → Slots (filter p Δ) (map slot (filter p Δ))
@@ -151,7 +153,8 @@ elaborated t q =
 -- and to no other
 begins-only : {i : Init} {z : ℤ} → Begins i z → initial i ≡ z
 unfolding initial
-begins-only (literal x) = refl
+begins-only (Begins.number x) = refl
+begins-only (Begins.bit x) = refl
 begins-only (negative s x) = refl
 
 slot-only : (d : Decl) (s : Slot) → Holds d s → slot d ≡ s

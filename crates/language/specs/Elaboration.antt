@@ -56,9 +56,15 @@ unfoldable pub minus : ℕ → ℤ
 minus zero = pos zero
 minus (suc n) = negsuc n
 
+-- '0' and '1' as integers
+unfoldable pub bitValue : Bool → ℤ
+bitValue true = pos 1
+bitValue false = pos 0
+
 -- an initial value as an integer
 pub data Begins : Init → ℤ → Type 0 where
-  literal : (x : Token) → Begins (T.literal x) (pos (x .value))
+  number : (x : Token) → Begins (T.integer-literal x) (pos (x .value))
+  bit : (x : Token) → Begins (T.logic-literal x) (bitValue (eqb (x .value) 1))
   negative : (s x : Token) → Begins (T.minus s x) (minus (x .value))
 
 pub record Holds (d : Decl) (s : Slot) : Type 0 where
@@ -127,7 +133,8 @@ unfoldable mutual
 
 unfoldable pub initial : Init → ℤ
 initial T.without = pos zero
-initial (T.literal x) = pos (x .value)
+initial (T.integer-literal x) = pos (x .value)
+initial (T.logic-literal x) = bitValue (eqb (x .value) 1)
 initial (T.minus s x) = minus (x .value)
 
 unfoldable pub slot : Decl → Slot

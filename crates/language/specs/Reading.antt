@@ -73,7 +73,8 @@ unfoldable mutual
 
 unfoldable pub given : Init → Option ℤ
 given T.without = none
-given (T.literal x) = some (initial (T.literal x))
+given (T.integer-literal x) = some (initial (T.integer-literal x))
+given (T.logic-literal x) = some (initial (T.logic-literal x))
 given (T.minus s x) = some (initial (T.minus s x))
 
 unfoldable pub unlessInput : Mode → Option ℤ → Option ℤ

@@ -5,9 +5,9 @@ use mathlib.Core.Option.{Option, none, some}
 use mathlib.Core.List.{List, [], _∷_, _++_}
 use Prim.Native.Nat.{ℕ}
 use lib.Dec.{eqb}
-use Rattle.grammar.specs.Token.{Token, NUMBER, PLUS, MINUS, EQ, NE, LT, LE, GT, GE, AND, OR, XOR}
+use Rattle.grammar.specs.Token.{Token, PLUS, MINUS, EQ, NE, LT, LE, GT, GE, AND, OR, XOR}
 use Rattle.grammar.specs.Tree as T
-use Rattle.grammar.specs.Tree.{Expr, number, bit, name, sign, negate, binary, parens, Stmt, output, assign, null, wait, if-then, if-else, while, Init, without, literal, Group, Text}
+use Rattle.grammar.specs.Tree.{Expr, number, bit, name, sign, negate, binary, parens, Stmt, output, assign, null, wait, if-then, if-else, while, Init, without, integer-literal, logic-literal, Group, Text}
 use Rattle.design.specs.Types.{Ty, std-logic, integer, ExprTy, plain, boolean, sameTy, sameType}
 use Rattle.design.specs.Expression.{Binary, plus, minus, equal, unequal, less, at-most, greater, at-least, and, or, xor, sumType, logicalType, binaryType}
 use Rattle.language.specs.Lists.{unless, each}
@@ -82,7 +82,8 @@ typesOf Δ (while w e a) = typesIn Δ e ++ wants (some boolean) (typeOf Δ e) (w
 -- an initial value: a number is an integer, '0' and '1' are std_logics
 unfoldable pub initialOf : Ty → Init → List ℕ
 initialOf t without = []
-initialOf t (literal x) = unless (sameTy t (cond (eqb (x .kind) NUMBER) integer std-logic)) (x .place)
+initialOf t (integer-literal x) = unless (sameTy t integer) (x .place)
+initialOf t (logic-literal x) = unless (sameTy t std-logic) (x .place)
 initialOf t (T.minus s x) = unless (sameTy t integer) (s .place)
 
 -- "Initial values of inputs are ignored, their type included."

@@ -3,7 +3,7 @@ use mathlib.Core.Bool.{cond}
 use mathlib.Core.List.{List, [], _∷_}
 use Prim.Native.Nat.{ℕ}
 use Rattle.grammar.specs.Token.{Token}
-use Rattle.grammar.specs.Tree.{Init, without, literal, minus, Group, Text}
+use Rattle.grammar.specs.Tree.{Init, without, integer-literal, logic-literal, minus, Group, Text}
 use Rattle.language.specs.Lists.{each}
 use Rattle.language.specs.Declarations.{groups, isInput}
 
@@ -14,7 +14,8 @@ firstAt (x ∷ xs) = x .place ∷ []
 
 unfoldable pub missing : List Token → Init → List ℕ
 missing xs without = firstAt xs
-missing xs (literal x) = []
+missing xs (integer-literal x) = []
+missing xs (logic-literal x) = []
 missing xs (minus s x) = []
 
 -- an input group needs no value
