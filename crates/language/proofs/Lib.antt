@@ -7,3 +7,11 @@ pub mod Expressions
 pub mod Statements
 pub mod Elaborated
 pub mod Judged
+pub mod Computing
+pub mod Examples
+pub mod ExamplesTokens
+pub mod ExamplesGrammar
+pub mod ExamplesLimits
+pub mod ExamplesRules
+pub mod ExamplesTable
+pub mod ExamplesReadings
