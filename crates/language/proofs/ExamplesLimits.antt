@@ -1,13 +1,12 @@
--- Examples of refusal 4: each limit just inside and just outside. Assumes nothing.
+-- Examples of refusal 4: each limit just inside and just outside; 512 statements stand in the crate examples. Assumes nothing.
 use mathlib.Core.List.{List, [], _∷_, _++_}
 use Prim.Native.Nat.{ℕ, zero, suc}
 use Prim.Native.String.{String}
-use lib.ListN.{replicate}
 use Rattle.language.specs.Bytes.{bytes}
 use Rattle.language.proofs.Examples.{Example, accepts, refuses, refused-at, whole, stdPorts, stdVars, body, stmts, ports, vars}
 
 -- n copies
-abbrev times : ℕ → String → List ℕ
+abbrev pub times : ℕ → String → List ℕ
 times zero s = []
 times (suc n) s = bytes s ++ times n s
 
@@ -73,9 +72,6 @@ examples =
     -- "16 open parentheses": at once, not in all
     accepts (around (bytes "s := " ++ (times 16 "(" ++ (bytes "u" ++ (times 16 ")" ++ bytes " + (u);"))))) ∷
     refused-at 4 (around (bytes "s := " ++ (times 16 "(" ++ bytes "^((u;"))) "(" ∷
-    -- "512 statements": at the first token of the 513th
-    accepts (around (times 511 "null;")) ∷
-    refused-at 4 (whole stdPorts stdVars "process" (times 512 "null;" ++ bytes "^wait until clk = '1';")) "wait" ∷
     -- "3 first at one token": the token that passes a limit cannot stand there
     refused-at 3 (around (nested 16 (bytes "^2147483648;"))) "2147483648" ∷
     refused-at 3 (around (bytes "s := " ++ (times 16 "(" ++ bytes "u ^(u;"))) "(" ∷

@@ -1,17 +1,11 @@
--- Examples of refusals 1 and 2, and of what tokens are. Each refused text has its nearest accepted neighbour. Assumes nothing.
+-- Examples of refusal 2 and of what tokens are; those of refusal 1 stand in the crate examples. Each refused text has its nearest accepted neighbour. Assumes nothing.
 use mathlib.Core.List.{List, [], _∷_, _++_}
 use Prim.Native.Nat.{ℕ}
-use lib.ListN.{replicate}
 use Rattle.language.specs.Bytes.{bytes}
 use Rattle.language.proofs.Examples.{Example, accepts, refused-at, whole, stdPorts, stdVars, body, stmts, ports, vars}
 
 abbrev pub examples : List Example
 examples =
-    -- 1, "text too long": 16,385 spaces; 16,384 are no sentence. The token at place 0 is handed out where one starts there.
-    refused-at 1 (bytes "^" ++ replicate 16385 32) "" ∷
-    refused-at 3 (replicate 16384 32 ++ bytes "^") "" ∷
-    refused-at 1 (bytes "^entity" ++ replicate 16379 32) "entity" ∷
-    refused-at 3 (bytes "entity" ++ (replicate 16378 32 ++ bytes "^")) "" ∷
     -- 2, "malformed word": a doubled, a last underscore; one underscore inside a word is fine
     refused-at 2 (vars "variable ^a__b : integer := 0;") "" ∷
     refused-at 2 (vars "variable ^a_ : integer := 0;") "" ∷
