@@ -1,0 +1,12 @@
+pub mod Basic
+pub mod Overflow
+pub mod Names
+pub mod Values
+pub mod Results
+pub mod Wording
+pub mod Agreement
+pub mod Places
+pub mod Refusal
+pub mod Parametric
+pub mod Exact
+pub mod Automaton

@@ -1,0 +1,82 @@
+-- The value of an expression over an input row and the variables (document 01, "Types"). Values are integers of ℤ. Assumes nothing.
+use mathlib.Core.Bool.{Bool, true, false, cond, not, _&&_, _||_}
+use mathlib.Core.List.{List}
+use lib.ListN.{getD}
+use lib.IntN.{ℤ, pos, _+ℤ_, _-ℤ_, negℤ}
+use lib.Signed.{leZ, ltZ}
+use Rattle.design.specs.Types.{ExprTy, eqZ, inRange}
+use Rattle.design.specs.Expression.{Leaf, int, bit, input, variable, Unary, sign, invert, Binary, plus, minus, equal, unequal, less, at-most, greater, at-least, and, or, xor, Expr, leaf, unary, binary, Out, fine, fault, Algebra, fold}
+
+-- "std_logic (0, 1)"; a boolean is 0 where it is false, 1 where it is true
+abbrev pub bitOf : Bool → ℤ
+bitOf true = pos 1
+bitOf false = pos 0
+
+abbrev pub isOne : ℤ → Bool
+isOne z = eqZ z (pos 1)
+
+abbrev pub differ : Bool → Bool → Bool
+differ true b = not b
+differ false b = b
+
+-- the result of the sign -, of not
+unfoldable pub unaryResult : Unary → ℤ → ℤ
+unaryResult sign x = negℤ x
+unaryResult invert x = bitOf (not (isOne x))
+
+-- the result of + - = /= < <= > >= and or xor, for the left operand x and the right operand y
+unfoldable pub binaryResult : Binary → ℤ → ℤ → ℤ
+binaryResult plus x y = x +ℤ y
+binaryResult minus x y = x -ℤ y
+binaryResult equal x y = bitOf (eqZ x y)
+binaryResult unequal x y = bitOf (not (eqZ x y))
+binaryResult less x y = bitOf (ltZ x y)
+binaryResult at-most x y = bitOf (leZ x y)
+binaryResult greater x y = bitOf (ltZ y x)
+binaryResult at-least x y = bitOf (leZ y x)
+binaryResult and x y = bitOf (isOne x && isOne y)
+binaryResult or x y = bitOf (isOne x || isOne y)
+binaryResult xor x y = bitOf (differ (isOne x) (isOne y))
+
+-- 16: "result of `+`, `-` or sign outside integer"
+unfoldable pub asInteger : ℤ → Out ℤ
+asInteger z = cond (inRange z) (fine z) (fault 16)
+
+-- an operator applied to a value; t is the type of the operand
+unfoldable pub applyUnary : Unary → ExprTy → ℤ → Out ℤ
+applyUnary sign t x = asInteger (unaryResult sign x)
+applyUnary invert t x = fine (unaryResult invert x)
+
+-- an operator applied to two values; t is the type of the operands
+unfoldable pub applyBinary : Binary → ExprTy → ℤ → ℤ → Out ℤ
+applyBinary plus t x y = asInteger (binaryResult plus x y)
+applyBinary minus t x y = asInteger (binaryResult minus x y)
+applyBinary equal t x y = fine (binaryResult equal x y)
+applyBinary unequal t x y = fine (binaryResult unequal x y)
+applyBinary less t x y = fine (binaryResult less x y)
+applyBinary at-most t x y = fine (binaryResult at-most x y)
+applyBinary greater t x y = fine (binaryResult greater x y)
+applyBinary at-least t x y = fine (binaryResult at-least x y)
+applyBinary and t x y = fine (binaryResult and x y)
+applyBinary or t x y = fine (binaryResult or x y)
+applyBinary xor t x y = fine (binaryResult xor x y)
+
+-- "Inputs and variables may be read": i is the input row, v are the variables
+unfoldable pub leafValue : List ℤ → List ℤ → Leaf → ℤ
+leafValue i v (int z) = z
+leafValue i v (bit b) = bitOf b
+leafValue i v (input k) = getD i k (pos 0)
+leafValue i v (variable k) = getD v k (pos 0)
+
+abbrev pub values : List ℤ → List ℤ → Algebra ℤ
+values i v = record { ofLeaf = λ l. fine (leafValue i v l); ofUnary = applyUnary; ofBinary = applyBinary }
+
+-- "Both operands are always evaluated, left first": `fold` binds the left operand before the right
+unfoldable pub evaluate : Expr → List ℤ → List ℤ → Out ℤ
+evaluate e i v = fold (values i v) e
+
+-- the exact value over unbounded integers, without refusals
+unfoldable pub exactValue : Expr → List ℤ → List ℤ → ℤ
+exactValue (leaf l) i v = leafValue i v l
+exactValue (unary o t a) i v = unaryResult o (exactValue a i v)
+exactValue (binary o t a b) i v = binaryResult o (exactValue a i v) (exactValue b i v)

@@ -1,0 +1,11 @@
+pub mod Effects
+pub mod Published
+pub mod Denotation
+pub mod Automaton
+pub mod Evaluation
+pub mod Equations
+pub mod Rows
+pub mod Overflow
+pub mod Names
+pub mod Refusal
+pub mod Values

@@ -1,0 +1,73 @@
+-- Rows: what each call answers and what is kept after it (document 01, "Composed over rows, the equations read so"). Assumes nothing.
+use mathlib.Core.Bool.{Bool, true, false, cond, _&&_}
+use mathlib.Core.Option.{Option, none, some}
+use mathlib.Core.List.{List, [], _∷_}
+use Prim.Native.Nat.{ℕ, suc}
+use lib.ListN.{length}
+use lib.IntN.{ℤ}
+use lib.Dec.{eqb}
+use Rattle.design.specs.Types.{Ty, inType}
+use Rattle.design.specs.Process.{Source, Slot, Process, sourceTypes, initials}
+use Rattle.semantics.specs.Equations.{Memory, Run, Result, passed, reached, refused, Place, beginning, at, cycle}
+
+-- "They are fed .. per call, the input row and the output row's length"
+pub record Call : Type 0 where
+  pub inputs : List ℤ
+  pub room : ℕ
+
+-- "They keep place, outputs and variables"
+pub record Kept : Type 0 where
+  pub place : Place
+  pub memory : Memory
+
+-- ".. at first the beginning and the initial values"
+unfoldable pub atFirst : Process → Kept
+atFirst p = record { place = beginning; memory = record { outputs = initials (p .outputs); variables = initials (p .variables) } }
+
+-- the lowest index of a value that is not of its type, the first value having the index k
+unfoldable pub wrongValue : List Ty → List ℤ → ℕ → Option ℕ
+wrongValue [] l k = none
+wrongValue (t ∷ ts) [] k = none
+wrongValue (t ∷ ts) (z ∷ l) k = cond (inType t z) (wrongValue ts l (suc k)) (some k)
+
+-- 14: "input or output row not as long as its count; else input value", at "0; its index"; none where the call does not meet 14
+unfoldable pub rowRefusal : Process → Call → Option ℕ
+rowRefusal p c =
+    cond (eqb (length (c .inputs)) (length (p .inputs)) && eqb (c .room) (length (p .outputs)))
+    (wrongValue (sourceTypes (p .inputs)) (c .inputs) 0)
+    (some 0)
+
+-- A row is performed, with its output row and its way; refused by 14 at a place; or refused by 16 at a statement's number.
+pub data Outcome : Type 0 where
+  performed : (row : List ℤ) (way : List ℕ) → Outcome
+  row-refused : (place : ℕ) → Outcome
+  operator-refused : (line : ℕ) → Outcome
+
+-- the refusal's number and place as the table "Turned back" has them
+unfoldable pub refusal : Outcome → Option (ℕ × ℕ)
+refusal (performed row way) = none
+refusal (row-refused place) = some (14, place)
+refusal (operator-refused line) = some (16, line)
+
+-- "The wait reached becomes the place and ends the cycle; the output row gets all outputs"; "A refused operator (16) refuses the row ..;
+-- all that is kept is then as before the row." A cycle of an accepted text's process is never passed: see `cycle-ends`.
+unfoldable pub ended : Result → Kept → Outcome × Kept
+ended (passed σ) k = (performed (σ .memory .outputs) (σ .way), record { place = beginning; memory = σ .memory })
+ended (reached p σ) k = (performed (σ .memory .outputs) (σ .way), record { place = at p; memory = σ .memory })
+ended (refused q n) k = (operator-refused n, k)
+
+-- "A row that meets 14 is refused. Otherwise the data inputs .. hold it" and a cycle is performed
+unfoldable pub judged : Option ℕ → Process → Kept → Call → Outcome × Kept
+judged none p k c = ended (cycle (p .body) (k .place) (c .inputs) (record { way = []; memory = k .memory })) k
+judged (some x) p k c = (row-refused x, k)
+
+unfoldable pub row : Process → Kept → Call → Outcome × Kept
+row p k c = judged (rowRefusal p c) p k c
+
+-- "one claim about the whole list of cycle calls": the outcome of every call, with what is kept after it
+unfoldable pub rowsFrom : Process → Kept → List Call → List (Outcome × Kept)
+rowsFrom p k [] = []
+rowsFrom p k (c ∷ cs) = let r = row p k c in r ∷ rowsFrom p (r .1) cs
+
+unfoldable pub rows : Process → List Call → List (Outcome × Kept)
+rows p cs = rowsFrom p (atFirst p) cs

@@ -1,0 +1,25 @@
+-- Values of their types: of an expression's type, and lists of values beside lists of types. Assumes nothing.
+use mathlib.Core.Path.{_≡_}
+use mathlib.Core.Bool.{Bool, true}
+use mathlib.Core.List.{List, [], _∷_}
+use lib.IntN.{ℤ}
+use Rattle.design.specs.Types.{Ty, std-logic, ExprTy, plain, boolean, inType}
+use Rattle.design.specs.Process.{Source, Slot, Process, slotTypes}
+use Rattle.semantics.specs.Equations.{Memory}
+
+-- z is a value of an expression's type; a boolean is 0 or 1, as a std_logic is
+unfoldable pub ofType : ExprTy → ℤ → Bool
+ofType (plain t) z = inType t z
+ofType boolean z = inType std-logic z
+
+-- as many values as types, each of its type
+unfoldable pub Values : List Ty → List ℤ → Type 0
+Values [] [] = Unit {0}
+Values [] (z ∷ l) = ⊥
+Values (t ∷ ts) [] = ⊥
+Values (t ∷ ts) (z ∷ l) = (inType t z ≡ true) × Values ts l
+
+-- outputs and variables have the declared numbers and types
+pub record Sound (p : Process) (m : Memory) : Type 0 where
+  pub outputs : Values (slotTypes (p .outputs)) (m .outputs)
+  pub variables : Values (slotTypes (p .variables)) (m .variables)
