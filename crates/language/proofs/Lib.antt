@@ -7,3 +7,4 @@ pub mod Expressions
 pub mod Statements
 pub mod Elaborated
 pub mod Judged
+pub mod Answers
