@@ -8,3 +8,4 @@ pub mod Statements
 pub mod Elaborated
 pub mod Judged
 pub mod Answers
+pub mod Readings
