@@ -9,3 +9,5 @@ pub mod Elaborated
 pub mod Judged
 pub mod Answers
 pub mod Readings
+pub mod Modes
+pub mod Sizes

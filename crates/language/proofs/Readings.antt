@@ -3,7 +3,7 @@
 use mathlib.Core.Path.{_≡_, refl, sym, _∙_, ap}
 use mathlib.Core.Bool.{Bool, true, false, cond, not, _&&_}
 use mathlib.Core.Option.{Option, none, some, Option·map}
-use mathlib.Core.List.{List, [], _∷_, _++_, map, map-append, append-assoc}
+use mathlib.Core.List.{List, [], _∷_, _++_, map, map-append}
 use Prim.Native.Nat.{ℕ, zero, suc}
 use lib.Dec.{eqb}
 use lib.IntN.{ℤ, pos, negsuc}
@@ -21,7 +21,7 @@ use Rattle.language.specs.Typing.{operatorOf, resultOf, onOne, onTwo, ty
 use Rattle.language.specs.Elaboration.{position, nameCode, named, orBoolean, orPlus, code, stmt, stmts, minus, initial, source, slot, processFor, elaborate}
 use Rattle.language.specs.Reading.{ExprReading, StmtReading, BodyReading, DeclReading, Reading, readExpr, readStmt, readBody, given, unlessInput, readDecl, reading}
 use Rattle.language.specs.Reading as R
-use Rattle.language.proofs.Facts.{clash}
+use Rattle.language.proofs.Facts.{clash, spread-append}
 use Rattle.language.proofs.Elaborated.{output-no-input, variable-no-input}
 
 -- THE BARE TREE OF A READING
@@ -107,11 +107,6 @@ spread-bare : (l : List DeclReading) → spread (map bareGroup l) ≡ map bareDe
 unfolding spread declare bareGroup
 spread-bare [] = refl
 spread-bare (d ∷ l) = rw (type-same (d .type), spread-bare l)
-
-spread-append : (a b : List Group) → spread (a ++ b) ≡ spread a ++ spread b
-unfolding spread
-spread-append [] b = refl
-spread-append (g ∷ a) b = rw (spread-append a b) (sym (append-assoc (declare g (g .names)) (spread a) (spread b)))
 
 map-same : (l : List Decl) → map bareDecl (map readDecl l) ≡ map same l
 unfolding same
