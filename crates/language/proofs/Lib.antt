@@ -11,3 +11,5 @@ pub mod Answers
 pub mod Readings
 pub mod Modes
 pub mod Sizes
+pub mod WellTyped
+pub mod WellFormed
