@@ -7,11 +7,11 @@ use Prim.Native.Nat.{ℕ}
 use native.Mathlib.Omega.{arith}
 use Rattle.grammar.specs.Token.{Token}
 use Rattle.grammar.specs.Tree.{Text}
-use Rattle.grammar.specs.Grammar.{text, Mark}
+use Rattle.grammar.specs.Grammar.{text}
 use Rattle.grammar.specs.Derivation.{Reads}
 use Rattle.grammar.proofs.Exact as Grammar
 use Rattle.design.specs.Process.{Process}
-use Rattle.language.specs.Reading.{Reading, reading}
+use Rattle.language.specs.Reading.{reading}
 use Rattle.language.specs.Verdict.{Verdict, accepted, refused, verdict}
 use Rattle.language.specs.Validity.{Parses, Valid, Refuses}
 use Rattle.language.proofs.LexExact.{one-lexing}

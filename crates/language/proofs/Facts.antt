@@ -7,10 +7,9 @@ use mathlib.Core.List.{List, [], _∷_, _++_, append-assoc}
 use Prim.Native.Nat.{ℕ, zero, suc}
 use native.Mathlib.Omega.{arith}
 use lib.Dec.{T, eqb, eqb→eq, eqb-refl}
-use Rattle.grammar.specs.Tree.{Group}
 use Rattle.language.specs.Lists.{unless, each, filter}
 use Rattle.design.specs.Types.{Ty}
-use Rattle.language.specs.Declarations.{Decl, declare, spread, find, isA}
+use Rattle.language.specs.Declarations.{Decl, find, isA}
 use Rattle.language.specs.Names.{again, doubled}
 use Rattle.language.specs.Elaboration.{Kth, here, there, position}
 
@@ -60,11 +59,6 @@ not-true false e = refl
 pub and-true-both : (a b : Bool) → a && b ≡ true → (a ≡ true) × (b ≡ true)
 and-true-both true b e = (refl, e)
 and-true-both false b e = clash (sym e)
-
-pub spread-append : (a b : List Group) → spread (a ++ b) ≡ spread a ++ spread b
-unfolding spread
-spread-append [] b = refl
-spread-append (g ∷ a) b = rw (spread-append a b) (sym (append-assoc (declare g (g .names)) (spread a) (spread b)))
 
 -- what is found has the name
 pub find-name : (Δ : List Decl) (v : ℕ) (d : Decl) → find Δ v ≡ some d → d .name .value ≡ v

@@ -1,13 +1,13 @@
 -- In the tree of a derivation the ports are inputs and outputs and the variables are variables: a property of what each nonterminal says, kept by
 -- every production. Assumes nothing.
 use mathlib.Core.Path.{_≡_, refl, subst}
-use mathlib.Core.Bool.{Bool, true, false}
+use mathlib.Core.Bool.{true, false}
 use mathlib.Core.List.{List, [], _∷_}
 use Rattle.grammar.specs.Token.{Token}
-use Rattle.grammar.specs.Tree.{Mode, Group, Text}
+use Rattle.grammar.specs.Tree.{Group, Text}
 use Rattle.grammar.specs.Grammar.{NonTerminal, text, ports, morePorts, port, names, moreNames, mode, type, init, value, vars, body, more, statement, target, else-part, expression, chain, ands, ors, xors, relation, compared, simple, terms, factor, primary}
 use Rattle.grammar.specs.Grammar.{Says, Mark, Sym, tk, nt, Fun, Production, productions, textProduction}
-use Rattle.grammar.specs.Derivation.{_∈_, here, there, Tree, by, Trees, empty, token, child, span, mark, says, saysAll, Reads}
+use Rattle.grammar.specs.Derivation.{_∈_, here, there, Tree, by, Trees, empty, token, child, says, saysAll, Reads}
 use Rattle.grammar.specs.Limits.{Each}
 use Rattle.language.specs.Declarations.{isVariable}
 

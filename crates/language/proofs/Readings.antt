@@ -3,26 +3,26 @@
 use mathlib.Core.Path.{_≡_, refl, sym, _∙_, ap}
 use mathlib.Core.Bool.{Bool, true, false, cond, not, _&&_}
 use mathlib.Core.Option.{Option, none, some, Option·map}
-use mathlib.Core.List.{List, [], _∷_, _++_, map, map-append}
-use Prim.Native.Nat.{ℕ, zero, suc}
+use mathlib.Core.List.{List, [], _∷_, _++_, map, map-append, append-assoc}
+use Prim.Native.Nat.{ℕ, suc}
 use lib.Dec.{eqb}
 use lib.IntN.{ℤ, pos, negsuc}
 use Rattle.grammar.specs.Token.{Token, INTEGER, STD-LOGIC}
 use Rattle.grammar.specs.Tree as T
 use Rattle.grammar.specs.Tree.{Body, Init, Mode, Group, Text}
-use Rattle.design.specs.Types.{Ty, std-logic, integer, ExprTy, plain}
-use Rattle.design.specs.Expression as E
+use Rattle.design.specs.Types.{Ty, std-logic, integer}
 use Rattle.design.specs.Expression.{sumType, logicalType}
-use Rattle.design.specs.Statement as D
-use Rattle.design.specs.Process.{Source, Slot, Process}
+use Rattle.design.specs.Process.{Source, Process}
 use Rattle.language.specs.Lists.{filter}
-use Rattle.language.specs.Declarations.{Decl, Scope, typeNamed, declare, spread, groups, declared, isInput, isOutput, isVariable, find, typeIn, within, statements, orElse, waitName, firstWait, clockOf, isClock, isData, scopeFor, scopeOf}
-use Rattle.language.specs.Typing.{operatorOf, resultOf, onOne, onTwo, typeOf}
-use Rattle.language.specs.Elaboration.{position, nameCode, named, orBoolean, orPlus, code, stmt, stmts, minus, initial, source, slot, processFor, elaborate}
+use Rattle.language.specs.Declarations.{Decl, typeNamed, declare, spread, groups, declared, isInput, isOutput, isVariable, find, typeIn, within, statements, orElse, waitName, firstWait, clockOf, isClock, isData, scopeFor, scopeOf}
+use Rattle.language.specs.Typing.{onOne, typeOf}
+use Rattle.language.specs.Elaboration.{position, nameCode, named, code, stmt, stmts, minus, initial, source, slot, processFor, elaborate}
 use Rattle.language.specs.Reading.{ExprReading, StmtReading, BodyReading, DeclReading, Reading, readExpr, readStmt, readBody, given, unlessInput, readDecl, reading}
 use Rattle.language.specs.Reading as R
-use Rattle.language.proofs.Facts.{clash, spread-append}
-use Rattle.language.proofs.Elaborated.{output-no-input, variable-no-input}
+use Rattle.language.specs.Validity.{Valid}
+use Rattle.language.proofs.Facts.{clash}
+use Rattle.language.proofs.Elaborated.{output-no-input, variable-no-input, elaborated-only}
+use Rattle.language.proofs.Judged.{clean}
 
 -- THE BARE TREE OF A READING
 
@@ -103,10 +103,16 @@ unfolding typeNamed bareType
 type-same std-logic = refl
 type-same integer = refl
 
+-- the declarations of the bare tree
 spread-bare : (l : List DeclReading) → spread (map bareGroup l) ≡ map bareDecl l
 unfolding spread declare bareGroup
 spread-bare [] = refl
 spread-bare (d ∷ l) = rw (type-same (d .type), spread-bare l)
+
+spread-append : (a b : List Group) → spread (a ++ b) ≡ spread a ++ spread b
+unfolding spread
+spread-append [] b = refl
+spread-append (g ∷ a) b = rw (spread-append a b) (sym (append-assoc (declare g (g .names)) (spread a) (spread b)))
 
 map-same : (l : List Decl) → map bareDecl (map readDecl l) ≡ map same l
 unfolding same
@@ -124,6 +130,7 @@ declared-bare t = rw (
   spread-append (t .ports) (t .vars),
 ) (sym (map-append same (spread (t .ports)) (spread (t .vars))))
 
+-- initial values, but for those of inputs
 initial-some : (z : ℤ) → initial (bareInit (some z)) ≡ z
 unfolding initial bareInit minus
 initial-some (pos n) = refl
@@ -145,6 +152,7 @@ slot-same d h = ap (λ (z : ℤ). record { name = d .name .value; type = d .type
     go T.output-port q = initial-same (d .init)
     go T.variable-mode q = initial-same (d .init)
 
+-- lists of declarations, what is found in them, and positions
 filter-same : (p q : Decl → Bool) → ((d : Decl) → q (same d) ≡ p d) → (Δ : List Decl) → filter q (map same Δ) ≡ map same (filter p Δ)
 unfolding filter
 filter-same p q h [] = refl
@@ -173,7 +181,8 @@ unfolding source same readDecl
 sources-same [] = refl
 sources-same (d ∷ l) = ap (λ (r : List Source). source d ∷ r) (sources-same l)
 
-slots-same : (p : Decl → Bool) → ((d : Decl) → p d ≡ true → isInput (d .mode) ≡ false) → (Δ : List Decl) → map slot (map same (filter p Δ)) ≡ map slot (filter p Δ)
+slots-same : (p : Decl → Bool) → ((d : Decl) → p d ≡ true → isInput (d .mode) ≡ false) → (Δ : List Decl)
+    → map slot (map same (filter p Δ)) ≡ map slot (filter p Δ)
 unfolding filter
 slots-same p h [] = refl
 slots-same p h (d ∷ Δ) = go (p d) refl (slots-same p h Δ)
@@ -190,6 +199,7 @@ unfolding typeIn same readDecl
 typeIn-same none = refl
 typeIn-same (some d) = refl
 
+-- the type of an expression depends on its reading and on those of the declarations
 typeOf-same : (Δ : List Decl) (e : T.Expr) → typeOf (map same Δ) (bareExpr (readExpr e)) ≡ typeOf Δ e
 unfolding typeOf readExpr bareExpr
 typeOf-same Δ (T.number x) = refl
@@ -284,6 +294,7 @@ bare s = bareStmt (readStmt s)
 abbrev bareName : Token → Token
 bareName x = valued (x .value)
 
+-- the statements of the bare tree, its first wait and its clock
 mutual
   unfolding within statements readStmt readBody bareStmt bareBody
 
@@ -329,10 +340,17 @@ clock-bare t v = rw (statements-bare (t .body), firstWait-bare (statements (t .b
 
 -- THE THEOREMS
 
+-- the process of a text is the process of its reading
 pub elaborate-reading : (t : Text) → elaborate t ≡ processOf (reading t)
 unfolding processOf elaborate scopeOf bareText reading
 elaborate-reading t = sym (rw (declared-bare t) (process-same (declared t) (clockOf t) (clockOf (bareText (reading t))) (clock-bare t) (t .body)))
 
--- texts with one reading mean one process
+-- trees with one reading have one process
 pub same-design : (t u : Text) → reading t ≡ reading u → elaborate t ≡ elaborate u
 same-design t u e = elaborate-reading t ∙ (ap processOf e ∙ sym (elaborate-reading u))
+
+-- and valid texts with one reading mean one process
+pub valid-same : {b c : List ℕ} {d e : Process} (v : Valid b d) (w : Valid c e) → reading (v .tree) ≡ reading (w .tree) → d ≡ e
+valid-same {b} {c} {d} {e} v w r =
+    sym (elaborated-only (v .tree) d (clean (v .tree) (v .free)) (v .means))
+    ∙ (same-design (v .tree) (w .tree) r ∙ elaborated-only (w .tree) e (clean (w .tree) (w .free)) (w .means))

@@ -5,7 +5,7 @@ use mathlib.Core.Bool.{Bool, true, false, cond, not, _&&_}
 use mathlib.Core.Logic.{_⊎_, inl, inr}
 use mathlib.Core.Option.{Option, none, some}
 use mathlib.Core.List.{List, [], _∷_, _++_}
-use Prim.Native.Nat.{ℕ, zero, suc, _+_, _≤_, _<_}
+use Prim.Native.Nat.{ℕ, suc, _+_, _≤_, _<_}
 use native.Mathlib.Omega.{arith}
 use lib.Dec.{eqb}
 use lib.ListN.{length, length-append}
@@ -19,7 +19,7 @@ use Rattle.language.specs.Declarations.{Decl, Scope, declare, spread, gr
 use Rattle.language.specs.Clock.{clock, clockFor, readsOf, strays}
 use Rattle.language.specs.Classes.{class, classes}
 use Rattle.language.specs.Elaboration.{stmt, stmts}
-use Rattle.language.proofs.Facts.{clash, no-some, both-nil, unless-nil, and-true-both, spread-append, find-name, eq-eqb}
+use Rattle.language.proofs.Facts.{clash, no-some, both-nil, unless-nil, and-true-both}
 use Rattle.language.proofs.Statements.{pair-some, looped-some, isA-some}
 use Rattle.language.proofs.Modes.{Moded}
 
@@ -35,6 +35,7 @@ unfolding countOf
 countOf-append p [] b = omega arith
 countOf-append p (g ∷ a) b = let h = countOf-append p a b in omega arith
 
+-- a declaration whose mode passes the test
 abbrev by : (Mode → Bool) → Decl → Bool
 by p d = p (d .mode)
 
@@ -47,6 +48,7 @@ filter-append p (d ∷ a) b = rw (filter-append p a b) (go (p d))
     go true = refl
     go false = refl
 
+-- the filtered declarations are as many as the names of the groups of that mode
 count-declare : (p : Mode → Bool) (g : Group) (xs : List Token) → length (filter (by p) (declare g xs)) ≡ cond (p (g .mode)) (length xs) 0
 unfolding filter declare
 count-declare p g [] = go (p (g .mode)) 0
@@ -64,12 +66,14 @@ count-spread : (p : Mode → Bool) (gs : List Group) → length (filter (by p) (
 unfolding filter spread countOf
 count-spread p [] = refl
 count-spread p (g ∷ gs) =
-    rw (filter-append (by p) (declare g (g .names)) (spread gs), length-append (filter (by p) (declare g (g .names))) (filter (by p) (spread gs)), count-declare p g (g .names), count-spread p gs)
+    rw (filter-append (by p) (declare g (g .names)) (spread gs), length-append (filter (by p) (declare g (g .names))) (filter (by p) (spread gs)))
+    (rw (count-declare p g (g .names), count-spread p gs))
 
 count-declared : (p : Mode → Bool) (t : Text) → length (filter (by p) (declared t)) ≡ countOf p (t .ports) + countOf p (t .vars)
 unfolding declared groups
 count-declared p t = count-spread p (t .ports ++ t .vars) ∙ countOf-append p (t .ports) (t .vars)
 
+-- the counts of the limits are such counts
 inputs-counted : (gs : List Group) → countOf isInput gs ≡ inputCount gs
 unfolding countOf inputCount ifInput isInput
 inputs-counted [] = refl
@@ -95,6 +99,7 @@ unfolding countOf nameCount
 variables-counted [] h = refl
 variables-counted (g ∷ gs) h = rw (h .0, variables-counted gs (h .1))
 
+-- groups of other modes count nothing
 ports-no-variables : (gs : List Group) → Each (λ (g : Group). isVariable (g .mode) ≡ false) gs → countOf isVariable gs ≡ 0
 unfolding countOf
 ports-no-variables [] h = refl
@@ -142,6 +147,7 @@ record HasWait (l : List T.Stmt) : Type 0 where
   name : Token
   first : firstWait l ≡ some name
 
+-- and so has a longer one
 wait-left : (a b : List T.Stmt) → HasWait a → HasWait (a ++ b)
 unfolding firstWait orElse
 wait-left [] b w = no-some (w .first)
@@ -160,7 +166,7 @@ wait-right (s ∷ a) b w = go (waitName s) refl (wait-right a b w)
     go none e r = record { name = r .name; first = rw e (r .first) }
     go (some x) e r = record { name = x; first = rw e }
 
--- C comes from a C
+-- a sequence or an if of class C has a part of class C
 seq-C : (x y : Class) → seqClass x y ≡ C → (x ≡ C) ⊎ (y ≡ C)
 unfolding seqClass
 seq-C A A e = inl e
@@ -185,6 +191,7 @@ if-C C A e = cc
 if-C C B e = e
 if-C C C e = refl
 
+-- A is not C
 none-C : {X : Type 0} {k : Class} → k ≡ A → k ≡ C → X
 none-C e f = absurd (let z : _≡_ {A = ℕ} 0 1 = cc in omega arith)
 
@@ -212,7 +219,8 @@ mutual
       let p = pair-some seqClass (class s) (classes b) C h in
       go (p .0) (p .1) (p .2) (p .3) (seq-C (p .0) (p .1) (p .4)) (λ k. waits s k) (λ k. waits-all b k)
     where
-      go : (x y : Class) → class s ≡ some x → classes b ≡ some y → (x ≡ C) ⊎ (y ≡ C) → (class s ≡ some C → HasWait (within s)) → (classes b ≡ some C → HasWait (statements b)) → HasWait (within s ++ statements b)
+      go : (x y : Class) → class s ≡ some x → classes b ≡ some y → (x ≡ C) ⊎ (y ≡ C) → (class s ≡ some C → HasWait (within s))
+          → (classes b ≡ some C → HasWait (statements b)) → HasWait (within s ++ statements b)
       go x y k l (inl e) f g = wait-left (within s) (statements b) (f (k ∙ ap some e))
       go x y k l (inr e) f g = wait-right (within s) (statements b) (g (l ∙ ap some e))
 
@@ -236,13 +244,16 @@ data-inputs c (d ∷ Δ) = go (isInput (d .mode)) (isClock c (d .name .value)) (
     go false q k l h = h
 
 -- and the clock is an input that is none of them
-data-inputs-fewer : (x : Token) (Δ : List Decl) (c : Decl) → find Δ (x .value) ≡ some c → isInput (c .mode) ≡ true → length (filter (isData (some x)) Δ) < length (filter (by isInput) Δ)
+data-inputs-fewer : (x : Token) (Δ : List Decl) (c : Decl) → find Δ (x .value) ≡ some c → isInput (c .mode) ≡ true
+    → length (filter (isData (some x)) Δ) < length (filter (by isInput) Δ)
 unfolding filter isData find isClock
 data-inputs-fewer x [] c e h = no-some e
 data-inputs-fewer x (d ∷ Δ) c e h =
-    go (eqb (d .name .value) (x .value)) refl (isInput (d .mode)) refl (filter (isData (some x)) Δ) (filter (by isInput) Δ) (data-inputs (some x) Δ) (λ f. data-inputs-fewer x Δ c f h)
+    go (eqb (d .name .value) (x .value)) refl (isInput (d .mode)) refl
+    (filter (isData (some x)) Δ) (filter (by isInput) Δ) (data-inputs (some x) Δ) (λ f. data-inputs-fewer x Δ c f h)
   where
-    go : (q : Bool) → eqb (d .name .value) (x .value) ≡ q → (p : Bool) → isInput (d .mode) ≡ p → (k l : List Decl) → length k ≤ length l → (find Δ (x .value) ≡ some c → length k < length l)
+    go : (q : Bool) → eqb (d .name .value) (x .value) ≡ q → (p : Bool) → isInput (d .mode) ≡ p → (k l : List Decl) → length k ≤ length l
+        → (find Δ (x .value) ≡ some c → length k < length l)
         → length (cond (p && not q) (d ∷ k) k) < length (cond p (d ∷ l) l)
     go true f true g k l a b = omega arith
     go true f false g k l a b = let z : some d ≡ some c = rw f at e in let y : d ≡ c = cc in clash (sym h ∙ (ap (λ (u : Decl). isInput (u .mode)) (sym y) ∙ g))
@@ -250,7 +261,8 @@ data-inputs-fewer x (d ∷ Δ) c e h =
     go false f false g k l a b = b (rw f at e)
 
 -- a text without offences of 8 whose body is of class C has fewer data inputs than inputs
-pub data-count : (t : Text) → clock t ≡ [] → classes (t .body) ≡ some C → length (filter (isData (clockOf t)) (declared t)) < length (filter (by isInput) (declared t))
+pub data-count : (t : Text) → clock t ≡ [] → classes (t .body) ≡ some C
+    → length (filter (isData (clockOf t)) (declared t)) < length (filter (by isInput) (declared t))
 unfolding clock clockOf clockLike
 data-count t k h =
     let w = waits-all (t .body) h in
@@ -260,6 +272,7 @@ data-count t k h =
 
 -- STATEMENTS
 
+-- how many numbers the computed statement takes
 mutual
   unfolding size stmt stmts stmtCount bodyCount
 
@@ -276,6 +289,7 @@ mutual
   size-stmts Δ Γ (T.only s) = size-stmt Δ Γ s
   size-stmts Δ Γ (T.andThen s b) = rw (size-stmt Δ Γ s, size-stmts Δ Γ b)
 
+-- how many statements the list of all has
 mutual
   unfolding within statements stmtCount bodyCount
 

@@ -1,24 +1,24 @@
 -- The process of a text within the limits is well typed: what an expression of the tree means has, by the design's own rules, the type that the tree
 -- gives it and as many items, and initial values are of their types. By induction on the meaning (Means, Does) and on the groups. Assumes nothing.
-use mathlib.Core.Path.{_≡_, refl, sym, _∙_, ap, subst}
-use mathlib.Core.Bool.{Bool, true, false, cond, _&&_, _||_}
-use mathlib.Core.Option.{Option, none, some}
+use mathlib.Core.Path.{_≡_, refl, _∙_, ap}
+use mathlib.Core.Bool.{Bool, true, false, cond}
+use mathlib.Core.Option.{Option, some}
 use mathlib.Core.List.{List, [], _∷_, _++_, map}
-use Prim.Native.Nat.{ℕ, zero, suc, _+_, _≤_}
+use Prim.Native.Nat.{ℕ, zero, suc, _≤_}
 use native.Mathlib.Omega.{arith}
-use lib.Dec.{T, eqb, leb, le→leb}
-use lib.IntN.{ℤ, pos, negsuc}
+use lib.Dec.{eqb, leb, le→leb}
+use lib.IntN.{pos}
 use Rattle.grammar.specs.Token.{Token}
 use Rattle.grammar.specs.Tree as G
 use Rattle.grammar.specs.Tree.{Body, Init, Group}
 use Rattle.grammar.specs.Limits.{Each, exprNumbers, exprsNumbers, initNumbers, groupNumbers, stmtExprs, bodyExprs, itemCount}
-use Rattle.design.specs.Types.{Ty, std-logic, integer, ExprTy, plain, boolean, sameTy, sameType, inRange, inType}
-use Rattle.design.specs.Expression.{Expr, Binary, items, nth, plainly, leafType, given, given2, typeOf, unaryType, binaryType}
+use Rattle.design.specs.Types.{Ty, std-logic, integer, ExprTy, sameTy, inRange, inType}
+use Rattle.design.specs.Expression.{Expr, items, nth, plainly, leafType, given, given2, typeOf, unaryType, binaryType}
 use Rattle.design.specs.Expression as E
 use Rattle.design.specs.Statement as D
-use Rattle.design.specs.Process.{Slot, sourceTypes, slotTypes, isType, fits, typedAct, typed, Initialised}
+use Rattle.design.specs.Process.{sourceTypes, slotTypes, isType, fits, typedAct, typed, Initialised}
 use Rattle.design.proofs.Types.{sameTy-eq, sameType-refl}
-use Rattle.language.specs.Lists.{unless, each, filter}
+use Rattle.language.specs.Lists.{each, filter}
 use Rattle.language.specs.Declarations.{Decl, Scope, typeNamed, declare, spread, isInput}
 use Rattle.language.specs.Typing.{initialOf, initialsOf}
 use Rattle.language.specs.Values.{firstAt, missing, valuesOf}
@@ -32,6 +32,7 @@ use Rattle.language.proofs.Facts.{no-cons, both-nil, unless-nil, T-is}
 abbrev pub Small : Token → Type 0
 Small x = x .value ≤ 2147483647
 
+-- a number within the limit, and its negative, are integers
 number-fits : (n : ℕ) → n ≤ 2147483647 → inRange (pos n) ≡ true
 unfolding inRange
 number-fits n h = T-is (leb n 2147483647) (le→leb n 2147483647 h)
@@ -41,30 +42,39 @@ unfolding minus inRange
 minus-fits zero h = refl
 minus-fits (suc n) h = rw (T-is (leb n 2147483647) (le→leb n 2147483647 (omega arith)))
 
-pub each-both : {X : Type 0} (P : X → Type 0) (a b : List X) → Each P (a ++ b) → Each P a × Each P b
-each-both P [] b h = (tt, h)
-each-both P (x ∷ a) b h = let s = each-both P a b (h .1) in ((h .0, s .0), s .1)
+-- what holds of all of a joined list holds of all of its parts, and conversely
+pub each-split : {X : Type 0} (P : X → Type 0) (a b : List X) → Each P (a ++ b) → Each P a × Each P b
+each-split P [] b h = (tt, h)
+each-split P (x ∷ a) b h = let s = each-split P a b (h .1) in ((h .0, s .0), s .1)
+
+pub each-join : {X : Type 0} (P : X → Type 0) (a b : List X) → Each P a → Each P b → Each P (a ++ b)
+each-join P [] b h k = k
+each-join P (x ∷ a) b h k = (h .0, each-join P a b (h .1) k)
 
 -- an expression within the limits on items and literals
 pub record Bounded (e : G.Expr) : Type 0 where
   pub items : itemCount e ≤ 64
   pub literals : Each Small (exprNumbers e)
 
+-- from the limits on a text's expressions and literals
 pub bounded : (es : List G.Expr) → Each (λ (e : G.Expr). itemCount e ≤ 64) es → Each Small (exprsNumbers es) → Each Bounded es
 unfolding exprsNumbers
 bounded [] i n = tt
-bounded (e ∷ es) i n = let s = each-both Small (exprNumbers e) (exprsNumbers es) n in (record { items = i .0; literals = s .0 }, bounded es (i .1) (s .1))
+bounded (e ∷ es) i n = let s = each-split Small (exprNumbers e) (exprsNumbers es) n in (record { items = i .0; literals = s .0 }, bounded es (i .1) (s .1))
 
 -- EXPRESSIONS
 
+-- the types of declarations, in declared order
 abbrev types : List Decl → List Ty
 types ds = map (λ (d : Decl). d .type) ds
 
+-- the k-th of a list of declarations has the k-th type
 nth-kth : {ds : List Decl} {v k : ℕ} {t : Ty} → Kth ds v k t → nth (types ds) k ≡ some t
 unfolding nth
 nth-kth (here e) = refl
 nth-kth (there h) = nth-kth h
 
+-- operators whose operands have their type
 given-same : (f : ExprTy → Option ExprTy) (t : ExprTy) (o : Option ExprTy) → o ≡ some t → given f t o ≡ f t
 unfolding given
 given-same f t o e = rw (e, sameType-refl t)
@@ -74,6 +84,7 @@ unfolding given2
 given2-same f t o q e g = rw (e, sameType-refl t) (given-same f t q g)
 
 module _ (Γ : Scope) where
+  -- the design's type of what an expression means is the tree's
   has-type : {e : G.Expr} {c : Expr} {t : ExprTy} → Means Γ e c t → Each Small (exprNumbers e) → typeOf (types (Γ .inputs)) (types (Γ .variables)) c ≡ some t
   unfolding exprNumbers typeOf leafType plainly unaryType
   has-type (L.Means.number x) h = rw (number-fits (x .value) (h .0))
@@ -83,10 +94,12 @@ module _ (Γ : Scope) where
   has-type (L.Means.sign {c} {t} x e m) h = given-same (unaryType E.sign) t (typeOf (types (Γ .inputs)) (types (Γ .variables)) c) (has-type m h) ∙ e
   has-type (L.Means.invert {c} {t} x e m) h = given-same (unaryType E.invert) t (typeOf (types (Γ .inputs)) (types (Γ .variables)) c) (has-type m h) ∙ e
   has-type (L.Means.binary {a} {b} {c} {d} {o} {t} x f e m n) h =
-      let s = each-both Small (exprNumbers a) (exprNumbers b) h in
-      given2-same (binaryType o) t (typeOf (types (Γ .inputs)) (types (Γ .variables)) c) (typeOf (types (Γ .inputs)) (types (Γ .variables)) d) (has-type m (s .0)) (has-type n (s .1)) ∙ e
+      let s = each-split Small (exprNumbers a) (exprNumbers b) h in
+      given2-same (binaryType o) t (typeOf (types (Γ .inputs)) (types (Γ .variables)) c) (typeOf (types (Γ .inputs)) (types (Γ .variables)) d)
+      (has-type m (s .0)) (has-type n (s .1)) ∙ e
   has-type (L.Means.parens m) h = has-type m h
 
+  -- and it has as many items
   items-means : {e : G.Expr} {c : Expr} {t : ExprTy} → Means Γ e c t → items c ≡ itemCount e
   unfolding items itemCount
   items-means (L.Means.number x) = refl
@@ -98,6 +111,7 @@ module _ (Γ : Scope) where
   items-means (L.Means.binary x f e m n) = rw (items-means m, items-means n)
   items-means (L.Means.parens m) = items-means m
 
+  -- so it fits where that type is needed
   fits-means : {e : G.Expr} {c : Expr} {t : ExprTy} → Means Γ e c t → Bounded e → fits (types (Γ .inputs)) (types (Γ .variables)) c (some t) ≡ true
   unfolding fits isType
   fits-means {e} {c} {t} m b =
@@ -107,26 +121,30 @@ module _ (Γ : Scope) where
 
   -- STATEMENTS
 
+  -- every target and condition fits
   mutual
     unfolding stmtExprs bodyExprs typed typedAct plainly
 
-    does-typed : {s : G.Stmt} {r : D.Stmt} → Does Γ s r → Each Bounded (stmtExprs s) → typed (types (Γ .inputs)) (types (Γ .outputs)) (types (Γ .variables)) r ≡ true
+    does-typed : {s : G.Stmt} {r : D.Stmt} → Does Γ s r → Each Bounded (stmtExprs s)
+        → typed (types (Γ .inputs)) (types (Γ .outputs)) (types (Γ .variables)) r ≡ true
     does-typed (L.Does.output x k m) h = rw (nth-kth k) (fits-means m (h .0))
     does-typed (L.Does.assign x k m) h = rw (nth-kth k) (fits-means m (h .0))
     does-typed L.Does.null h = refl
     does-typed (L.Does.wait x) h = refl
     does-typed (L.Does.if-then x m a) h = rw (fits-means m (h .0)) (all-typed a (h .1))
     does-typed (L.Does.if-else {a} {b} x m p q) h =
-        let s = each-both Bounded (bodyExprs a) (bodyExprs b) (h .1) in
+        let s = each-split Bounded (bodyExprs a) (bodyExprs b) (h .1) in
         rw (fits-means m (h .0), all-typed p (s .0)) (all-typed q (s .1))
     does-typed (L.Does.while x m a) h = rw (fits-means m (h .0)) (all-typed a (h .1))
 
-    pub all-typed : {b : Body} {r : D.Stmt} → DoesAll Γ b r → Each Bounded (bodyExprs b) → typed (types (Γ .inputs)) (types (Γ .outputs)) (types (Γ .variables)) r ≡ true
+    pub all-typed : {b : Body} {r : D.Stmt} → DoesAll Γ b r → Each Bounded (bodyExprs b)
+        → typed (types (Γ .inputs)) (types (Γ .outputs)) (types (Γ .variables)) r ≡ true
     all-typed (L.DoesAll.only d) h = does-typed d h
     all-typed (L.DoesAll.andThen {s} {b} d p) h =
-        let k = each-both Bounded (stmtExprs s) (bodyExprs b) h in
+        let k = each-split Bounded (stmtExprs s) (bodyExprs b) h in
         rw (does-typed d (k .0)) (all-typed p (k .1))
 
+-- the types of a process's inputs, outputs and variables are those declared
 pub source-types : (ds : List Decl) → sourceTypes (map source ds) ≡ types ds
 unfolding source
 source-types [] = refl
@@ -145,7 +163,8 @@ bit-fits true = refl
 bit-fits false = refl
 
 -- a value that is there, of the right type and not too large
-init-fits : (t : Ty) (i : Init) (xs : List Token) (x : Token) → initialOf t i ≡ [] → missing (x ∷ xs) i ≡ [] → Each Small (initNumbers i) → inType t (initial i) ≡ true
+init-fits : (t : Ty) (i : Init) (xs : List Token) (x : Token) → initialOf t i ≡ [] → missing (x ∷ xs) i ≡ []
+    → Each Small (initNumbers i) → inType t (initial i) ≡ true
 unfolding initialOf missing firstAt initial initNumbers inType
 init-fits t G.without xs x a b h = no-cons b
 init-fits t (G.integer-literal y) xs x a b h = rw (sameTy-eq t integer (unless-nil (sameTy t integer) (y .place) a)) (number-fits (y .value) (h .0))
@@ -156,10 +175,7 @@ init-fits t (G.minus s y) xs x a b h = rw (sameTy-eq t integer (unless-nil (same
 abbrev Held : Decl → Type 0
 Held d = isInput (d .mode) ≡ false → inType (d .type) (initial (d .init)) ≡ true
 
-pub each-append : {X : Type 0} (P : X → Type 0) (a b : List X) → Each P a → Each P b → Each P (a ++ b)
-each-append P [] b h k = k
-each-append P (x ∷ a) b h k = (h .0, each-append P a b (h .1) k)
-
+-- the declarations of a group, and of groups, without offences of 6 and 7
 held-declare : (g : Group) (xs : List Token) → (isInput (g .mode) ≡ false → inType (typeNamed (g .type)) (initial (g .init)) ≡ true) → Each Held (declare g xs)
 unfolding declare
 held-declare g [] h = tt
@@ -177,8 +193,8 @@ held-groups [] a b n = tt
 held-groups (g ∷ gs) a b n =
     let s = both-nil (initialsOf g) (each initialsOf gs) a in
     let r = both-nil (valuesOf g) (each valuesOf gs) b in
-    let m = each-both Small (initNumbers (g .init)) (groupNumbers gs) n in
-    each-append Held (declare g (g .names)) (spread gs) (held-group g (g .names) (s .0) (r .0) (m .0)) (held-groups gs (s .1) (r .1) (m .1))
+    let m = each-split Small (initNumbers (g .init)) (groupNumbers gs) n in
+    each-join Held (declare g (g .names)) (spread gs) (held-group g (g .names) (s .0) (r .0) (m .0)) (held-groups gs (s .1) (r .1) (m .1))
 
 held-slots : (p : Decl → Bool) → ((d : Decl) → p d ≡ true → isInput (d .mode) ≡ false) → (Δ : List Decl) → Each Held Δ → Initialised (map slot (filter p Δ))
 unfolding filter slot
@@ -189,7 +205,7 @@ held-slots p h (d ∷ Δ) k = go (p d) refl (held-slots p h Δ (k .1))
     go true e r = (k .0 (h d e), r)
     go false e r = r
 
--- the outputs, or the variables, of groups without offences of 6 and 7
+-- the outputs, or the variables, that such groups declare
 pub initialised : (p : Decl → Bool) → ((d : Decl) → p d ≡ true → isInput (d .mode) ≡ false) → (gs : List Group) → each initialsOf gs ≡ [] → each valuesOf gs ≡ []
     → Each Small (groupNumbers gs) → Initialised (map slot (filter p (spread gs)))
 initialised p h gs a b n = held-slots p h (spread gs) (held-groups gs a b n)
