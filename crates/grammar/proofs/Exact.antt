@@ -24,7 +24,7 @@ use Rattle.grammar.proofs.Trees.{Has}
 use Rattle.grammar.proofs.Steps.{Ok, okSyms, tested}
 use Rattle.grammar.proofs.Runs.{Starts, Over, Clear, Refused, Limited, Accepted, Cannot, Right, run-right}
 
-ok-text : Ok (textProduction .rhs)
+pub ok-text : Ok (textProduction .rhs)
 unfolding okSyms textProduction firsts first nullables nullable follow subset elem
 ok-text = tested (textProduction .rhs) tt
 
@@ -47,7 +47,7 @@ only : {r : Production text} {rs : List (Production text)} → r ∈ rs → rs �
 only here e = cc
 only (there m) e = absurd (none m (rest-nil e))
 
-reads-has : (ts : List Token) (es : List Mark) (v : Text) → Reads text ts es v → HasText ts es v
+pub reads-has : (ts : List Token) (es : List Mark) (v : Text) → Reads text ts es v → HasText ts es v
 unfolding productions span mark says
 reads-has ts es v q = go (q .tree) (q .spanned) (q .marked) (q .said)
   where

@@ -11,6 +11,11 @@ use Rattle.grammar.specs.Reader.{nullable, first, follow, elem, nullable
 use Rattle.grammar.specs.Acceptance.{Answer, accepted, no-sentence, past-limit}
 use Rattle.grammar.specs.Reader.{placed, answer}
 
+-- opens all that an answer computes by
+unfoldable computed : List Token → Answer
+unfolding answer placed readText run after keep atEnd advance enter byRule through shift onSkip compose pick chosen firsts nullables elem follow first nullable productions textProduction tick over
+computed ts = answer ts
+
 abbrev t : ℕ → Token
 t k = record { kind = k; value = 0; size = 1; place = 0 }
 
@@ -42,22 +47,22 @@ sums (suc k) = n 6 ∷ t PLUS ∷ sums k
 
 -- P5: a and b or c gets 3 at or (token 27)
 p5 : answer (assigned (n 6 ∷ t AND ∷ n 7 ∷ t OR ∷ n 8 ∷ [])) ≡ no-sentence 27
-unfolding answer placed readText run after keep atEnd advance enter byRule through shift onSkip compose pick chosen firsts nullables elem follow first nullable productions textProduction tick over
+unfolding computed
 p5 = refl
 
 -- a and b and c or d too
 p5′ : answer (assigned (n 6 ∷ t AND ∷ n 7 ∷ t AND ∷ n 9 ∷ t OR ∷ n 8 ∷ [])) ≡ no-sentence 29
-unfolding answer placed readText run after keep atEnd advance enter byRule through shift onSkip compose pick chosen firsts nullables elem follow first nullable productions textProduction tick over
+unfolding computed
 p5′ = refl
 
 -- P6: s - -1 gets 3 at the second -
 p6 : answer (assigned (n 6 ∷ t MINUS ∷ t MINUS ∷ int 1 ∷ [])) ≡ no-sentence 26
-unfolding answer placed readText run after keep atEnd advance enter byRule through shift onSkip compose pick chosen firsts nullables elem follow first nullable productions textProduction tick over
+unfolding computed
 p6 = refl
 
 -- the end of the text is missing: 3 at the count of the tokens
 short : answer opening ≡ no-sentence 21
-unfolding answer placed readText run after keep atEnd advance enter byRule through shift onSkip compose pick chosen firsts nullables elem follow first nullable productions textProduction tick over
+unfolding computed
 short = refl
 
 abbrev text-with : Expr → Text
@@ -75,17 +80,17 @@ text-with e = record {
 
 -- P7: not a = b is (not a) = b
 p7 : answer (assigned (t NOT ∷ n 6 ∷ t EQ ∷ n 7 ∷ [])) ≡ accepted (text-with (binary (t EQ) (negate (t NOT) (name (n 6))) (name (n 7))))
-unfolding answer placed readText run after keep atEnd advance enter byRule through shift onSkip compose pick chosen firsts nullables elem follow first nullable productions textProduction tick over
+unfolding computed
 p7 = refl
 
 -- - a - b + c is ((- a) - b) + c
 signs : answer (assigned (t MINUS ∷ n 6 ∷ t MINUS ∷ n 7 ∷ t PLUS ∷ n 8 ∷ [])) ≡ accepted (text-with (binary (t PLUS) (binary (t MINUS) (sign (t MINUS) (name (n 6))) (name (n 7))) (name (n 8))))
-unfolding answer placed readText run after keep atEnd advance enter byRule through shift onSkip compose pick chosen firsts nullables elem follow first nullable productions textProduction tick over
+unfolding computed
 signs = refl
 
 -- P9: initial -2147483648 gets 4 at the number
 p9 : answer (opening ++ (t VARIABLE ∷ n 5 ∷ t COLON ∷ t INTEGER ∷ t BECOMES ∷ t MINUS ∷ int 2147483648 ∷ t SEMI ∷ [])) ≡ past-limit 27
-unfolding answer placed readText run after keep atEnd advance enter byRule through shift onSkip compose pick chosen firsts nullables elem follow first nullable productions textProduction tick over
+unfolding computed
 p9 = refl
 
 -- 16 parentheses; the 17th gets 4
@@ -94,16 +99,16 @@ grouped zero e = e
 grouped (suc k) e = parens (grouped k e)
 
 p16 : answer (assigned (in-parens 16 (n 6 ∷ []))) ≡ accepted (text-with (grouped 16 (name (n 6))))
-unfolding answer placed readText run after keep atEnd advance enter byRule through shift onSkip compose pick chosen firsts nullables elem follow first nullable productions textProduction tick over
+unfolding computed
 p16 = refl
 
 p17 : answer (assigned (in-parens 17 (n 6 ∷ []))) ≡ past-limit 40
-unfolding answer placed readText run after keep atEnd advance enter byRule through shift onSkip compose pick chosen firsts nullables elem follow first nullable productions textProduction tick over
+unfolding computed
 p17 = refl
 
 -- 33 names and 32 + are 65 items: the 65th gets 4 (24 tokens stand before the first)
 items : answer (assigned (sums 32)) ≡ past-limit 88
-unfolding answer placed readText run after keep atEnd advance enter byRule through shift onSkip compose pick chosen firsts nullables elem follow first nullable productions textProduction tick over
+unfolding computed
 items = refl
 
 -- a null in 15 ifs has depth 16; in 16 it has depth 17 and gets 4 there (22 tokens, and 3 for each if, stand before it)
@@ -117,11 +122,11 @@ is-accepted (no-sentence k) = 0
 is-accepted (past-limit k) = 0
 
 depth-16 : is-accepted (answer (opening ++ (t BEGIN ∷ ifs 15 ++ closing))) ≡ 1
-unfolding answer placed readText run after keep atEnd advance enter byRule through shift onSkip compose pick chosen firsts nullables elem follow first nullable productions textProduction tick over
+unfolding computed
 depth-16 = refl
 
 depth-17 : answer (opening ++ (t BEGIN ∷ ifs 16 ++ closing)) ≡ past-limit 70
-unfolding answer placed readText run after keep atEnd advance enter byRule through shift onSkip compose pick chosen firsts nullables elem follow first nullable productions textProduction tick over
+unfolding computed
 depth-17 = refl
 
 -- 18 names in one group get 4 at its `in`; an entity name of 33 bytes gets 4
@@ -130,14 +135,14 @@ commas zero = n 2 ∷ t COLON ∷ t IN ∷ t INTEGER ∷ []
 commas (suc k) = n 2 ∷ t COMMA ∷ commas k
 
 inputs-18 : answer (t ENTITY ∷ n 1 ∷ t IS ∷ t PORT ∷ t LP ∷ commas 17) ≡ past-limit 41
-unfolding answer placed readText run after keep atEnd advance enter byRule through shift onSkip compose pick chosen firsts nullables elem follow first nullable productions textProduction tick over
+unfolding computed
 inputs-18 = refl
 
 long-name : answer (t ENTITY ∷ record { kind = NAME; value = 1; size = 33; place = 7 } ∷ []) ≡ past-limit 1
-unfolding answer placed readText run after keep atEnd advance enter byRule through shift onSkip compose pick chosen firsts nullables elem follow first nullable productions textProduction tick over
+unfolding computed
 long-name = refl
 
 -- `entity 5` gets 3 at the 5
 entity-5 : answer (t ENTITY ∷ int 5 ∷ []) ≡ no-sentence 1
-unfolding answer placed readText run after keep atEnd advance enter byRule through shift onSkip compose pick chosen firsts nullables elem follow first nullable productions textProduction tick over
+unfolding computed
 entity-5 = refl

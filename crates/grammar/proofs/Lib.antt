@@ -9,3 +9,12 @@ pub mod Laws
 pub mod Descent
 pub mod Loop
 pub mod Examples
+pub mod Marks
+pub mod Walk
+pub mod Along
+pub mod Idle
+pub mod Statements
+pub mod Expressions
+pub mod Headings
+pub mod Tokens
+pub mod Limits

@@ -109,7 +109,7 @@ here-right : (lim : Meter → Bool) (S : NonTerminal) (c : Meter) (γ : List Sym
 here-right lim S c γ κ x ts h = record
     { before = []; parts = refl; goes-on = some-text S γ κ; cannot = λ s. h (s .later) (s .es) (s .v) (s .has); clear = clear-nil lim S γ κ c }
 
-nothing-left : (S : NonTerminal) (κ : Says S) (x : Token) → Never S x [] κ
+pub nothing-left : (S : NonTerminal) (κ : Says S) (x : Token) → Never S x [] κ
 unfolding spans
 nothing-left S κ x us es v h = go (h .trees) (h .spanned)
   where

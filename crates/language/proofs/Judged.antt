@@ -16,6 +16,7 @@ use Rattle.grammar.specs.Acceptance as P
 use Rattle.grammar.specs.Acceptance.{Answer, Exactly, Within}
 use Rattle.grammar.specs.Reader.{answer}
 use Rattle.grammar.proofs.Exact.{answers}
+use Rattle.grammar.proofs.Limits.{exactly-limits}
 use Rattle.language.specs.Lists.{least, lowest}
 use Rattle.design.specs.Process.{Process}
 use Rattle.language.specs.Lexer.{Lexed, tokens, lex}
@@ -118,7 +119,7 @@ Right b (accepted d) = Valid b d
 Right b (refused n p) = Refuses b n p
 
 parses : (b : List ℕ) (ts : List Token) (t : Text) → length b ≤ 16384 → lex b ≡ tokens ts → answer ts ≡ P.accepted t → Parses b t
-parses b ts t s l e = let x = answers ts (P.accepted t) .0 e in record { short = s; tokens = ts; lexes = lex-tokens b ts .0 l; marks = x .0; reads = x .1; within = x .2 }
+parses b ts t s l e = let x = exactly-limits ts t .0 e in record { short = s; tokens = ts; lexes = lex-tokens b ts .0 l; marks = x .0; reads = x .1; limits = x .2 }
 
 pub right : (b : List ℕ) → Right b (verdict b)
 unfolding verdict lexed parsed
@@ -154,7 +155,7 @@ unfolding verdict lexed parsed
 parses-computed b t p =
     let s = T-is (leb (length b) 16384) (le→leb (length b) 16384 (p .short)) in
     let l = lex-tokens b (p .tokens) .1 (p .lexes) in
-    let a = answers (p .tokens) (P.accepted t) .1 (p .marks, p .reads, p .within) in
+    let a = exactly-limits (p .tokens) t .1 (p .marks, p .reads, p .limits) in
     rw (s, l, a)
 
 valid-computed : (b : List ℕ) (d : Process) → Valid b d → verdict b ≡ accepted d

@@ -70,7 +70,7 @@ unfolding equal
 equal-refl [] = refl
 equal-refl (b ∷ w) = rw (eq-eqb b b refl) (equal-refl w)
 
-equal-is : (w v : List ℕ) → equal w v ≡ true → w ≡ v
+pub equal-is : (w v : List ℕ) → equal w v ≡ true → w ≡ v
 unfolding equal
 equal-is [] [] e = refl
 equal-is [] (c ∷ v) e = clash (sym e)

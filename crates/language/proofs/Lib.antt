@@ -7,6 +7,14 @@ pub mod Expressions
 pub mod Statements
 pub mod Elaborated
 pub mod Judged
+pub mod Computing
+pub mod Examples
+pub mod ExamplesTokens
+pub mod ExamplesGrammar
+pub mod ExamplesLimits
+pub mod ExamplesRules
+pub mod ExamplesTable
+pub mod ExamplesReadings
 pub mod Answers
 pub mod Readings
 pub mod Modes

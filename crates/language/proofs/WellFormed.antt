@@ -96,11 +96,11 @@ module _ (t : Text) (m : Moded t) (w : WithinLimits t) (q : Clean t) where
   }
 
 -- of the tree of a text
-pub parses-well-formed : {b : List ℕ} {t : Text} → Parses b t → WithinLimits t → Clean t → WellFormed (elaborate t)
-parses-well-formed {b} {t} p w q = well-formed t (moded (p .reads)) w q
+pub parses-well-formed : {b : List ℕ} {t : Text} → Parses b t → Clean t → WellFormed (elaborate t)
+parses-well-formed {b} {t} p q = well-formed t (moded (p .reads)) (p .limits) q
 
 -- of a valid text: the process that it means
-pub valid-well-formed : {b : List ℕ} {d : Process} (v : Valid b d) → WithinLimits (v .tree) → WellFormed d
-valid-well-formed {b} {d} v w =
+pub valid-well-formed : {b : List ℕ} {d : Process} → Valid b d → WellFormed d
+valid-well-formed {b} {d} v =
     let q = clean (v .tree) (v .free) in
-    subst WellFormed (elaborated-only (v .tree) d q (v .means)) (parses-well-formed (v .parses) w q)
+    subst WellFormed (elaborated-only (v .tree) d q (v .means)) (parses-well-formed (v .parses) q)

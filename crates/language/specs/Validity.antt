@@ -9,7 +9,8 @@ use Rattle.grammar.specs.Tree.{Text}
 use Rattle.grammar.specs.Grammar.{text, Mark}
 use Rattle.grammar.specs.Derivation.{Reads}
 use Rattle.grammar.specs.Acceptance as A
-use Rattle.grammar.specs.Acceptance.{Within, Exactly}
+use Rattle.grammar.specs.Acceptance.{Exactly}
+use Rattle.grammar.specs.Limits.{WithinLimits}
 use Rattle.design.specs.Process.{Process}
 use Rattle.language.specs.Lexing.{Lexes, Stops}
 use Rattle.language.specs.Rules.{Rule, table}
@@ -48,7 +49,7 @@ pub record Parses (b : List ℕ) (t : Text) : Type 0 where
   pub lexes : Lexes 0 b tokens
   pub marks : List Mark
   pub reads : Reads text tokens marks t
-  pub within : Within tokens (length tokens)
+  pub limits : WithinLimits t
 
 -- "A text is accepted exactly when" it parses and breaks no rule; it then means d
 pub record Valid (b : List ℕ) (d : Process) : Type 0 where

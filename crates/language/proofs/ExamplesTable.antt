@@ -1,0 +1,20 @@
+-- Document 01's examples and their neighbours, stage by stage, as one table; one test of it, computed; and the theorem that every one of them holds.
+-- Assumes nothing.
+use mathlib.Core.List.{List, [], _∷_, _++_}
+use lib.Dec.{T}
+use Rattle.grammar.specs.Limits.{Each}
+use Rattle.language.proofs.Examples.{Example, Holds, passes, all-pass}
+use Rattle.language.proofs.ExamplesTokens as Tokens
+use Rattle.language.proofs.ExamplesGrammar as Grammar
+use Rattle.language.proofs.ExamplesLimits as Limits
+use Rattle.language.proofs.ExamplesRules as Rules
+
+abbrev pub examples : List Example
+examples = Tokens.examples ++ (Grammar.examples ++ (Limits.examples ++ (Rules.names ++ (Rules.operators ++ (Rules.types ++ Rules.others)))))
+
+tested : T (passes examples)
+unfolding passes
+tested = tt
+
+pub examples-hold : Each Holds examples
+examples-hold = all-pass examples tested
