@@ -65,7 +65,7 @@ bounded (e ∷ es) i n = let s = each-split Small (exprNumbers e) (exprsNumbers 
 -- EXPRESSIONS
 
 -- the types of declarations, in declared order
-abbrev types : List Decl → List Ty
+abbrev pub types : List Decl → List Ty
 types ds = map (λ (d : Decl). d .type) ds
 
 -- the k-th of a list of declarations has the k-th type
@@ -85,7 +85,7 @@ given2-same f t o q e g = rw (e, sameType-refl t) (given-same f t q g)
 
 module _ (Γ : Scope) where
   -- the design's type of what an expression means is the tree's
-  has-type : {e : G.Expr} {c : Expr} {t : ExprTy} → Means Γ e c t → Each Small (exprNumbers e) → typeOf (types (Γ .inputs)) (types (Γ .variables)) c ≡ some t
+  pub has-type : {e : G.Expr} {c : Expr} {t : ExprTy} → Means Γ e c t → Each Small (exprNumbers e) → typeOf (types (Γ .inputs)) (types (Γ .variables)) c ≡ some t
   unfolding exprNumbers typeOf leafType plainly unaryType
   has-type (L.Means.number x) h = rw (number-fits (x .value) (h .0))
   has-type (L.Means.bit x) h = refl
@@ -100,7 +100,7 @@ module _ (Γ : Scope) where
   has-type (L.Means.parens m) h = has-type m h
 
   -- and it has as many items
-  items-means : {e : G.Expr} {c : Expr} {t : ExprTy} → Means Γ e c t → items c ≡ itemCount e
+  pub items-means : {e : G.Expr} {c : Expr} {t : ExprTy} → Means Γ e c t → items c ≡ itemCount e
   unfolding items itemCount
   items-means (L.Means.number x) = refl
   items-means (L.Means.bit x) = refl
