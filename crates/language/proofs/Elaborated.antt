@@ -55,7 +55,7 @@ known-names t e =
     let c = both-nil (differs (t .archEnd) (t .arch)) (doubled (declared t) ++ each (namesOf (declared t)) (statements (t .body))) (b .1) in
     both-nil (doubled (declared t)) (each (namesOf (declared t)) (statements (t .body))) (c .1) .1
 
-fair : (t : Text) → Clean t → Fair (declared t) (clockOf t) (statements (t .body))
+pub fair : (t : Text) → Clean t → Fair (declared t) (clockOf t) (statements (t .body))
 unfolding types clock
 fair t q = record {
   names = known-names t (q .names);
@@ -180,7 +180,7 @@ pub elaborates : (t : Text) (p : Process) → Clean t → (elaborate t ≡ p) �
 elaborates t p q = (λ e. subst (Elaborates t) e (elaborated t q), elaborated-only t p q)
 
 -- the body's class is C, and every while in it has a body of class C
-whole-C : (t : Text) → loops t ≡ [] → classes (t .body) ≡ some C
+pub whole-C : (t : Text) → loops t ≡ [] → classes (t .body) ≡ some C
 unfolding loops isC orWhole
 whole-C t e = go (each loopsOf (statements (t .body))) (classes (t .body)) e
   where

@@ -109,7 +109,7 @@ ruled-right (r ∷ rs) t = go (lowest (r .offences t)) refl (ruled rs t) (ruled-
     go none e (refused n p) h = Q.First.there (lowest-none (r .offences t) e) h
     go (some q) e v h = Q.First.here refl (lowest-is (r .offences t) q e)
 
-clean : (t : Text) → Free table t → Clean t
+pub clean : (t : Text) → Free table t → Clean t
 unfolding table
 clean t f = record { names = f .0; types = f .1 .0; values = f .1 .1 .0; clock = f .1 .1 .1 .0; loops = f .1 .1 .1 .1 .0 }
 

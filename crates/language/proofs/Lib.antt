@@ -15,3 +15,9 @@ pub mod ExamplesLimits
 pub mod ExamplesRules
 pub mod ExamplesTable
 pub mod ExamplesReadings
+pub mod Answers
+pub mod Readings
+pub mod Modes
+pub mod Sizes
+pub mod WellTyped
+pub mod WellFormed

@@ -1,4 +1,4 @@
--- Statements without offences mean the computed statement and null else, and its classes are the tree's. Assumes null.
+-- Statements without offences mean the computed statement and nothing else, and its classes are the tree's. Assumes nothing.
 use mathlib.Core.Path.{_≡_, refl, sym, _∙_, ap, subst}
 use mathlib.Core.Bool.{Bool, true, false, cond, not, _&&_}
 use mathlib.Core.Option.{Option, none, some}
@@ -82,7 +82,7 @@ unread-at none s e h u = tt
 unread-at (some w) s e h u = sym (h (w .value)) ∙ u
 
 -- a target that passes the test of its kind
-isA-some : (p : Decl → Bool) (o : Option Decl) → isA p o ≡ true → (d : Decl) × (o ≡ some d) × (p d ≡ true)
+pub isA-some : (p : Decl → Bool) (o : Option Decl) → isA p o ≡ true → (d : Decl) × (o ≡ some d) × (p d ≡ true)
 unfolding isA
 isA-some p none e = clash (sym e)
 isA-some p (some d) e = (d, refl, e)
@@ -131,7 +131,7 @@ mutual
   doesAll Δ c (T.only s) f = only (does Δ c s f)
   doesAll Δ c (T.andThen s b) f = let g = fair-append Δ c (within s) (statements b) f in andThen (does Δ c s (g .0)) (doesAll Δ c b (g .1))
 
--- and null else
+-- and nothing else
 module _ (Δ : List Decl) (c : Option Token) (n : doubled Δ ≡ []) where
   mutual
     unfolding stmt stmts scopeFor
@@ -156,7 +156,7 @@ module _ (Δ : List Decl) (c : Option Token) (n : doubled Δ ≡ []) where
     all-only (andThen s b) = rw (does-only s, all-only b)
 
 -- classes
-pair-some : (f : Class → Class → Class) (o q : Option Class) (k : Class) → pair f o q ≡ some k → (x y : Class) × (o ≡ some x) × (q ≡ some y) × (f x y ≡ k)
+pub pair-some : (f : Class → Class → Class) (o q : Option Class) (k : Class) → pair f o q ≡ some k → (x y : Class) × (o ≡ some x) × (q ≡ some y) × (f x y ≡ k)
 unfolding pair
 pair-some f none q k e = no-some e
 pair-some f (some x) none k e = no-some e
@@ -165,7 +165,7 @@ pair-some f (some x) (some y) k e = (x, y, refl, refl, cc)
 some-eq : {x y : Class} → some x ≡ some y → x ≡ y
 some-eq e = cc
 
-looped-some : (o : Option Class) (k : Class) → looped o ≡ some k → (o ≡ some C) × (B ≡ k)
+pub looped-some : (o : Option Class) (k : Class) → looped o ≡ some k → (o ≡ some C) × (B ≡ k)
 unfolding looped
 looped-some none k e = no-some e
 looped-some (some A) k e = no-some e

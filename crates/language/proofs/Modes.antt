@@ -1,0 +1,115 @@
+-- In the tree of a derivation the ports are inputs and outputs and the variables are variables: a property of what each nonterminal says, kept by
+-- every production. Assumes nothing.
+use mathlib.Core.Path.{_≡_, refl, subst}
+use mathlib.Core.Bool.{true, false}
+use mathlib.Core.List.{List, [], _∷_}
+use Rattle.grammar.specs.Token.{Token}
+use Rattle.grammar.specs.Tree.{Group, Text}
+use Rattle.grammar.specs.Grammar.{NonTerminal, text, ports, morePorts, port, names, moreNames, mode, type, init, value, vars, body, more, statement, target, else-part, expression, chain, ands, ors, xors, relation, compared, simple, terms, factor, primary}
+use Rattle.grammar.specs.Grammar.{Says, Mark, Sym, tk, nt, Fun, Production, productions, textProduction}
+use Rattle.grammar.specs.Derivation.{_∈_, here, there, Tree, by, Trees, empty, token, child, says, saysAll, Reads}
+use Rattle.grammar.specs.Limits.{Each}
+use Rattle.language.specs.Declarations.{isVariable}
+
+-- no port is a variable; every variable is one
+pub record Moded (t : Text) : Type 0 where
+  pub ports : Each (λ (g : Group). isVariable (g .mode) ≡ false) (t .ports)
+  pub vars : Each (λ (g : Group). isVariable (g .mode) ≡ true) (t .vars)
+
+-- what is kept; of most nonterminals nothing is asked
+abbrev Kept : (M : NonTerminal) → Says M → Type 0
+Kept text t = Moded t
+Kept ports gs = Each (λ (g : Group). isVariable (g .mode) ≡ false) gs
+Kept morePorts gs = Each (λ (g : Group). isVariable (g .mode) ≡ false) gs
+Kept port g = isVariable (g .mode) ≡ false
+Kept names v = Unit {0}
+Kept moreNames v = Unit {0}
+Kept mode m = isVariable m ≡ false
+Kept type v = Unit {0}
+Kept init v = Unit {0}
+Kept value v = Unit {0}
+Kept vars gs = Each (λ (g : Group). isVariable (g .mode) ≡ true) gs
+Kept body v = Unit {0}
+Kept more v = Unit {0}
+Kept statement v = Unit {0}
+Kept target v = Unit {0}
+Kept else-part v = Unit {0}
+Kept expression v = Unit {0}
+Kept chain v = Unit {0}
+Kept ands v = Unit {0}
+Kept ors v = Unit {0}
+Kept xors v = Unit {0}
+Kept relation v = Unit {0}
+Kept compared v = Unit {0}
+Kept simple v = Unit {0}
+Kept terms v = Unit {0}
+Kept factor v = Unit {0}
+Kept primary v = Unit {0}
+
+-- a production keeps it: where its symbols have it, what it says has it
+abbrev Keeps : (γ : List Sym) (M : NonTerminal) → Fun γ (Says M) → Type 0
+Keeps [] M f = Kept M f
+Keeps (tk m k ∷ γ) M f = (x : Token) → Keeps γ M (f x)
+Keeps (nt A ∷ γ) M f = (v : Says A) → Kept A v → Keeps γ M (f v)
+
+abbrev KeepAll : (M : NonTerminal) → List (Production M) → Type 0
+KeepAll M [] = Unit {0}
+KeepAll M (r ∷ rs) = Keeps (r .rhs) M (r .says) × KeepAll M rs
+
+-- where all that M may say has it, every production keeps it
+anyway : (M : NonTerminal) → ((v : Says M) → Kept M v) → (γ : List Sym) (f : Fun γ (Says M)) → Keeps γ M f
+anyway M h [] f = h f
+anyway M h (tk m k ∷ γ) f = λ x. anyway M h γ (f x)
+anyway M h (nt A ∷ γ) f = λ v _. anyway M h γ (f v)
+
+free : (M : NonTerminal) → ((v : Says M) → Kept M v) → (rs : List (Production M)) → KeepAll M rs
+free M h [] = tt
+free M h (r ∷ rs) = (anyway M h (r .rhs) (r .says), free M h rs)
+
+all-keep : (M : NonTerminal) → KeepAll M (productions M)
+unfolding productions textProduction isVariable
+all-keep text = (λ _ _ _ _ _ ps p _ _ _ _ _ _ _ _ _ _ _ _ vs v _ _ _ _ _ _ _ _ _. record { ports = p; vars = v }, tt)
+all-keep ports = (λ g h gs k. (h, k), tt)
+all-keep morePorts = (tt, (λ _ g h gs k. (h, k), tt))
+all-keep port = (λ ns _ _ m h t _ i _. h, tt)
+all-keep names = free names (λ v. tt) (productions names)
+all-keep moreNames = free moreNames (λ v. tt) (productions moreNames)
+all-keep mode = (λ _. refl, (λ _. refl, tt))
+all-keep type = free type (λ v. tt) (productions type)
+all-keep init = free init (λ v. tt) (productions init)
+all-keep value = free value (λ v. tt) (productions value)
+all-keep vars = (tt, (λ _ ns _ _ t _ i _ _ vs k. (refl, k), tt))
+all-keep body = free body (λ v. tt) (productions body)
+all-keep more = free more (λ v. tt) (productions more)
+all-keep statement = free statement (λ v. tt) (productions statement)
+all-keep target = free target (λ v. tt) (productions target)
+all-keep else-part = free else-part (λ v. tt) (productions else-part)
+all-keep expression = free expression (λ v. tt) (productions expression)
+all-keep chain = free chain (λ v. tt) (productions chain)
+all-keep ands = free ands (λ v. tt) (productions ands)
+all-keep ors = free ors (λ v. tt) (productions ors)
+all-keep xors = free xors (λ v. tt) (productions xors)
+all-keep relation = free relation (λ v. tt) (productions relation)
+all-keep compared = free compared (λ v. tt) (productions compared)
+all-keep simple = free simple (λ v. tt) (productions simple)
+all-keep terms = free terms (λ v. tt) (productions terms)
+all-keep factor = free factor (λ v. tt) (productions factor)
+all-keep primary = free primary (λ v. tt) (productions primary)
+
+picked : (M : NonTerminal) (r : Production M) (rs : List (Production M)) → r ∈ rs → KeepAll M rs → Keeps (r .rhs) M (r .says)
+picked M r rs here h = h .0
+picked M r rs (there {q} {rs = qs} m) h = picked M r qs m (h .1)
+
+mutual
+  unfolding says
+
+  tree-keeps : {M : NonTerminal} (d : Tree M) → Kept M (says d)
+  tree-keeps {M} (by r m ds) = trees-keep ds M (r .says) (picked M r (productions M) m (all-keep M))
+
+  trees-keep : {γ : List Sym} (ds : Trees γ) (S : NonTerminal) (f : Fun γ (Says S)) → Keeps γ S f → Kept S (saysAll ds S f)
+  trees-keep empty S f k = k
+  trees-keep (token x e ds) S f k = trees-keep ds S (f x) (k x)
+  trees-keep (child d ds) S f k = trees-keep ds S (f (says d)) (k (says d) (tree-keeps d))
+
+pub moded : {ts : List Token} {es : List Mark} {t : Text} → Reads text ts es t → Moded t
+moded r = subst Moded (r .said) (tree-keeps (r .tree))
