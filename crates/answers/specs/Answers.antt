@@ -1,0 +1,56 @@
+-- Document 01's number, place and values for each case of an answer. Assumes nothing.
+use Prim.Native.Nat.{ℕ}
+use Rattle.answers.specs.declared.Refusal.{Refusal}
+use Rattle.answers.specs.declared.Refusal.the-variants.{TextTooLong, NoToken, NoSentence, LimitPassed, WrongName, WrongType, NoValue, WrongClock, WrongClass, BufferTooShort, BadSections, BadSignature, BadLine, BadRow, BadState, OutOfRange}
+use Rattle.answers.specs.declared.Compiled.{Compiled}
+use Rattle.answers.specs.declared.Compiled.the-variants.{Written, NotCompiled}
+use Rattle.answers.specs.declared.Cycled.{Cycled}
+use Rattle.answers.specs.declared.Cycled.the-variants.{Performed, NotPerformed}
+
+-- the column "No" of the table
+unfoldable pub numberOf : Refusal → ℕ
+numberOf TextTooLong = 1
+numberOf (NoToken p) = 2
+numberOf (NoSentence p) = 3
+numberOf (LimitPassed p) = 4
+numberOf (WrongName p) = 5
+numberOf (WrongType p) = 6
+numberOf (NoValue p) = 7
+numberOf (WrongClock p) = 8
+numberOf (WrongClass p) = 9
+numberOf (BufferTooShort p) = 10
+numberOf BadSections = 11
+numberOf BadSignature = 12
+numberOf (BadLine p) = 13
+numberOf (BadRow p) = 14
+numberOf BadState = 15
+numberOf (OutOfRange p) = 16
+
+-- the column "Place"
+unfoldable pub placeOf : Refusal → ℕ
+placeOf TextTooLong = 0
+placeOf (NoToken p) = p
+placeOf (NoSentence p) = p
+placeOf (LimitPassed p) = p
+placeOf (WrongName p) = p
+placeOf (WrongType p) = p
+placeOf (NoValue p) = p
+placeOf (WrongClock p) = p
+placeOf (WrongClass p) = p
+placeOf (BufferTooShort p) = p
+placeOf BadSections = 0
+placeOf BadSignature = 0
+placeOf (BadLine p) = p
+placeOf (BadRow p) = p
+placeOf BadState = 0
+placeOf (OutOfRange p) = p
+
+-- how many bytes a compile wrote; a refused one writes none
+unfoldable pub bytesOf : Compiled → ℕ
+bytesOf (Written n) = n
+bytesOf (NotCompiled r) = 0
+
+-- "the number of lines performed, the wait it ends on included"; "A refused cycle answers 0 lines."
+unfoldable pub linesOf : Cycled → ℕ
+linesOf (Performed n) = n
+linesOf (NotPerformed r) = 0

@@ -1,0 +1,61 @@
+// What the public operations take and answer: the state record, the refusals of document 01's table, and one enum for each kind of answer.
+
+// "A place (512 for the beginning, else a wait's line), 16 output and 32 variable slots".
+pub struct State {
+    pub place: u16,
+    pub outputs: [i32; 16],
+    pub variables: [i32; 32],
+}
+
+// Why a call was turned back: a variant for each row of the table, in its order, with the refusal's place where that is not always 0.
+// Later requests add their rows (17 to 24) at the end.
+pub enum Refusal {
+    TextTooLong,
+    NoToken(usize),
+    NoSentence(usize),
+    LimitPassed(usize),
+    WrongName(usize),
+    WrongType(usize),
+    NoValue(usize),
+    WrongClock(usize),
+    WrongClass(usize),
+    BufferTooShort(usize),
+    BadSections,
+    BadSignature,
+    BadLine(usize),
+    BadRow(usize),
+    BadState,
+    OutOfRange(usize),
+}
+
+// Where the sections of an opened image start, and where the last ends: signature, lines, code.
+pub struct Sections {
+    pub signature: usize,
+    pub lines: usize,
+    pub code: usize,
+    pub end: usize,
+}
+
+// A compile: the number of image bytes written.
+pub enum Compiled {
+    Written(usize),
+    NotCompiled(Refusal),
+}
+
+// An image opened: its sections.
+pub enum Opened {
+    Image(Sections),
+    NotOpened(Refusal),
+}
+
+// A fresh state asked for; the state itself stands beside the answer.
+pub enum Started {
+    Fresh,
+    NotStarted(Refusal),
+}
+
+// A cycle, of an image or of a text: the number of lines performed, the wait it ends on included.
+pub enum Cycled {
+    Performed(usize),
+    NotPerformed(Refusal),
+}
