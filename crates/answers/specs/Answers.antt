@@ -8,7 +8,7 @@ use Rattle.answers.specs.declared.Cycled.{Cycled}
 use Rattle.answers.specs.declared.Cycled.the-variants.{Performed, NotPerformed}
 
 -- the column "No" of the table
-unfoldable pub numberOf : Refusal → ℕ
+abbrev pub numberOf : Refusal → ℕ
 numberOf TextTooLong = 1
 numberOf (NoToken p) = 2
 numberOf (NoSentence p) = 3
@@ -27,7 +27,7 @@ numberOf BadState = 15
 numberOf (OutOfRange p) = 16
 
 -- the column "Place"
-unfoldable pub placeOf : Refusal → ℕ
+abbrev pub placeOf : Refusal → ℕ
 placeOf TextTooLong = 0
 placeOf (NoToken p) = p
 placeOf (NoSentence p) = p
@@ -46,11 +46,11 @@ placeOf BadState = 0
 placeOf (OutOfRange p) = p
 
 -- how many bytes a compile wrote; a refused one writes none
-unfoldable pub bytesOf : Compiled → ℕ
+abbrev pub bytesOf : Compiled → ℕ
 bytesOf (Written n) = n
 bytesOf (NotCompiled r) = 0
 
 -- "the number of lines performed, the wait it ends on included"; "A refused cycle answers 0 lines."
-unfoldable pub linesOf : Cycled → ℕ
+abbrev pub linesOf : Cycled → ℕ
 linesOf (Performed n) = n
 linesOf (NotPerformed r) = 0

@@ -1,4 +1,6 @@
 // What the public operations take and answer: the state record, the refusals of document 01's table, and one enum for each kind of answer.
+ghost use mathlib.Core.Path.{_≡_};
+ghost use Rattle.answers.specs.Answers.{numberOf, placeOf};
 
 // "A place (512 for the beginning, else a wait's line), 16 output and 32 variable slots".
 pub struct State {
@@ -58,4 +60,52 @@ pub enum Started {
 pub enum Cycled {
     Performed(usize),
     NotPerformed(Refusal),
+}
+
+// The refusal's number in the table.
+pub fn number(r: Refusal) -> u32
+    ensures { λ n. ⌜ n ≡ numberOf r ⌝ }
+{
+    match r {
+        Refusal::TextTooLong => 1,
+        Refusal::NoToken(_) => 2,
+        Refusal::NoSentence(_) => 3,
+        Refusal::LimitPassed(_) => 4,
+        Refusal::WrongName(_) => 5,
+        Refusal::WrongType(_) => 6,
+        Refusal::NoValue(_) => 7,
+        Refusal::WrongClock(_) => 8,
+        Refusal::WrongClass(_) => 9,
+        Refusal::BufferTooShort(_) => 10,
+        Refusal::BadSections => 11,
+        Refusal::BadSignature => 12,
+        Refusal::BadLine(_) => 13,
+        Refusal::BadRow(_) => 14,
+        Refusal::BadState => 15,
+        Refusal::OutOfRange(_) => 16,
+    }
+}
+
+// The refusal's place.
+pub fn place(r: Refusal) -> usize
+    ensures { λ p. ⌜ p ≡ placeOf r ⌝ }
+{
+    match r {
+        Refusal::TextTooLong => 0,
+        Refusal::NoToken(p) => p,
+        Refusal::NoSentence(p) => p,
+        Refusal::LimitPassed(p) => p,
+        Refusal::WrongName(p) => p,
+        Refusal::WrongType(p) => p,
+        Refusal::NoValue(p) => p,
+        Refusal::WrongClock(p) => p,
+        Refusal::WrongClass(p) => p,
+        Refusal::BufferTooShort(p) => p,
+        Refusal::BadSections => 0,
+        Refusal::BadSignature => 0,
+        Refusal::BadLine(p) => p,
+        Refusal::BadRow(p) => p,
+        Refusal::BadState => 0,
+        Refusal::OutOfRange(p) => p,
+    }
 }
