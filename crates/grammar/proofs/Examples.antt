@@ -60,6 +60,16 @@ p6 : answer (assigned (n 6 ∷ t MINUS ∷ t MINUS ∷ int 1 ∷ [])) ≡ no-sen
 unfolding computed
 p6 = refl
 
+-- not on a primary: not not a gets 3 at the second not
+not-not : answer (assigned (t NOT ∷ t NOT ∷ n 6 ∷ [])) ≡ no-sentence 25
+unfolding computed
+not-not = refl
+
+-- one of = /= < <= > >=: a = b = c gets 3 at the second =
+two-equals : answer (assigned (n 6 ∷ t EQ ∷ n 7 ∷ t EQ ∷ n 8 ∷ [])) ≡ no-sentence 27
+unfolding computed
+two-equals = refl
+
 -- the end of the text is missing: 3 at the count of the tokens
 short : answer opening ≡ no-sentence 21
 unfolding computed

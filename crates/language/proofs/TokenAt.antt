@@ -1,4 +1,4 @@
--- tokenAt hands out exactly the token that starts at the place, and the empty nt where none does. Assumes nothing.
+-- tokenAt hands out exactly the token that starts at the place, and the empty part where none does. Assumes nothing.
 use mathlib.Core.Path.{_≡_, refl, sym, _∙_, ap, subst}
 use mathlib.Core.Bool.{Bool, true, false, cond}
 use mathlib.Core.Logic.{_⊎_, inl, inr, _↔_}
@@ -96,7 +96,7 @@ right p zero [] n l = inl refl
 right p zero (b ∷ t) n l = absurd (omega arith)
 right p (suc m) t n l = step p m (right p m) t n l
 
--- THE THEOREM: the token that starts at p; or the empty nt, and none starts there
+-- THE THEOREM: the token that starts at p; or the empty part, and none starts there
 pub token-at : (t : List ℕ) (p : ℕ) → ((tokenAt t p ≡ []) × ((u : List ℕ) → Starts 0 t p u → u ≡ [])) ⊎ Starts 0 t p (tokenAt t p)
 unfolding tokenAt Answer
 token-at t p = go (right p (length t) t 0 (omega arith))
