@@ -4,7 +4,7 @@ use mathlib.Core.Bool.{Bool, true, false, _||_}
 use mathlib.Core.List.{List, [], _∷_, _++_}
 use Prim.Native.Nat.{ℕ, zero, suc, _+_}
 use lib.Dec.{eqb}
-use Rattle.design.specs.Expression.{Expr}
+use Rattle.design.specs.Expression.{Expr, items}
 
 -- what is always passed: an assignment to the k-th output or to the k-th variable, counted from 0 in declared order; null
 pub data Act : Type 0 where
@@ -29,6 +29,17 @@ size (if-then e a) = suc (size a)
 size (if-else e a b) = suc (size a + size b)
 size (while e b) = suc (size b)
 size (seq a b) = size a + size b
+
+-- the literals, names and operators of all its expressions
+unfoldable pub totalItems : Stmt → ℕ
+totalItems (act (output k e)) = items e
+totalItems (act (variable k e)) = items e
+totalItems (act null) = 0
+totalItems wait = 0
+totalItems (if-then e a) = items e + totalItems a
+totalItems (if-else e a b) = items e + (totalItems a + totalItems b)
+totalItems (while e b) = items e + totalItems b
+totalItems (seq a b) = totalItems a + totalItems b
 
 -- s, whose first number is n, has a wait with the number p
 unfoldable pub has : Stmt → ℕ → ℕ → Bool

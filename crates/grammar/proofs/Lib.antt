@@ -18,3 +18,4 @@ pub mod Expressions
 pub mod Headings
 pub mod Tokens
 pub mod Limits
+pub mod Room

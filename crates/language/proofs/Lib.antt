@@ -21,3 +21,4 @@ pub mod Modes
 pub mod Sizes
 pub mod WellTyped
 pub mod WellFormed
+pub mod Room
