@@ -186,7 +186,7 @@ mutual
   classed Δ Γ T.null k h = record { is = cc; good = tt }
   classed Δ Γ (T.wait x) k h = record { is = cc; good = tt }
   classed Δ Γ (T.if-then i e a) k h =
-      let p = pair-some ifClass (classes a) (some A) k h in
+      let p = pair-some ifClass (classes a) _ k h in
       let u = classed-all Δ Γ a (p .0) (p .2) in
       let z : A ≡ p .1 = some-eq (p .3) in
       record { is = ap (λ (y : Class). ifClass y A) (u .is) ∙ (ap (ifClass (p .0)) z ∙ p .4); good = u .good }
