@@ -28,7 +28,7 @@ rowsOf b cs = onVerdict (verdict b)
 
 -- opens all that rows compute by
 unfoldable pub opened : List ℕ → List Call → Option (List (Outcome × Kept))
-unfolding computed rowsOf Types.inRange Types.inType Expression.bind Expression.fold Statement.size Statement.has Evaluation.unaryResult Evaluation.binaryResult Evaluation.asInteger Evaluation.applyUnary Evaluation.applyBinary Evaluation.leafValue Evaluation.evaluate Equations.perform Equations.holds Equations.log Equations.then Equations.acted Equations.tested Equations.pick Equations.start Equations.resume Equations.enter Equations.cycle Rows.atFirst Rows.wrongValue Rows.rowRefusal Rows.ended Rows.judged Rows.row Rows.rowsFrom Rows.rows
+unfolding computed rowsOf Types.inRange Types.inType Expression.bind Expression.fold Statement.size Statement.has Evaluation.unaryResult Evaluation.binaryResult Evaluation.asInteger Evaluation.applyUnary Evaluation.applyBinary Evaluation.leafValue Evaluation.evaluate Equations.perform Equations.holds Equations.log Equations.then Equations.acted Equations.tested Equations.pick Equations.start Equations.resume Equations.enter Equations.cycle Rows.atFirst Rows.wrongValue Rows.rowRefusal Rows.concluded Rows.judged Rows.row Rows.rowsFrom Rows.rows
 opened b cs = rowsOf b cs
 
 -- a row of inputs, with room for so many outputs

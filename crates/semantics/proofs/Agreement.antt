@@ -1,8 +1,8 @@
 -- Started and resumed statements, and cycles, are those of document 000's B.3, refusals and way included, for every statement whose loops have C
 -- bodies: one law for each published equation, then induction on the statement. Assumes nothing.
-use Prim.Native.Nat.{ℕ, suc, _+_, _≤_, _<_}
+use Prim.Native.Nat.{ℕ, suc, _+_}
 use native.Mathlib.Omega.{arith}
-use mathlib.Core.Path.{_≡_, refl, sym, ap, _∙_}
+use mathlib.Core.Path.{_≡_, refl, sym, _∙_}
 use mathlib.Core.Bool.{Bool, true, false, not, _||_}
 use mathlib.Core.Option.{Option, none, some}
 use mathlib.Core.Logic.{_⊎_, inl, inr, ⊎-elim}
@@ -12,49 +12,20 @@ use lib.IntN.{ℤ}
 use Rattle.design.specs.Expression.{Expr, Out, fine, fault, bind}
 use Rattle.design.specs.Statement.{Act, output, variable, null, Stmt, act, wait, if-then, if-else, while, seq, size, has, Class, A, B, C, seqClass, ifClass, classOf, LoopsC}
 use Rattle.semantics.specs.Evaluation.{isOne, evaluate}
-use Rattle.semantics.specs.Equations.{Memory, Run, Result, passed, reached, refused, perform, holds, log, then, acted, tested, pick, start, resume, Place, beginning, at, enter, cycle}
+use Rattle.semantics.specs.Equations.{Run, Result, passed, reached, refused, perform, holds, log, then, acted, tested, pick, start, resume, enter, cycle}
 use Rattle.semantics.specs.Effects.{Step, ends, stops, andThen, traced}
 use Rattle.semantics.specs.Published.{ι, ω, φ, «PRIMREC_option», «PRIMREC_sum», _⇒_∣_, «type_a_statement», «type_b_statement», «type_c_statement», condition, «negate_condition», «SIGNAL_ASSIGNMENT», «VARIABLE_ASSIGNMENT», «NULL_STATEMENT», «WAIT», «SEQ_AA», «SEQ_AB», «SEQ_AC», «SEQ_BA», «SEQ_BB», «SEQ_BC», «SEQ_CA», «SEQ_CB», «SEQ_CC», «IF_THEN_ELSE_AA», «IF_THEN_ELSE_AB», «IF_THEN_ELSE_AC», «IF_THEN_ELSE_BA», «IF_THEN_ELSE_BB», «IF_THEN_ELSE_BC», «IF_THEN_ELSE_CA», «IF_THEN_ELSE_CB», «IF_THEN_ELSE_CC», «WHILE_C», «CLOSE_C»}
-use Rattle.semantics.specs.Denotation.{raised, tracing, seqWaits, seqPart, ifWaits, ifPart, Waits, numberOf, performed, Sem, seqSem, ifSem, whileSem, closeSem, actSem, waitSem, conditionSem, sem, process}
+use Rattle.semantics.specs.Waits.{seqWaits, seqPart, ifWaits, ifPart, Waits, numberOf}
+use Rattle.semantics.specs.Denotation.{raised, tracing, performing, Sem, seqSem, ifSem, whileSem, closeSem, actSem, waitSem, conditionSem, sem, process}
+use Rattle.semantics.specs.Correspondence.{run, placed, toA, toB, toC, starts, resumes, placeOf}
 use Rattle.semantics.proofs.Basic.{eqb-same, or-left, or-right}
 use Rattle.semantics.proofs.Results.{then-cong, A-C, B-C, has-below}
 
--- Outcomes of the published equations as results.
-
-abbrev pub run : List ℕ → ω → φ → Run
-run w so sq = record { way = w; memory = record { outputs = so; variables = sq } }
-
-abbrev pub placed : {γ : Type 0} → (γ → ℕ) → Run → Option γ → Result
-placed m τ none = passed τ
-placed m τ (some v) = reached (m v) τ
-
-abbrev pub toA : Step (ω × φ) → Result
-toA (ends p w) = passed (run w (p .0) (p .1))
-toA (stops q n) = refused q n
-
-abbrev pub toB : {γ : Type 0} → (γ → ℕ) → Step (ω × φ × Option γ) → Result
-toB m (ends p w) = placed m (run w (p .0) (p .1)) (p .2)
-toB m (stops q n) = refused q n
-
-abbrev pub toC : {γ : Type 0} → (γ → ℕ) → Step (ω × φ × γ) → Result
-toC m (ends p w) = reached (m (p .2)) (run w (p .0) (p .1))
-toC m (stops q n) = refused q n
-
+-- a condition's branches
 abbrev branched : Step Bool → (List ℕ → Result) → (List ℕ → Result) → Result
 branched (ends true w) f g = f w
 branched (ends false w) f g = g w
 branched (stops q n) f g = refused q n
-
--- a statement's meaning started, and resumed at its wait v
-abbrev pub starts : (x : Class) (γ : Type 0) → Sem tracing x γ → (γ → ℕ) → ι → Run → Result
-starts A γ f m i σ = toA (f i (σ .memory .outputs) (σ .memory .variables) (σ .way))
-starts B γ f m i σ = toB m (f i (σ .memory .outputs) (σ .memory .variables) none (σ .way))
-starts C γ f m i σ = toC m (f .0 i (σ .memory .outputs) (σ .memory .variables) (σ .way))
-
-abbrev pub resumes : (x : Class) (γ : Type 0) → Sem tracing x γ → (γ → ℕ) → γ → ι → Run → Result
-resumes A γ f m v i σ = passed σ
-resumes B γ f m v i σ = toB m (f i (σ .memory .outputs) (σ .memory .variables) (some v) (σ .way))
-resumes C γ f m v i σ = toB m (f .1 i (σ .memory .outputs) (σ .memory .variables) v (σ .way))
 
 -- What follows a part: it goes on where the part is passed (bind), or only renames its waits (tail).
 
@@ -82,7 +53,8 @@ module _ {Y : Type 0} (to : Step Y → Result) (strict : (q n : ℕ) → to (sto
   bind-C m (ends p w) h k e = e (p .0) (p .1) (p .2) w
   bind-C m (stops q n) h k e = strict q n
 
-  tail-A : (v : Step (ω × φ)) (h : ω × φ → List ℕ → Step Y) → ((so : ω) (sq : φ) (w : List ℕ) → to (h (so, sq) w) ≡ passed (run w so sq)) → to (andThen v h) ≡ toA v
+  tail-A : (v : Step (ω × φ)) (h : ω × φ → List ℕ → Step Y) → ((so : ω) (sq : φ) (w : List ℕ) → to (h (so, sq) w) ≡ passed (run w so sq))
+      → to (andThen v h) ≡ toA v
   unfolding andThen
   tail-A (ends p w) h e = e (p .0) (p .1) w
   tail-A (stops q n) h e = strict q n
@@ -116,7 +88,8 @@ unfolding then
 then-C m (ends p w) k = refl
 then-C m (stops q n) k = refl
 
-branched-not : (c : condition traced) (si : ι) (sq : φ) (w : List ℕ) (f g : List ℕ → Result) → branched («negate_condition» traced c si sq w) f g ≡ branched (c si sq w) g f
+branched-not : (c : condition traced) (si : ι) (sq : φ) (w : List ℕ) (f g : List ℕ → Result)
+    → branched («negate_condition» traced c si sq w) f g ≡ branched (c si sq w) g f
 unfolding «negate_condition» andThen
 branched-not c si sq w f g = go (c si sq w)
   where
@@ -200,7 +173,8 @@ module _ (i : ι) where
       (λ u. tail-B (toB m) (λ q n. refl) (λ v. m (inl v)) (f i so sq none u) _ (λ so sq w. refl) (λ so sq v w. refl))
       (λ u. tail-C (toB m) (λ q n. refl) (λ v. m (inr v)) (g .0 i so sq u) _ (λ so sq v w. refl))
 
-  if-start : (x y : Class) (γ δ : Type 0) (c : condition traced) (f : Sem tracing x γ) (g : Sem tracing y δ) (a : γ → ℕ) (b : δ → ℕ) (so : ω) (sq : φ) (w : List ℕ)
+  if-start : (x y : Class) (γ δ : Type 0) (c : condition traced) (f : Sem tracing x γ) (g : Sem tracing y δ)
+      (a : γ → ℕ) (b : δ → ℕ) (so : ω) (sq : φ) (w : List ℕ)
       → starts (ifClass x y) (ifWaits x y γ δ) (ifSem tracing x y γ δ c f g) (λ v. ⊎-elim a b (ifPart x y γ δ v)) i (run w so sq)
       ≡ branched (c i sq w) (λ u. starts x γ f a i (run u so sq)) (λ u. starts y δ g b i (run u so sq))
   unfolding ifClass «PRIMREC_option» _⇒_∣_ «IF_THEN_ELSE_AA» «IF_THEN_ELSE_BA» «IF_THEN_ELSE_BB» «IF_THEN_ELSE_CA» «IF_THEN_ELSE_CB» «IF_THEN_ELSE_CC»
@@ -220,7 +194,8 @@ module _ (i : ι) where
       (λ u. tail-C (toC (⊎-elim a b)) (λ q n. refl) a (f .0 i so sq u) _ (λ so sq v w. refl))
       (λ u. tail-C (toC (⊎-elim a b)) (λ q n. refl) b (g .0 i so sq u) _ (λ so sq v w. refl))
 
-  if-resume : (x y : Class) (γ δ : Type 0) (c : condition traced) (f : Sem tracing x γ) (g : Sem tracing y δ) (a : γ → ℕ) (b : δ → ℕ) (v : ifWaits x y γ δ) (σ : Run)
+  if-resume : (x y : Class) (γ δ : Type 0) (c : condition traced) (f : Sem tracing x γ) (g : Sem tracing y δ)
+      (a : γ → ℕ) (b : δ → ℕ) (v : ifWaits x y γ δ) (σ : Run)
       → resumes (ifClass x y) (ifWaits x y γ δ) (ifSem tracing x y γ δ c f g) (λ w. ⊎-elim a b (ifPart x y γ δ w)) v i σ
       ≡ ⊎-elim (λ u. resumes x γ f a u i σ) (λ u. resumes y δ g b u i σ) (ifPart x y γ δ v)
   unfolding ifClass «PRIMREC_option» «PRIMREC_sum» «IF_THEN_ELSE_AB» «IF_THEN_ELSE_AC» «IF_THEN_ELSE_BA» «IF_THEN_ELSE_BB» «IF_THEN_ELSE_BC» «IF_THEN_ELSE_CA» «IF_THEN_ELSE_CB» «IF_THEN_ELSE_CC»
@@ -271,12 +246,14 @@ module _ (i : ι) where
   close-some A e γ f m v σ = A-C e
   close-some B e γ f m v σ = B-C e
   close-some C e γ f m v σ =
-      sym (bind-B (toB m) (λ q n. refl) m (f .1 i _ _ v _) _ _ (λ so sq w. tail-C (toB m) (λ q n. refl) m (f .0 i so sq w) _ (λ so sq u w. refl)) (λ so sq u w. refl))
+      sym (bind-B (toB m) (λ q n. refl) m (f .1 i _ _ v _) _ _ (λ so sq w. tail-C (toB m) (λ q n. refl) m (f .0 i so sq w) _ (λ so sq u w. refl))
+      (λ so sq u w. refl))
 
 -- Every statement.
 
-act-start : (a : Act) (n : ℕ) (i : ι) (σ : Run) → acted (perform a i (σ .memory)) n σ ≡ toA (actSem tracing a n i (σ .memory .outputs) (σ .memory .variables) (σ .way))
-unfolding acted perform bind actSem performed andThen raised «SIGNAL_ASSIGNMENT» «VARIABLE_ASSIGNMENT» «NULL_STATEMENT»
+act-start : (a : Act) (n : ℕ) (i : ι) (σ : Run)
+    → acted (perform a i (σ .memory)) n σ ≡ toA (actSem tracing a n i (σ .memory .outputs) (σ .memory .variables) (σ .way))
+unfolding acted perform bind actSem performing andThen raised «SIGNAL_ASSIGNMENT» «VARIABLE_ASSIGNMENT» «NULL_STATEMENT»
 act-start (output k e) n i σ = go (evaluate e i (σ .memory .variables))
   where
     go : (v : Out ℤ) → acted (bind v (λ z. fine (record { outputs = set (σ .memory .outputs) k z; variables = σ .memory .variables }))) n σ
@@ -295,11 +272,12 @@ condition-tested : (e : Expr) (n : ℕ) (i : ι) (σ : Run) (f g f′ g′ : Run
     → tested (holds e i (σ .memory)) n σ f g
     ≡ branched (conditionSem tracing e n i (σ .memory .variables) (σ .way))
     (λ w. f′ (run w (σ .memory .outputs) (σ .memory .variables))) (λ w. g′ (run w (σ .memory .outputs) (σ .memory .variables)))
-unfolding tested holds bind log conditionSem performed andThen raised
+unfolding tested holds bind log conditionSem performing andThen raised
 condition-tested e n i σ f g f′ g′ hf hg = go (evaluate e i (σ .memory .variables))
   where
     pick-branch : (b : Bool) → tested (fine b) n σ f g
-        ≡ branched (ends b (σ .way ++ (n ∷ []))) (λ w. f′ (run w (σ .memory .outputs) (σ .memory .variables))) (λ w. g′ (run w (σ .memory .outputs) (σ .memory .variables)))
+        ≡ branched (ends b (σ .way ++ (n ∷ []))) (λ w. f′ (run w (σ .memory .outputs) (σ .memory .variables)))
+        (λ w. g′ (run w (σ .memory .outputs) (σ .memory .variables)))
     pick-branch true = hf _
     pick-branch false = hg _
 
@@ -311,15 +289,17 @@ condition-tested e n i σ f g f′ g′ hf hg = go (evaluate e i (σ .memory .va
 
 -- A statement is started as the published equations start it.
 pub same-start : (s : Stmt) → LoopsC s → (n : ℕ) (i : ι) (σ : Run) → start s n i σ ≡ starts (classOf s) (Waits s) (sem tracing s n) (numberOf s n) i σ
-unfolding start sem classOf LoopsC log waitSem performed andThen «WAIT» «NULL_STATEMENT»
+unfolding start sem classOf LoopsC log waitSem performing andThen «WAIT» «NULL_STATEMENT»
 same-start (act a) g n i σ = act-start a n i σ
 same-start wait g n i σ = refl
 same-start (if-then e a) g n i σ =
     condition-tested e n i σ _ _ _ _ (λ τ. same-start a g (suc n) i τ) (λ τ. refl)
-    ∙ sym (if-start i (classOf a) A (Waits a) ⊥ (conditionSem tracing e n) (sem tracing a (suc n)) («NULL_STATEMENT» traced) (numberOf a (suc n)) (λ v. absurd v) _ _ _)
+    ∙ sym (if-start i (classOf a) A (Waits a) ⊥ (conditionSem tracing e n) (sem tracing a (suc n)) («NULL_STATEMENT» traced) (numberOf a (suc n))
+    (λ v. absurd v) _ _ _)
 same-start (if-else e a b) g n i σ =
     condition-tested e n i σ _ _ _ _ (λ τ. same-start a (g .0) (suc n) i τ) (λ τ. same-start b (g .1) (suc n + size a) i τ)
-    ∙ sym (if-start i (classOf a) (classOf b) (Waits a) (Waits b) (conditionSem tracing e n) (sem tracing a (suc n)) (sem tracing b (suc n + size a)) (numberOf a (suc n)) (numberOf b (suc n + size a)) _ _ _)
+    ∙ sym (if-start i (classOf a) (classOf b) (Waits a) (Waits b) (conditionSem tracing e n) (sem tracing a (suc n)) (sem tracing b (suc n + size a))
+    (numberOf a (suc n)) (numberOf b (suc n + size a)) _ _ _)
 same-start (while e b) g n i σ =
     condition-tested e n i σ _ _ _ _ (λ τ. same-start b (g .1) (suc n) i τ) (λ τ. refl)
     ∙ sym (while-start i (classOf b) (g .0) (Waits b) (conditionSem tracing e n) (sem tracing b (suc n)) (numberOf b (suc n)) _ _ _)
@@ -377,7 +357,8 @@ same-resume (act a) g n i v σ = absurd v
 same-resume wait g n i v σ = refl
 same-resume (if-then e a) g n i v σ =
     go (ifPart (classOf a) A (Waits a) ⊥ v) (λ u. same-resume a g (suc n) i u σ)
-    ∙ sym (if-resume i (classOf a) A (Waits a) ⊥ (conditionSem tracing e n) (sem tracing a (suc n)) («NULL_STATEMENT» traced) (numberOf a (suc n)) (λ u. absurd u) v σ)
+    ∙ sym (if-resume i (classOf a) A (Waits a) ⊥ (conditionSem tracing e n) (sem tracing a (suc n)) («NULL_STATEMENT» traced) (numberOf a (suc n))
+    (λ u. absurd u) v σ)
   where
     go : (z : Waits a ⊎ ⊥)
         → ((u : Waits a) → resume a (suc n) (numberOf a (suc n) u) i σ ≡ resumes (classOf a) (Waits a) (sem tracing a (suc n)) (numberOf a (suc n)) u i σ)
@@ -389,21 +370,18 @@ same-resume (if-else e a b) g n i v σ =
     part-picked (numberOf a (suc n)) (numberOf b (suc n + size a)) (has a (suc n)) (λ p. resume a (suc n) p i σ) (λ p. resume b (suc n + size a) p i σ) _ _
     (number-has a (suc n)) (not-in-first a b (suc n)) (λ u. same-resume a (g .0) (suc n) i u σ) (λ u. same-resume b (g .1) (suc n + size a) i u σ)
     (ifPart (classOf a) (classOf b) (Waits a) (Waits b) v)
-    ∙ sym (if-resume i (classOf a) (classOf b) (Waits a) (Waits b) (conditionSem tracing e n) (sem tracing a (suc n)) (sem tracing b (suc n + size a)) (numberOf a (suc n)) (numberOf b (suc n + size a)) v σ)
+    ∙ sym (if-resume i (classOf a) (classOf b) (Waits a) (Waits b) (conditionSem tracing e n) (sem tracing a (suc n)) (sem tracing b (suc n + size a))
+    (numberOf a (suc n)) (numberOf b (suc n + size a)) v σ)
 same-resume (while e b) g n i v σ =
     then-cong _ _ _ _ (same-resume b (g .1) (suc n) i v σ) (λ τ. same-start (while e b) g n i τ)
     ∙ sym (while-resume i (classOf b) (g .0) (Waits b) (conditionSem tracing e n) (sem tracing b (suc n)) (numberOf b (suc n)) v σ)
 same-resume (seq a b) g n i v σ =
-    part-picked (numberOf a n) (numberOf b (n + size a)) (has a n) (λ p. then (resume a n p i σ) (λ τ. start b (n + size a) i τ)) (λ p. resume b (n + size a) p i σ) _ _
+    part-picked (numberOf a n) (numberOf b (n + size a)) (has a n) (λ p. then (resume a n p i σ) (λ τ. start b (n + size a) i τ))
+    (λ p. resume b (n + size a) p i σ) _ _
     (number-has a n) (not-in-first a b n)
     (λ u. then-cong _ _ _ _ (same-resume a (g .0) n i u σ) (λ τ. same-start b (g .1) (n + size a) i τ))
     (λ u. same-resume b (g .1) (n + size a) i u σ) (seqPart (classOf a) (classOf b) (Waits a) (Waits b) v)
     ∙ sym (seq-resume i (classOf a) (classOf b) (Waits a) (Waits b) (sem tracing a n) (sem tracing b (n + size a)) (numberOf a n) (numberOf b (n + size a)) v σ)
-
--- a control state as a place
-abbrev pub placeOf : (s : Stmt) → Option (Waits s) → Place
-placeOf s none = beginning
-placeOf s (some v) = at (numberOf s 0 v)
 
 -- One cycle is CLOSE_C of the body: place, outputs, variables and way, or the refusal's number and statement.
 pub same-cycle : (s : Stmt) → LoopsC s → classOf s ≡ C → (ss : Option (Waits s)) (i : ι) (σ : Run)

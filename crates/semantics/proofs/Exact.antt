@@ -5,19 +5,21 @@ use native.Mathlib.Omega.{arith}
 use mathlib.Core.Path.{_≡_, refl, sym, ap, _∙_}
 use mathlib.Core.Bool.{Bool, true, false, cond}
 use mathlib.Core.Option.{Option, none, some}
-use mathlib.Core.List.{List, [], _∷_}
+use mathlib.Core.List.{List}
 use lib.IntN.{ℤ}
 use Rattle.design.specs.Expression.{Expr, leaf, unary, binary, Out, fine, fault, fold, Unary, sign, invert, Binary, plus, minus, equal, unequal, less, at-most, greater, at-least, and, or, xor}
 use Rattle.design.specs.Types.{ExprTy, inRange}
 use Rattle.design.specs.Statement.{Stmt, C, classOf, LoopsC}
-use Rattle.semantics.specs.Evaluation.{unaryResult, binaryResult, asInteger, applyUnary, applyBinary, leafValue, evaluate, exactValue}
-use Rattle.semantics.specs.Equations.{Run, Result, passed, reached, refused, cycle}
-use Rattle.semantics.specs.Effects.{Step, ends, stops, andThen, traced}
+use Rattle.semantics.specs.Evaluation.{unaryResult, binaryResult, asInteger, applyUnary, applyBinary, evaluate, exactValue}
+use Rattle.semantics.specs.Equations.{Run, reached, cycle}
+use Rattle.semantics.specs.Effects.{Step, ends, stops, andThen}
 use Rattle.semantics.specs.Published.{ι, ω, φ}
-use Rattle.semantics.specs.Denotation.{Interpretation, exactly, tracing, raised, Waits, numberOf, process}
+use Rattle.semantics.specs.Waits.{Waits, numberOf}
+use Rattle.semantics.specs.Denotation.{exactly, tracing, raised, process}
+use Rattle.semantics.specs.Correspondence.{run, placed, toB, placeOf}
 use Rattle.semantics.proofs.Basic.{fault-fine, fine-injective, bind-fine}
 use Rattle.semantics.proofs.Results.{reached-passed}
-use Rattle.semantics.proofs.Agreement.{run, placed, toB, placeOf, same-cycle}
+use Rattle.semantics.proofs.Agreement.{same-cycle}
 use Rattle.semantics.proofs.Parametric.{Related, process-R}
 
 asInteger-is : (x z : ℤ) → asInteger x ≡ fine z → x ≡ z
@@ -66,7 +68,8 @@ abbrev Fits : {X : Type 0} → Step X → X → Type 0
 Fits (ends y w) x = y ≡ x
 Fits (stops q n) x = Unit {0}
 
-bind-fits : {X Y : Type 0} (v : Step X) (x : X) (k : X → List ℕ → Step Y) (k′ : X → Y) → Fits v x → ((y : X) (w : List ℕ) → Fits (k y w) (k′ y)) → Fits (andThen v k) (k′ x)
+bind-fits : {X Y : Type 0} (v : Step X) (x : X) (k : X → List ℕ → Step Y) (k′ : X → Y) → Fits v x → ((y : X) (w : List ℕ) → Fits (k y w) (k′ y))
+    → Fits (andThen v k) (k′ x)
 unfolding andThen
 bind-fits (ends y w) x k k′ e h = rw (← e) (h y w)
 bind-fits (stops q n) x k k′ e h = tt
@@ -100,12 +103,14 @@ reached-same p q σ τ e = (cc, cc)
 
 -- A cycle that reaches a wait is the printed one over unbounded integers: the same outputs and variables, the same wait.
 pub cycle-printed : (s : Stmt) → LoopsC s → classOf s ≡ C → (ss : Option (Waits s)) (i : ι) (σ τ : Run) (p : ℕ) → cycle s (placeOf s ss) i σ ≡ reached p τ
-    → (v : Waits s) × (numberOf s 0 v ≡ p) × (process exactly s i (σ .memory .outputs) (σ .memory .variables) ss ≡ (τ .memory .outputs, τ .memory .variables, some v))
+    → (v : Waits s) × (numberOf s 0 v ≡ p) × (process exactly s i (σ .memory .outputs) (σ .memory .variables) ss
+    ≡ (τ .memory .outputs, τ .memory .variables, some v))
 cycle-printed s g c ss i σ τ p e =
     go (process tracing s i (σ .memory .outputs) (σ .memory .variables) ss (σ .way)) refl (sym (same-cycle s g c ss i σ) ∙ e)
   where
     Claim : Type 0
-    Claim = (v : Waits s) × (numberOf s 0 v ≡ p) × (process exactly s i (σ .memory .outputs) (σ .memory .variables) ss ≡ (τ .memory .outputs, τ .memory .variables, some v))
+    Claim = (v : Waits s) × (numberOf s 0 v ≡ p) × (process exactly s i (σ .memory .outputs) (σ .memory .variables) ss
+        ≡ (τ .memory .outputs, τ .memory .variables, some v))
 
     at-wait : (so : ω) (sq : φ) (o : Option (Waits s)) (w : List ℕ) → placed (numberOf s 0) (run w so sq) o ≡ reached p τ
         → (so, sq, o) ≡ process exactly s i (σ .memory .outputs) (σ .memory .variables) ss → Claim
@@ -114,6 +119,7 @@ cycle-printed s g c ss i σ τ p e =
         let r = reached-same _ p _ τ q in
         (v, r .0, sym h ∙ ap (λ (ρ : Run). (ρ .memory .outputs, ρ .memory .variables, some v)) (r .1))
 
-    go : (v : Step (ω × φ × Option (Waits s))) → process tracing s i (σ .memory .outputs) (σ .memory .variables) ss (σ .way) ≡ v → toB (numberOf s 0) v ≡ reached p τ → Claim
+    go : (v : Step (ω × φ × Option (Waits s))) → process tracing s i (σ .memory .outputs) (σ .memory .variables) ss (σ .way) ≡ v
+        → toB (numberOf s 0) v ≡ reached p τ → Claim
     go (ends r w) h q = at-wait (r .0) (r .1) (r .2) w q (cycle-exact s i _ _ ss (σ .way) w r h)
     go (stops x n) h q = absurd (let z : _≡_ {A = ℕ} 0 1 = cc in omega arith)

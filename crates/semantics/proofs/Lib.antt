@@ -6,7 +6,14 @@ pub mod Results
 pub mod Wording
 pub mod Agreement
 pub mod Places
-pub mod Refusal
 pub mod Parametric
 pub mod Exact
 pub mod Automaton
+pub mod Refusal
+pub mod Distinct
+pub mod Way
+pub mod Ends
+pub mod WellTyped
+pub mod Rows
+pub mod PublishedRows
+pub mod Tally

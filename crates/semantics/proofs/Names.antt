@@ -1,15 +1,14 @@
 -- Evaluation depends only on the inputs and variables that the expression names: by induction on the expression. Assumes nothing.
 use Prim.Native.Nat.{ℕ}
-use mathlib.Core.Path.{_≡_, refl, sym, ap, _∙_}
-use mathlib.Core.Bool.{Bool, true, false, _||_}
+use mathlib.Core.Path.{_≡_, refl, ap}
+use mathlib.Core.Bool.{true}
 use mathlib.Core.List.{List}
 use lib.ListN.{getD}
 use lib.IntN.{ℤ, pos}
-use Rattle.design.specs.Expression.{Leaf, int, bit, input, variable, Expr, leaf, unary, binary, fine, bind, fold}
+use Rattle.design.specs.Expression.{Leaf, int, bit, input, variable, Expr, leaf, unary, binary, fine, fold}
 use Rattle.semantics.specs.Evaluation.{leafValue, evaluate}
 use Rattle.semantics.specs.Names.{leafReadsInput, leafReadsVariable, readsInput, readsVariable}
 use Rattle.semantics.proofs.Basic.{eqb-same, or-left, or-right}
-use Rattle.semantics.proofs.Overflow.{evaluate-unary, evaluate-binary}
 
 module _ (i i′ v v′ : List ℤ) where
   leaf-depends : (l : Leaf) → ((k : ℕ) → leafReadsInput l k ≡ true → getD i k (pos 0) ≡ getD i′ k (pos 0))

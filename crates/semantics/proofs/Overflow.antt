@@ -1,7 +1,6 @@
 -- Refusal 16 of an expression arises exactly where `Overflows` says so, and no other refusal arises: by induction on the expression. Assumes nothing.
 use Prim.Native.Nat.{ℕ}
-use native.Mathlib.Omega.{arith}
-use mathlib.Core.Path.{_≡_, refl, sym, ap, _∙_}
+use mathlib.Core.Path.{_≡_, refl, sym, _∙_}
 use mathlib.Core.Logic.{_↔_}
 use mathlib.Core.Bool.{Bool, true, false, cond}
 use mathlib.Core.List.{List}
@@ -35,7 +34,8 @@ module _ (i v : List ℤ) where
   unfolding evaluate fold
   evaluate-binary o t a b = refl
 
-  unary-faults : (o : Unary) (t : ExprTy) (a : Expr) (x : ℤ) (q : ℕ) → evaluate a i v ≡ fine x → applyUnary o t x ≡ fault q → Overflows i v (unary o t a) × (q ≡ 16)
+  unary-faults : (o : Unary) (t : ExprTy) (a : Expr) (x : ℤ) (q : ℕ) → evaluate a i v ≡ fine x → applyUnary o t x ≡ fault q
+      → Overflows i v (unary o t a) × (q ≡ 16)
   unfolding applyUnary unaryResult
   unary-faults sign t a x q h e = let r = asInteger-fault (negℤ x) q e in (at-sign x h (r .0), r .1)
   unary-faults invert t a x q h e = fault-fine q _ (sym e)

@@ -1,17 +1,14 @@
 -- The meaning of a statement is parametric in what it is composed with: a relation that pure and bind keep, and that holds of the steps and the
 -- values of two interpretations, holds of the meanings they give to every statement. One law for each equation, then induction. Assumes nothing.
 use Prim.Native.Nat.{ℕ, suc, _+_}
-use mathlib.Core.Bool.{Bool, true, false, not}
+use mathlib.Core.Bool.{Bool, true, false}
 use mathlib.Core.Option.{Option, none, some}
 use mathlib.Core.Logic.{_⊎_, inl, inr}
-use lib.ListN.{set}
-use lib.IntN.{ℤ}
 use Rattle.design.specs.Expression.{Expr}
 use Rattle.design.specs.Statement.{Act, output, variable, null, Stmt, act, wait, if-then, if-else, while, seq, size, Class, A, B, C, seqClass, ifClass, classOf}
-use Rattle.semantics.specs.Evaluation.{isOne}
-use Rattle.semantics.specs.Effects.{Monad}
 use Rattle.semantics.specs.Published.{ι, ω, φ, «PRIMREC_option», «PRIMREC_sum», _⇒_∣_, «type_a_statement», «type_b_statement», «type_c_statement», condition, «negate_condition», «SIGNAL_ASSIGNMENT», «VARIABLE_ASSIGNMENT», «NULL_STATEMENT», «WAIT», «SEQ_AA», «SEQ_AB», «SEQ_AC», «SEQ_BA», «SEQ_BB», «SEQ_BC», «SEQ_CA», «SEQ_CB», «SEQ_CC», «IF_THEN_ELSE_AA», «IF_THEN_ELSE_AB», «IF_THEN_ELSE_AC», «IF_THEN_ELSE_BA», «IF_THEN_ELSE_BB», «IF_THEN_ELSE_BC», «IF_THEN_ELSE_CA», «IF_THEN_ELSE_CB», «IF_THEN_ELSE_CC», «WHILE_C», «CLOSE_C»}
-use Rattle.semantics.specs.Denotation.{Interpretation, seqWaits, ifWaits, Waits, performed, Sem, seqSem, ifSem, whileSem, closeSem, actSem, waitSem, conditionSem, sem, process}
+use Rattle.semantics.specs.Waits.{seqWaits, ifWaits, Waits}
+use Rattle.semantics.specs.Denotation.{Interpretation, performing, Sem, seqSem, ifSem, whileSem, closeSem, actSem, waitSem, conditionSem, sem, process}
 
 -- a relation between the values of two interpretations that pure, bind, the steps and the values of expressions keep
 pub record Related (I J : Interpretation) : Type 1 where
@@ -40,7 +37,8 @@ module _ (I J : Interpretation) (Q : Related I J) where
   RelB γ f f′ = (si : ι) (so : ω) (sq : φ) (ss : Option γ) → R (f si so sq ss) (f′ si so sq ss)
 
   abbrev RelC : (γ : Type 0) → «type_c_statement» (I .monad) γ → «type_c_statement» (J .monad) γ → Type 0
-  RelC γ f f′ = ((si : ι) (so : ω) (sq : φ) → R (f .0 si so sq) (f′ .0 si so sq)) × ((si : ι) (so : ω) (sq : φ) (ss : γ) → R (f .1 si so sq ss) (f′ .1 si so sq ss))
+  RelC γ f f′ = ((si : ι) (so : ω) (sq : φ) → R (f .0 si so sq) (f′ .0 si so sq)) × ((si : ι) (so : ω) (sq : φ) (ss : γ) → R (f .1 si so sq ss)
+      (f′ .1 si so sq ss))
 
   abbrev RelCondition : condition (I .monad) → condition (J .monad) → Type 0
   RelCondition c c′ = (si : ι) (sq : φ) → R (c si sq) (c′ si sq)
@@ -67,7 +65,8 @@ module _ (I J : Interpretation) (Q : Related I J) where
   branch-R true x y x′ y′ h k = h
   branch-R false x y x′ y′ h k = k
 
-  negate-R : (c : condition (I .monad)) (c′ : condition (J .monad)) → RelCondition c c′ → RelCondition («negate_condition» (I .monad) c) («negate_condition» (J .monad) c′)
+  negate-R : (c : condition (I .monad)) (c′ : condition (J .monad)) → RelCondition c c′
+      → RelCondition («negate_condition» (I .monad) c) («negate_condition» (J .monad) c′)
   unfolding «negate_condition»
   negate-R c c′ h si sq = bind-R _ _ _ _ (h si sq) (λ b. pure-R _)
 
@@ -115,7 +114,8 @@ module _ (I J : Interpretation) (Q : Related I J) where
       → RelB γ («IF_THEN_ELSE_AB» (I .monad) c f g) («IF_THEN_ELSE_AB» (J .monad) c′ f′ g′)
   unfolding «IF_THEN_ELSE_AB»
   if-AB-R γ c c′ f f′ g g′ hc hf hg si so sq ss =
-      option-R ss _ _ _ _ (bind-R _ _ _ _ (hc si sq) (λ b. branch-R b _ _ _ _ (bind-R _ _ _ _ (hf si so sq) (λ p. pure-R _)) (hg si so sq none))) (λ v. hg si so sq (some v))
+      option-R ss _ _ _ _ (bind-R _ _ _ _ (hc si sq) (λ b. branch-R b _ _ _ _ (bind-R _ _ _ _ (hf si so sq) (λ p. pure-R _)) (hg si so sq none)))
+      (λ v. hg si so sq (some v))
 
   if-AC-R : (γ : Type 0) (c : condition (I .monad)) (c′ : condition (J .monad)) (f : «type_a_statement» (I .monad)) (f′ : «type_a_statement» (J .monad))
       (g : «type_c_statement» (I .monad) γ) (g′ : «type_c_statement» (J .monad) γ) → RelCondition c c′ → RelA f f′ → RelC γ g g′
@@ -144,13 +144,15 @@ module _ (I J : Interpretation) (Q : Related I J) where
   if-R B A γ δ c c′ f f′ g g′ hc hf hg = if-AB-R γ _ _ g g′ f f′ (negate-R c c′ hc) hg hf
   if-R B B γ δ c c′ f f′ g g′ hc hf hg = λ si so sq ss.
       option-R ss _ _ _ _
-      (bind-R _ _ _ _ (hc si sq) (λ b. branch-R b _ _ _ _ (bind-R _ _ _ _ (hf si so sq none) (λ p. pure-R _)) (bind-R _ _ _ _ (hg si so sq none) (λ p. pure-R _))))
+      (bind-R _ _ _ _ (hc si sq) (λ b. branch-R b _ _ _ _ (bind-R _ _ _ _ (hf si so sq none) (λ p. pure-R _))
+      (bind-R _ _ _ _ (hg si so sq none) (λ p. pure-R _))))
       (λ v. sum-R v _ _ _ _ (λ u. bind-R _ _ _ _ (hf si so sq (some u)) (λ p. pure-R _)) (λ u. bind-R _ _ _ _ (hg si so sq (some u)) (λ p. pure-R _)))
   if-R B C γ δ c c′ f f′ g g′ hc hf hg = if-BC-R γ δ c c′ f f′ g g′ hc hf hg
   if-R C A γ δ c c′ f f′ g g′ hc hf hg = if-AC-R γ _ _ g g′ f f′ (negate-R c c′ hc) hg hf
   if-R C B γ δ c c′ f f′ g g′ hc hf hg = if-BC-R δ γ _ _ g g′ f f′ (negate-R c c′ hc) hg hf
   if-R C C γ δ c c′ f f′ g g′ hc hf hg = (
-    λ si so sq. bind-R _ _ _ _ (hc si sq) (λ b. branch-R b _ _ _ _ (bind-R _ _ _ _ (hf .0 si so sq) (λ p. pure-R _)) (bind-R _ _ _ _ (hg .0 si so sq) (λ p. pure-R _))),
+    λ si so sq. bind-R _ _ _ _ (hc si sq) (λ b. branch-R b _ _ _ _ (bind-R _ _ _ _ (hf .0 si so sq) (λ p. pure-R _))
+        (bind-R _ _ _ _ (hg .0 si so sq) (λ p. pure-R _))),
     λ si so sq ss. sum-R ss _ _ _ _ (λ u. bind-R _ _ _ _ (hf .1 si so sq u) (λ p. pure-R _)) (λ u. bind-R _ _ _ _ (hg .1 si so sq u) (λ p. pure-R _)),
   )
 
@@ -163,7 +165,8 @@ module _ (I J : Interpretation) (Q : Related I J) where
       option-R ss _ _ _ _ (test si so sq) (λ v. bind-R _ _ _ _ (hf .1 si so sq v) (λ p. option-R (p .2) _ _ _ _ (test si (p .0) (p .1)) (λ u. pure-R _)))
     where
       test : (si : ι) (so : ω) (sq : φ)
-          → R {X = ω × φ × Option γ} (I .monad .bind (c si sq) (λ b. b ⇒ I .monad .bind (f .0 si so sq) (λ p. I .monad .pure (p .0, p .1, some (p .2))) ∣ I .monad .pure (so, sq, none)))
+          → R {X = ω × φ × Option γ} (I .monad .bind (c si sq)
+          (λ b. b ⇒ I .monad .bind (f .0 si so sq) (λ p. I .monad .pure (p .0, p .1, some (p .2))) ∣ I .monad .pure (so, sq, none)))
           (J .monad .bind (c′ si sq) (λ b. b ⇒ J .monad .bind (f′ .0 si so sq) (λ p. J .monad .pure (p .0, p .1, some (p .2))) ∣ J .monad .pure (so, sq, none)))
       test si so sq = bind-R _ _ _ _ (hc si sq) (λ b. branch-R b _ _ _ _ (bind-R _ _ _ _ (hf .0 si so sq) (λ p. pure-R _)) (pure-R _))
 
@@ -175,25 +178,25 @@ module _ (I J : Interpretation) (Q : Related I J) where
       option-R ss _ _ _ _ (bind-R _ _ _ _ (hf .0 si so sq) (λ p. pure-R _))
       (λ v. bind-R _ _ _ _ (hf .1 si so sq v) (λ p. option-R (p .2) _ _ _ _ (bind-R _ _ _ _ (hf .0 si (p .0) (p .1)) (λ q. pure-R _)) (λ u. pure-R _)))
 
-  performed-R : {X : Type 0} (n : ℕ) (v : I .monad .Of X) (v′ : J .monad .Of X) → R v v′ → R (performed I n v) (performed J n v′)
-  unfolding performed
-  performed-R n v v′ h = bind-R _ _ _ _ (Q .step-holds n) (λ u. h)
+  performing-R : {X : Type 0} (n : ℕ) (v : I .monad .Of X) (v′ : J .monad .Of X) → R v v′ → R (performing I n v) (performing J n v′)
+  unfolding performing
+  performing-R n v v′ h = bind-R _ _ _ _ (Q .step-holds n) (λ u. h)
 
   act-R : (a : Act) (n : ℕ) → RelA (actSem I a n) (actSem J a n)
   unfolding actSem «SIGNAL_ASSIGNMENT» «VARIABLE_ASSIGNMENT» «NULL_STATEMENT»
-  act-R (output k e) n si so sq = performed-R n _ _ (bind-R _ _ _ _ (bind-R _ _ _ _ (Q .value-holds n e si sq) (λ z. pure-R _)) (λ p. pure-R _))
-  act-R (variable k e) n si so sq = performed-R n _ _ (bind-R _ _ _ _ (bind-R _ _ _ _ (Q .value-holds n e si sq) (λ z. pure-R _)) (λ p. pure-R _))
-  act-R null n si so sq = performed-R n _ _ (pure-R _)
+  act-R (output k e) n si so sq = performing-R n _ _ (bind-R _ _ _ _ (bind-R _ _ _ _ (Q .value-holds n e si sq) (λ z. pure-R _)) (λ p. pure-R _))
+  act-R (variable k e) n si so sq = performing-R n _ _ (bind-R _ _ _ _ (bind-R _ _ _ _ (Q .value-holds n e si sq) (λ z. pure-R _)) (λ p. pure-R _))
+  act-R null n si so sq = performing-R n _ _ (pure-R _)
 
   condition-R : (e : Expr) (n : ℕ) → RelCondition (conditionSem I e n) (conditionSem J e n)
   unfolding conditionSem
-  condition-R e n si sq = performed-R n _ _ (bind-R _ _ _ _ (Q .value-holds n e si sq) (λ z. pure-R _))
+  condition-R e n si sq = performing-R n _ _ (bind-R _ _ _ _ (Q .value-holds n e si sq) (λ z. pure-R _))
 
   -- The two meanings of a statement are related.
   pub sem-R : (s : Stmt) (n : ℕ) → Rel (classOf s) (Waits s) (sem I s n) (sem J s n)
   unfolding sem classOf waitSem «WAIT» «NULL_STATEMENT»
   sem-R (act a) n = act-R a n
-  sem-R wait n = (λ si so sq. performed-R n _ _ (pure-R _), λ si so sq ss. pure-R _)
+  sem-R wait n = (λ si so sq. performing-R n _ _ (pure-R _), λ si so sq ss. pure-R _)
   sem-R (if-then e a) n = if-R (classOf a) A (Waits a) ⊥ _ _ _ _ _ _ (condition-R e n) (sem-R a (suc n)) (λ si so sq. pure-R _)
   sem-R (if-else e a b) n = if-R (classOf a) (classOf b) (Waits a) (Waits b) _ _ _ _ _ _ (condition-R e n) (sem-R a (suc n)) (sem-R b (suc n + size a))
   sem-R (while e b) n = while-R (classOf b) (Waits b) _ _ _ _ (condition-R e n) (sem-R b (suc n))

@@ -2,10 +2,14 @@
 use Prim.Native.Nat.{ℕ, suc, _+_}
 use native.Mathlib.Omega.{arith}
 use mathlib.Core.Path.{_≡_, refl, sym, ap, _∙_}
-use mathlib.Core.Bool.{Bool, true, false, _||_}
+use mathlib.Core.Bool.{true}
+use mathlib.Core.Option.{Option, none, some}
 use mathlib.Core.Logic.{_⊎_, inl, inr, ⊎-elim}
 use Rattle.design.specs.Statement.{Stmt, act, wait, if-then, if-else, while, seq, size, has, Class, A, B, C, seqClass, ifClass, classOf}
-use Rattle.semantics.specs.Denotation.{seqWaits, seqPart, ifWaits, ifPart, Waits, numberOf}
+use Rattle.semantics.specs.Equations.{Place, beginning, at}
+use Rattle.semantics.specs.Waits.{seqWaits, seqPart, ifWaits, ifPart, Waits, numberOf}
+use Rattle.semantics.specs.Correspondence.{placeOf}
+use Rattle.semantics.specs.Answer.{Placed}
 use Rattle.semantics.proofs.Basic.{false-true, eqb-true}
 use Rattle.semantics.proofs.Results.{or-case}
 
@@ -97,7 +101,8 @@ wait-state (if-else e a b) n p h =
     (λ w. (let u = wait-state a (suc n) p w in into (inl (u .0)) (u .1)))
     (λ w. (let u = wait-state b (suc n + size a) p w in into (inr (u .0)) (u .1)))
   where
-    into : (z : Waits a ⊎ Waits b) → ⊎-elim (numberOf a (suc n)) (numberOf b (suc n + size a)) z ≡ p → (v : Waits (if-else e a b)) × (numberOf (if-else e a b) n v ≡ p)
+    into : (z : Waits a ⊎ Waits b) → ⊎-elim (numberOf a (suc n)) (numberOf b (suc n + size a)) z ≡ p
+        → (v : Waits (if-else e a b)) × (numberOf (if-else e a b) n v ≡ p)
     into z q =
         let v = if-in (Waits a) (Waits b) (classOf a) (classOf b) (no-waits-A a) (no-waits-A b) z in
         (v .0, ap (⊎-elim (numberOf a (suc n)) (numberOf b (suc n + size a))) (v .1) ∙ q)
@@ -111,3 +116,9 @@ wait-state (seq a b) n p h =
     into z q =
         let v = seq-in (Waits a) (Waits b) (classOf a) (classOf b) (no-waits-A a) (no-waits-A b) z in
         (v .0, ap (⊎-elim (numberOf a n) (numberOf b (n + size a))) (v .1) ∙ q)
+
+-- Every place of the body is a control state's.
+pub place-state : (s : Stmt) (q : Place) → Placed s q → (ss : Option (Waits s)) × (placeOf s ss ≡ q)
+unfolding Placed
+place-state s beginning h = (none, refl)
+place-state s (at p) h = let v = wait-state s 0 p h in (some (v .0), ap at (v .1))

@@ -9,7 +9,6 @@ use mathlib.Core.List.{List}
 use lib.IntN.{ℤ}
 use Rattle.design.specs.Expression.{Expr, Out, fine, fault, bind}
 use Rattle.design.specs.Statement.{Act, output, variable, null, Stmt, act, wait, if-then, if-else, while, seq, size, has}
-use Rattle.semantics.specs.Evaluation.{isOne, evaluate}
 use Rattle.semantics.specs.Equations.{Memory, Run, Result, passed, reached, refused, perform, holds, log, then, acted, tested, pick, start, resume, Place, beginning, at, enter, cycle}
 use Rattle.semantics.specs.Overflow.{Overflows}
 use Rattle.semantics.specs.Refusal.{ActOverflows, StartOverflows, ResumeOverflows, EnterOverflows, CycleOverflows}
@@ -73,7 +72,8 @@ module _ (i : List ℤ) where
   tested-refused e n σ f g q x P Q hf hg h = go (holds e i (σ .memory)) refl h
     where
       go : (v : Out Bool) → holds e i (σ .memory) ≡ v → tested v n σ f g ≡ refused q x
-          → (((x ≡ n) × Overflows i (σ .memory .variables) e) ⊎ (((holds e i (σ .memory) ≡ fine true) × P) ⊎ ((holds e i (σ .memory) ≡ fine false) × Q))) × (q ≡ 16)
+          → (((x ≡ n) × Overflows i (σ .memory .variables) e) ⊎ (((holds e i (σ .memory) ≡ fine true) × P) ⊎ ((holds e i (σ .memory) ≡ fine false) × Q))) × (q
+          ≡ 16)
       go (fine true) p h = let r = hf h in (inr (inl (p, r .0)), r .1)
       go (fine false) p h = let r = hg h in (inr (inr (p, r .0)), r .1)
       go (fault q′) p h =

@@ -1,15 +1,14 @@
 -- How results of statements go on, and what a statement of class C cannot do: cases on the result, induction on the statement. Assumes nothing.
 use Prim.Native.Nat.{ℕ, suc, _+_, _≤_, _<_}
 use native.Mathlib.Omega.{arith}
-use mathlib.Core.Path.{_≡_, refl, sym, ap, _∙_}
+use mathlib.Core.Path.{_≡_, refl}
 use mathlib.Core.Logic.{_⊎_, inl, inr}
 use mathlib.Core.Bool.{Bool, true, false, _||_}
 use mathlib.Core.List.{List}
-use lib.Dec.{eqb}
 use lib.IntN.{ℤ}
-use Rattle.design.specs.Expression.{Expr, Out, fine, fault}
+use Rattle.design.specs.Expression.{Out, fine, fault}
 use Rattle.design.specs.Statement.{Stmt, act, wait, if-then, if-else, while, seq, size, has, Class, A, B, C, seqClass, ifClass, classOf}
-use Rattle.semantics.specs.Equations.{Memory, Run, Result, passed, reached, refused, holds, log, then, tested, start, Place, cycle}
+use Rattle.semantics.specs.Equations.{Run, Result, passed, reached, refused, log, then, tested, start}
 use Rattle.semantics.proofs.Basic.{false-true, eqb-true}
 
 -- Sequences of results.

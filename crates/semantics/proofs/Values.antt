@@ -1,6 +1,6 @@
 -- A typed expression over values of their types has a value of its type: by induction on the expression. Assumes nothing.
 use Prim.Native.Nat.{ℕ, zero, suc}
-use mathlib.Core.Path.{_≡_, refl, sym, ap, _∙_}
+use mathlib.Core.Path.{_≡_, refl, ap}
 use mathlib.Core.Bool.{Bool, true, false, cond, not, _&&_, _||_}
 use mathlib.Core.Option.{Option, none, some}
 use mathlib.Core.List.{List, [], _∷_}
@@ -8,10 +8,10 @@ use lib.ListN.{length, getD, set}
 use lib.IntN.{ℤ, pos}
 use lib.Signed.{leZ, ltZ}
 use Rattle.design.specs.Types.{Ty, std-logic, integer, ExprTy, plain, boolean, sameType, eqZ, inRange, inType}
-use Rattle.design.specs.Expression.{Leaf, int, bit, input, variable, Unary, sign, invert, Binary, plus, minus, equal, unequal, less, at-most, greater, at-least, and, or, xor, Expr, leaf, unary, binary, Out, fine, fault, bind, fold, nth, plainly, sumType, orderType, equalityType, logicalType, unaryType, binaryType, leafType, given, given2, typeOf}
+use Rattle.design.specs.Expression.{Leaf, int, bit, input, variable, Unary, sign, invert, Binary, plus, minus, equal, unequal, less, at-most, greater, at-least, and, or, xor, Expr, leaf, unary, binary, fine, fault, fold, nth, plainly, sumType, orderType, equalityType, logicalType, unaryType, binaryType, leafType, given, given2, typeOf}
 use Rattle.semantics.specs.Evaluation.{bitOf, isOne, differ, unaryResult, binaryResult, asInteger, applyUnary, applyBinary, leafValue, evaluate}
 use Rattle.semantics.specs.Values.{ofType, Values}
-use Rattle.semantics.proofs.Basic.{false-true, none-some, fault-fine, some-injective, fine-injective, bind-fine}
+use Rattle.semantics.proofs.Basic.{none-some, fault-fine, some-injective, fine-injective, bind-fine}
 
 pub values-length : (ts : List Ty) (l : List ℤ) → Values ts l → length l ≡ length ts
 unfolding Values

@@ -7,7 +7,7 @@ use mathlib.Core.List.{List}
 use lib.IntN.{ℤ}
 use Rattle.design.specs.Expression.{Expr, Out, fine, fault}
 use Rattle.design.specs.Statement.{Stmt, while, C, classOf}
-use Rattle.semantics.specs.Equations.{Run, Result, passed, holds, then, tested, start, Place, cycle}
+use Rattle.semantics.specs.Equations.{Run, passed, holds, then, tested, start, Place, cycle}
 use Rattle.semantics.proofs.Results.{then-assoc, then-cong, then-stays, C-stops}
 
 -- "A while, started, tests its condition: false, it is passed; true, its body is started. .. Whenever its body is passed, it tests again."

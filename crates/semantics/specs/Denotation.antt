@@ -1,7 +1,5 @@
 -- The meaning that document 000 gives to a statement: the published equations of B.3, picked by the classes of the parts (table 5.3). Assumes nothing.
-use mathlib.Core.Bool.{Bool}
-use mathlib.Core.Option.{Option, none, some}
-use mathlib.Core.Logic.{_⊎_, inl, inr, ⊎-elim}
+use mathlib.Core.Option.{Option}
 use mathlib.Core.List.{List, [], _∷_, _++_}
 use Prim.Native.Nat.{ℕ, suc, _+_}
 use lib.ListN.{set}
@@ -10,6 +8,7 @@ use Rattle.design.specs.Expression.{Expr, Out, fine, fault}
 use Rattle.design.specs.Statement.{Act, output, variable, null, Stmt, act, wait, if-then, if-else, while, seq, size, Class, A, B, C, seqClass, ifClass, classOf}
 use Rattle.semantics.specs.Evaluation.{isOne, evaluate, exactValue}
 use Rattle.semantics.specs.Effects.{Monad, printed, Step, ends, stops, traced}
+use Rattle.semantics.specs.Waits.{seqWaits, ifWaits, Waits}
 use Rattle.semantics.specs.Published.{ι, ω, φ, «type_a_statement», «type_b_statement», «type_c_statement», condition, «SIGNAL_ASSIGNMENT», «VARIABLE_ASSIGNMENT», «NULL_STATEMENT», «WAIT», «SEQ_AA», «SEQ_AB», «SEQ_AC», «SEQ_BA», «SEQ_BB», «SEQ_BC», «SEQ_CA», «SEQ_CB», «SEQ_CC», «IF_THEN_ELSE_AA», «IF_THEN_ELSE_AB», «IF_THEN_ELSE_AC», «IF_THEN_ELSE_BA», «IF_THEN_ELSE_BB», «IF_THEN_ELSE_BC», «IF_THEN_ELSE_CA», «IF_THEN_ELSE_CB», «IF_THEN_ELSE_CC», «WHILE_C», «CLOSE_C»}
 
 -- What performing the statement with the number n does, and an expression's value in that statement. Neither is part of the published equations.
@@ -31,81 +30,13 @@ raised n (fault q) w = stops q n
 abbrev pub tracing : Interpretation
 tracing = record { monad = traced; step = λ n w. ends tt (w ++ (n ∷ [])); value = λ n e si sq. raised n (evaluate e si sq) }
 
--- "γ is used to represent the set of wait statement positions within the statement" (5.2, 5.4)
-
--- of a sequence, by the classes of its parts and their waits γ and δ
-abbrev pub seqWaits : Class → Class → Type 0 → Type 0 → Type 0
-seqWaits A A γ δ = ⊥
-seqWaits A B γ δ = δ
-seqWaits A C γ δ = δ
-seqWaits B A γ δ = γ
-seqWaits B B γ δ = γ ⊎ δ
-seqWaits B C γ δ = γ ⊎ δ
-seqWaits C A γ δ = γ
-seqWaits C B γ δ = γ ⊎ δ
-seqWaits C C γ δ = γ ⊎ δ
-
--- the part that a wait of a sequence is in
-abbrev pub seqPart : (x y : Class) (γ δ : Type 0) → seqWaits x y γ δ → γ ⊎ δ
-seqPart A A γ δ w = absurd w
-seqPart A B γ δ w = inr w
-seqPart A C γ δ w = inr w
-seqPart B A γ δ w = inl w
-seqPart B B γ δ w = w
-seqPart B C γ δ w = w
-seqPart C A γ δ w = inl w
-seqPart C B γ δ w = w
-seqPart C C γ δ w = w
-
--- of an if; IF_THEN_ELSE_CB exchanges the branches
-abbrev pub ifWaits : Class → Class → Type 0 → Type 0 → Type 0
-ifWaits A A γ δ = ⊥
-ifWaits A B γ δ = δ
-ifWaits A C γ δ = δ
-ifWaits B A γ δ = γ
-ifWaits B B γ δ = γ ⊎ δ
-ifWaits B C γ δ = γ ⊎ δ
-ifWaits C A γ δ = γ
-ifWaits C B γ δ = δ ⊎ γ
-ifWaits C C γ δ = γ ⊎ δ
-
--- the branch that a wait of an if is in
-abbrev pub ifPart : (x y : Class) (γ δ : Type 0) → ifWaits x y γ δ → γ ⊎ δ
-ifPart A A γ δ w = absurd w
-ifPart A B γ δ w = inr w
-ifPart A C γ δ w = inr w
-ifPart B A γ δ w = inl w
-ifPart B B γ δ w = w
-ifPart B C γ δ w = w
-ifPart C A γ δ w = inl w
-ifPart C B γ δ w = ⊎-elim (λ d. inr d) (λ c. inl c) w
-ifPart C C γ δ w = w
-
--- of a statement
-abbrev pub Waits : Stmt → Type 0
-Waits (act a) = ⊥
-Waits wait = Unit {0}
-Waits (if-then e a) = ifWaits (classOf a) A (Waits a) ⊥
-Waits (if-else e a b) = ifWaits (classOf a) (classOf b) (Waits a) (Waits b)
-Waits (while e b) = Waits b
-Waits (seq a b) = seqWaits (classOf a) (classOf b) (Waits a) (Waits b)
-
--- the number of a wait of s, whose first number is n
-abbrev pub numberOf : (s : Stmt) → ℕ → Waits s → ℕ
-numberOf (act a) n w = absurd w
-numberOf wait n w = n
-numberOf (if-then e a) n w = ⊎-elim (numberOf a (suc n)) (λ v. absurd v) (ifPart (classOf a) A (Waits a) ⊥ w)
-numberOf (if-else e a b) n w = ⊎-elim (numberOf a (suc n)) (numberOf b (suc n + size a)) (ifPart (classOf a) (classOf b) (Waits a) (Waits b) w)
-numberOf (while e b) n w = numberOf b (suc n) w
-numberOf (seq a b) n w = ⊎-elim (numberOf a n) (numberOf b (n + size a)) (seqPart (classOf a) (classOf b) (Waits a) (Waits b) w)
-
 module _ (I : Interpretation) where
   abbrev E : Monad
   E = I .monad
 
   -- the statement with the number n is performed
-  unfoldable pub performed : {X : Type 0} → ℕ → E .Of X → E .Of X
-  performed n v = E .bind (I .step n) (λ u. v)
+  unfoldable pub performing : {X : Type 0} → ℕ → E .Of X → E .Of X
+  performing n v = E .bind (I .step n) (λ u. v)
 
   -- a statement's logical type, by its class (5.2)
   abbrev pub Sem : Class → Type 0 → Type 0
@@ -153,17 +84,17 @@ module _ (I : Interpretation) where
 
   -- assignments to the k-th output or variable, and null, with the number n
   unfoldable pub actSem : Act → ℕ → «type_a_statement» E
-  actSem (output k e) n si so sq = performed n («SIGNAL_ASSIGNMENT» E (λ si so sq. E .bind (I .value n e si sq) (λ z. E .pure (set so k z))) si so sq)
-  actSem (variable k e) n si so sq = performed n («VARIABLE_ASSIGNMENT» E (λ si sq. E .bind (I .value n e si sq) (λ z. E .pure (set sq k z))) si so sq)
-  actSem null n si so sq = performed n («NULL_STATEMENT» E si so sq)
+  actSem (output k e) n si so sq = performing n («SIGNAL_ASSIGNMENT» E (λ si so sq. E .bind (I .value n e si sq) (λ z. E .pure (set so k z))) si so sq)
+  actSem (variable k e) n si so sq = performing n («VARIABLE_ASSIGNMENT» E (λ si sq. E .bind (I .value n e si sq) (λ z. E .pure (set sq k z))) si so sq)
+  actSem null n si so sq = performing n («NULL_STATEMENT» E si so sq)
 
   -- a wait is performed when it is reached, not when it is resumed
   unfoldable pub waitSem : ℕ → «type_c_statement» E (Unit {0})
-  waitSem n = (λ si so sq. performed n («WAIT» E .0 si so sq), «WAIT» E .1)
+  waitSem n = (λ si so sq. performing n («WAIT» E .0 si so sq), «WAIT» E .1)
 
   -- the condition of the if or while with the number n
   unfoldable pub conditionSem : Expr → ℕ → condition E
-  conditionSem e n si sq = performed n (E .bind (I .value n e si sq) (λ z. E .pure (isOne z)))
+  conditionSem e n si sq = performing n (E .bind (I .value n e si sq) (λ z. E .pure (isOne z)))
 
   -- the meaning of s, whose first number is n; a missing else is a null without a number
   unfoldable pub sem : (s : Stmt) → ℕ → Sem (classOf s) (Waits s)

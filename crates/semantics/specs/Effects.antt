@@ -17,6 +17,7 @@ pub data Step (X : Type 0) : Type 0 where
   ends : X → List ℕ → Step X
   stops : (number line : ℕ) → Step X
 
+-- what comes after a step that ends
 unfoldable pub andThen : {X Y : Type 0} → Step X → (X → List ℕ → Step Y) → Step Y
 andThen (ends x w) k = k x w
 andThen (stops q n) k = stops q n

@@ -1,5 +1,5 @@
 -- A statement started or resumed, and a cycle of a process (document 01, "Composed over rows, the equations read so"). Assumes nothing.
-use mathlib.Core.Bool.{Bool, true, false, cond}
+use mathlib.Core.Bool.{Bool, true, false}
 use mathlib.Core.List.{List, [], _∷_, _++_}
 use Prim.Native.Nat.{ℕ, suc, _+_}
 use lib.ListN.{set}
@@ -30,7 +30,7 @@ perform (output k e) i m = bind (evaluate e i (m .variables)) (λ z. fine (recor
 perform (variable k e) i m = bind (evaluate e i (m .variables)) (λ z. fine (record { outputs = m .outputs; variables = set (m .variables) k z }))
 perform null i m = fine m
 
--- whether a condition holds
+-- a condition holds where its value is 1
 unfoldable pub holds : Expr → List ℤ → Memory → Out Bool
 holds e i m = bind (evaluate e i (m .variables)) (λ z. fine (isOne z))
 
@@ -55,11 +55,12 @@ tested (fine true) n σ f g = f (log n σ)
 tested (fine false) n σ f g = g (log n σ)
 tested (fault q) n σ f g = refused q n
 
+-- the first of two results where the test is true, else the second
 unfoldable pub pick : Bool → Result → Result → Result
 pick true x y = x
 pick false x y = y
 
--- s, whose first number is n, started. The body of a while is of class C, so that it is never passed when started: see `while-again`.
+-- s, whose first number is n, started over the input row i; that the C body of a while is never passed when started is in `while-again`
 unfoldable pub start : Stmt → ℕ → List ℤ → Run → Result
 -- "An assignment acts immediately and is passed, as is null."
 start (act a) n i σ = acted (perform a i (σ .memory)) n σ
@@ -73,7 +74,7 @@ start (while e b) n i σ = tested (holds e i (σ .memory)) n σ (λ τ. start b 
 -- "A sequence goes from part to part while they are passed"
 start (seq a b) n i σ = then (start a n i σ) (λ τ. start b (n + size a) i τ)
 
--- s, whose first number is n, resumed at its wait with the number p
+-- s, whose first number is n, resumed over the input row i at its wait with the number p
 unfoldable pub resume : Stmt → ℕ → ℕ → List ℤ → Run → Result
 -- an assignment or null has no wait and is never resumed
 resume (act a) n p i σ = passed σ
@@ -97,6 +98,6 @@ unfoldable pub enter : Stmt → Place → List ℤ → Run → Result
 enter s beginning i σ = start s 0 i σ
 enter s (at p) i σ = resume s 0 p i σ
 
--- One cycle of the process with the body s: "whenever passed, it is started again without stopping". That once is enough is `again`.
+-- one cycle of the process with the body s: "whenever passed, it is started again without stopping"; that once is enough is `again`
 unfoldable pub cycle : Stmt → Place → List ℤ → Run → Result
 cycle s q i σ = then (enter s q i σ) (λ τ. start s 0 i τ)

@@ -12,9 +12,11 @@ abbrev pub bitOf : Bool → ℤ
 bitOf true = pos 1
 bitOf false = pos 0
 
+-- a std_logic or boolean value is 1
 abbrev pub isOne : ℤ → Bool
 isOne z = eqZ z (pos 1)
 
+-- xor of two truth values
 abbrev pub differ : Bool → Bool → Bool
 differ true b = not b
 differ false b = b
@@ -42,12 +44,12 @@ binaryResult xor x y = bitOf (differ (isOne x) (isOne y))
 unfoldable pub asInteger : ℤ → Out ℤ
 asInteger z = cond (inRange z) (fine z) (fault 16)
 
--- an operator applied to a value; t is the type of the operand
+-- the sign can be refused by 16, not cannot; t is the type of the operand
 unfoldable pub applyUnary : Unary → ExprTy → ℤ → Out ℤ
 applyUnary sign t x = asInteger (unaryResult sign x)
 applyUnary invert t x = fine (unaryResult invert x)
 
--- an operator applied to two values; t is the type of the operands
+-- + and - can be refused by 16, no other operator can; t is the type of the operands
 unfoldable pub applyBinary : Binary → ExprTy → ℤ → ℤ → Out ℤ
 applyBinary plus t x y = asInteger (binaryResult plus x y)
 applyBinary minus t x y = asInteger (binaryResult minus x y)
@@ -68,6 +70,7 @@ leafValue i v (bit b) = bitOf b
 leafValue i v (input k) = getD i k (pos 0)
 leafValue i v (variable k) = getD v k (pos 0)
 
+-- how values are made of values, for `fold`
 abbrev pub values : List ℤ → List ℤ → Algebra ℤ
 values i v = record { ofLeaf = λ l. fine (leafValue i v l); ofUnary = applyUnary; ofBinary = applyBinary }
 

@@ -1,15 +1,17 @@
 -- The inputs and variables that an expression names. Assumes nothing.
-use mathlib.Core.Bool.{Bool, true, false, _||_}
+use mathlib.Core.Bool.{Bool, false, _||_}
 use Prim.Native.Nat.{ℕ}
 use lib.Dec.{eqb}
 use Rattle.design.specs.Expression.{Leaf, int, bit, input, variable, Expr, leaf, unary, binary}
 
+-- the leaf is the k-th data input
 unfoldable pub leafReadsInput : Leaf → ℕ → Bool
 leafReadsInput (int z) k = false
 leafReadsInput (bit b) k = false
 leafReadsInput (input j) k = eqb j k
 leafReadsInput (variable j) k = false
 
+-- the leaf is the k-th variable
 unfoldable pub leafReadsVariable : Leaf → ℕ → Bool
 leafReadsVariable (int z) k = false
 leafReadsVariable (bit b) k = false

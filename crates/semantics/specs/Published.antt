@@ -21,9 +21,11 @@ use Rattle.semantics.specs.Effects.{Monad}
 abbrev pub ι : Type 0
 ι = List ℤ
 
+-- the output, in declared order
 abbrev pub ω : Type 0
 ω = List ℤ
 
+-- the variables, in declared order
 abbrev pub φ : Type 0
 φ = List ℤ
 
@@ -44,33 +46,40 @@ true ⇒ x ∣ y = x
 false ⇒ x ∣ y = y
 
 module _ (E : Monad) where
+  -- a value with no effect
   abbrev pure : {X : Type 0} → X → E .Of X
   pure x = E .pure x
 
+  -- what a line `x ← e` of a do block stands for
   infixl 10 _>>=_
   abbrev _>>=_ : {X Y : Type 0} → E .Of X → (X → E .Of Y) → E .Of Y
   v >>= k = E .bind v k
 
-  -- table 5.2
+  -- "functions mapping the input, the old output and the old variable state to the current output and the new variable state" (5.2)
   abbrev pub «type_a_statement» : Type 0
   «type_a_statement» = ι → ω → φ → E .Of (ω × φ)
 
+  -- with the control state: "the extra element none is used to indicate the beginning", and in the result "the end of the statement" (5.2)
   abbrev pub «type_b_statement» : Type 0 → Type 0
   «type_b_statement» γ = ι → ω → φ → Option γ → E .Of (ω × φ × Option γ)
 
+  -- "the function is split into a pair of two functions", from the beginning and from a wait (5.2)
   abbrev pub «type_c_statement» : Type 0 → Type 0
   «type_c_statement» γ = (ι → ω → φ → E .Of (ω × φ × γ)) × (ι → ω → φ → γ → E .Of (ω × φ × Option γ))
 
+  -- "predicates on input signals and variable states" (5.2)
   abbrev pub condition : Type 0
   condition = ι → φ → E .Of Bool
 
+  -- the condition holds where cond does not
   unfoldable pub «negate_condition» : condition → condition
   «negate_condition» cond si sq = do
     b ← cond si sq
     pure (not b)
 
-  -- Basic statements.
+  -- Basic statements (5.3).
 
+  -- corrected, see above
   unfoldable pub «SIGNAL_ASSIGNMENT» : (ι → ω → φ → E .Of ω) → «type_a_statement»
   «SIGNAL_ASSIGNMENT» f si so sq = do
     so ← f si so sq
@@ -87,7 +96,7 @@ module _ (E : Monad) where
   unfoldable pub «WAIT» : «type_c_statement» (Unit {0})
   «WAIT» = (λ si so sq. pure (so, sq, tt), λ si so sq ss. pure (so, sq, none))
 
-  -- Sequences.
+  -- Sequences (5.4), by the types of their parts.
 
   unfoldable pub «SEQ_AA» : «type_a_statement» → «type_a_statement» → «type_a_statement»
   «SEQ_AA» pf pg si so sq = do
@@ -95,6 +104,7 @@ module _ (E : Monad) where
     (so, sq) ← pg si so sq
     pure (so, sq)
 
+  -- corrected, see above
   unfoldable pub «SEQ_AB» : {γ : Type 0} → «type_a_statement» → «type_b_statement» γ → «type_b_statement» γ
   «SEQ_AB» pf pg si so sq ssopt =
       «PRIMREC_option» ssopt
@@ -102,8 +112,9 @@ module _ (E : Monad) where
         (so, sq) ← pf si so sq
         (so, sq, ssopt) ← pg si so sq none
         pure (so, sq, ssopt))
-      (λ ss. pg si so sq (some ss))
+      (λ ss2. pg si so sq (some ss2))
 
+  -- corrected, see above
   unfoldable pub «SEQ_AC» : {γ : Type 0} → «type_a_statement» → «type_c_statement» γ → «type_c_statement» γ
   «SEQ_AC» pf (pga, pgb) = (
     λ si so sq. (do
@@ -214,7 +225,7 @@ module _ (E : Monad) where
           pure (so, sq, «PRIMREC_option» ss2opt none (λ ss2. some (inr ss2)))),
   )
 
-  -- If-then-else structures.
+  -- If-then-else structures (5.4), by the types of their branches.
 
   unfoldable pub «IF_THEN_ELSE_AA» : condition → «type_a_statement» → «type_a_statement» → «type_a_statement»
   «IF_THEN_ELSE_AA» cond pf pg si so sq = do
@@ -306,7 +317,7 @@ module _ (E : Monad) where
           pure (so, sq, «PRIMREC_option» ss2opt none (λ ss2. some (inr ss2)))),
   )
 
-  -- While loops.
+  -- While loops (5.4).
 
   unfoldable pub «WHILE_C» : {γ : Type 0} → condition → «type_c_statement» γ → «type_b_statement» γ
   «WHILE_C» conds (pfa, pfb) si so sq ssopt =
@@ -326,8 +337,9 @@ module _ (E : Monad) where
                 pure (so, sq, some ss)) ∣ pure (so, sq, none))
             (λ ss. pure (so, sq, ssopt)))
 
-  -- Processes.
+  -- Processes (5.5). CLOSE_A and PROCESS_A are no part of the product.
 
+  -- without the output row, see above
   unfoldable pub «CLOSE_C» : {γ : Type 0} → «type_c_statement» γ → ι → ω → φ → Option γ → E .Of (ω × φ × Option γ)
   «CLOSE_C» (pfa, pfb) si so sq ssopt =
       «PRIMREC_option» ssopt
@@ -342,6 +354,7 @@ module _ (E : Monad) where
               pure (so, sq, some ss))
             (λ ss. pure (so, sq, some ss)))
 
+  -- as printed: the output row is the old output state so′
   unfoldable pub «CLOSE_C-printed» : {γ : Type 0} → «type_c_statement» γ → ι → ω → φ → Option γ → E .Of (ω × (ω × φ) × Option γ)
   «CLOSE_C-printed» (pfa, pfb) si so′ sq ssopt =
       «PRIMREC_option» ssopt

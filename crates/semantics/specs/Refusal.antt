@@ -1,12 +1,12 @@
 -- Refusal 16 of a statement and of a cycle, without a method: an operator that is evaluated on the way leaves the integers, at the statement with
 -- the number x ("A refused operator (16) refuses the row, the refusal's place being its statement's number"). Assumes nothing.
 use mathlib.Core.Path.{_≡_}
-use mathlib.Core.Bool.{Bool, true, false}
+use mathlib.Core.Bool.{true, false}
 use mathlib.Core.Logic.{_⊎_}
 use mathlib.Core.List.{List}
 use Prim.Native.Nat.{ℕ, suc, _+_}
 use lib.IntN.{ℤ}
-use Rattle.design.specs.Expression.{Expr, fine}
+use Rattle.design.specs.Expression.{fine}
 use Rattle.design.specs.Statement.{Act, output, variable, null, Stmt, act, wait, if-then, if-else, while, seq, size, has}
 use Rattle.semantics.specs.Equations.{Memory, Run, passed, holds, log, start, resume, Place, beginning, at, enter}
 use Rattle.semantics.specs.Overflow.{Overflows}

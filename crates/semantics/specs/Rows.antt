@@ -1,5 +1,5 @@
 -- Rows: what each call answers and what is kept after it (document 01, "Composed over rows, the equations read so"). Assumes nothing.
-use mathlib.Core.Bool.{Bool, true, false, cond, _&&_}
+use mathlib.Core.Bool.{cond, _&&_}
 use mathlib.Core.Option.{Option, none, some}
 use mathlib.Core.List.{List, [], _∷_}
 use Prim.Native.Nat.{ℕ, suc}
@@ -7,8 +7,8 @@ use lib.ListN.{length}
 use lib.IntN.{ℤ}
 use lib.Dec.{eqb}
 use Rattle.design.specs.Types.{Ty, inType}
-use Rattle.design.specs.Process.{Source, Slot, Process, sourceTypes, initials}
-use Rattle.semantics.specs.Equations.{Memory, Run, Result, passed, reached, refused, Place, beginning, at, cycle}
+use Rattle.design.specs.Process.{Process, sourceTypes, initials}
+use Rattle.semantics.specs.Equations.{Memory, Result, passed, reached, refused, Place, beginning, at, cycle}
 
 -- "They are fed .. per call, the input row and the output row's length"
 pub record Call : Type 0 where
@@ -49,18 +49,27 @@ refusal (performed row way) = none
 refusal (row-refused place) = some (14, place)
 refusal (operator-refused line) = some (16, line)
 
--- "The wait reached becomes the place and ends the cycle; the output row gets all outputs"; "A refused operator (16) refuses the row ..;
--- all that is kept is then as before the row." A cycle of an accepted text's process is never passed: see `cycle-ends`.
-unfoldable pub ended : Result → Kept → Outcome × Kept
-ended (passed σ) k = (performed (σ .memory .outputs) (σ .way), record { place = beginning; memory = σ .memory })
-ended (reached p σ) k = (performed (σ .memory .outputs) (σ .way), record { place = at p; memory = σ .memory })
-ended (refused q n) k = (operator-refused n, k)
+-- the output row, where the row is performed
+unfoldable pub outputRow : Outcome → Option (List ℤ)
+outputRow (performed row way) = some row
+outputRow (row-refused place) = none
+outputRow (operator-refused line) = none
 
--- "A row that meets 14 is refused. Otherwise the data inputs .. hold it" and a cycle is performed
+-- what a cycle's result answers, and what is kept after it, where k was kept before
+unfoldable pub concluded : Result → Kept → Outcome × Kept
+-- no cycle of an accepted text's process is passed: see `cycle-ends`
+concluded (passed σ) k = (performed (σ .memory .outputs) (σ .way), record { place = beginning; memory = σ .memory })
+-- "The wait reached becomes the place and ends the cycle; the output row gets all outputs, what the cycle assigned included."
+concluded (reached p σ) k = (performed (σ .memory .outputs) (σ .way), record { place = at p; memory = σ .memory })
+-- "A refused operator (16) refuses the row ..; all that is kept is then as before the row." The number q is 16: see `refusal-16`.
+concluded (refused q n) k = (operator-refused n, k)
+
+-- "A row that meets 14 is refused. Otherwise the data inputs (all but the clock) hold it", and a cycle follows
 unfoldable pub judged : Option ℕ → Process → Kept → Call → Outcome × Kept
-judged none p k c = ended (cycle (p .body) (k .place) (c .inputs) (record { way = []; memory = k .memory })) k
+judged none p k c = concluded (cycle (p .body) (k .place) (c .inputs) (record { way = []; memory = k .memory })) k
 judged (some x) p k c = (row-refused x, k)
 
+-- one call on what is kept
 unfoldable pub row : Process → Kept → Call → Outcome × Kept
 row p k c = judged (rowRefusal p c) p k c
 
@@ -69,5 +78,6 @@ unfoldable pub rowsFrom : Process → Kept → List Call → List (Outcome × Ke
 rowsFrom p k [] = []
 rowsFrom p k (c ∷ cs) = let r = row p k c in r ∷ rowsFrom p (r .1) cs
 
+-- all calls, from what is kept at first
 unfoldable pub rows : Process → List Call → List (Outcome × Kept)
 rows p cs = rowsFrom p (atFirst p) cs

@@ -4,7 +4,7 @@ use mathlib.Core.Bool.{Bool, true}
 use mathlib.Core.List.{List, [], _∷_}
 use lib.IntN.{ℤ}
 use Rattle.design.specs.Types.{Ty, std-logic, ExprTy, plain, boolean, inType}
-use Rattle.design.specs.Process.{Source, Slot, Process, slotTypes}
+use Rattle.design.specs.Process.{Process, slotTypes}
 use Rattle.semantics.specs.Equations.{Memory}
 
 -- z is a value of an expression's type; a boolean is 0 or 1, as a std_logic is
@@ -20,6 +20,6 @@ Values (t ∷ ts) [] = ⊥
 Values (t ∷ ts) (z ∷ l) = (inType t z ≡ true) × Values ts l
 
 -- outputs and variables have the declared numbers and types
-pub record Sound (p : Process) (m : Memory) : Type 0 where
+pub record WellTyped (p : Process) (m : Memory) : Type 0 where
   pub outputs : Values (slotTypes (p .outputs)) (m .outputs)
   pub variables : Values (slotTypes (p .variables)) (m .variables)

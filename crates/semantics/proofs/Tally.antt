@@ -1,0 +1,52 @@
+-- tally's rows by document 01's reading and by the published equations, both by computing: the trace of document 01 (P1). Assumes nothing.
+use mathlib.Core.Path.{_≡_, refl}
+use mathlib.Core.List.{List, [], _∷_}
+use lib.IntN.{pos, negsuc}
+use native.Mathlib.Bridge.{le-by-compare, IsLe}
+use Rattle.design.specs.Types.{sameTy, sameType, inRange, inType}
+use Rattle.design.specs.Expression.{items, fold, bind, nth, plainly, sumType, orderType, binaryType, leafType, given, given2, typeOf}
+use Rattle.design.specs.Statement.{size, has, seqClass, classOf, LoopsC}
+use Rattle.design.specs.Process.{isType, fits, typedAct, typed, WellFormed}
+use Rattle.semantics.specs.Evaluation.{binaryResult, asInteger, applyBinary, leafValue, evaluate}
+use Rattle.semantics.specs.Equations.{perform, holds, log, then, acted, tested, pick, start, resume, at, enter, cycle}
+use Rattle.semantics.specs.Rows.{Kept, Outcome, performed, operator-refused, atFirst, wrongValue, rowRefusal, concluded, judged, row, rowsFrom, rows}
+use Rattle.semantics.specs.Effects.{andThen}
+use Rattle.semantics.specs.Published.{«PRIMREC_option», «PRIMREC_sum», _⇒_∣_, «SIGNAL_ASSIGNMENT», «VARIABLE_ASSIGNMENT», «WAIT», «SEQ_AC», «SEQ_BC», «WHILE_C», «CLOSE_C»}
+use Rattle.semantics.specs.Denotation.{raised, performing, actSem, waitSem, conditionSem, sem, process}
+use Rattle.semantics.specs.PublishedRows.{concludedPublished, judgedPublished, publishedFrom, publishedRows}
+use Rattle.semantics.specs.Tally.{tally, tallyCalls}
+
+-- "0 2 3 0", "1 2 3 0", "2 5 4 14", "3 2 3 14", "4 refused 16", "5 2 3 14": output row and way, and what is kept
+abbrev trace : List (Outcome × Kept)
+trace =
+    (performed (pos 0 ∷ []) (0 ∷ 1 ∷ 2 ∷ []), record { place = at 2; memory = record { outputs = pos 0 ∷ []; variables = pos 7 ∷ [] } })
+    ∷ (performed (pos 0 ∷ []) (0 ∷ 1 ∷ 2 ∷ []), record { place = at 2; memory = record { outputs = pos 0 ∷ []; variables = pos 14 ∷ [] } })
+    ∷ (performed (pos 14 ∷ []) (0 ∷ 3 ∷ 4 ∷ 5 ∷ []), record { place = at 5; memory = record { outputs = pos 14 ∷ []; variables = pos 0 ∷ [] } })
+    ∷ (performed (pos 14 ∷ []) (0 ∷ 1 ∷ 2 ∷ []), record { place = at 2; memory = record { outputs = pos 14 ∷ []; variables = negsuc 4 ∷ [] } })
+    ∷ (operator-refused 1, record { place = at 2; memory = record { outputs = pos 14 ∷ []; variables = negsuc 4 ∷ [] } })
+    ∷ (performed (pos 14 ∷ []) (0 ∷ 1 ∷ 2 ∷ []), record { place = at 2; memory = record { outputs = pos 14 ∷ []; variables = pos 15 ∷ [] } })
+    ∷ []
+
+pub tally-rows : rows tally tallyCalls ≡ trace
+unfolding rows rowsFrom tallyCalls tally row judged rowRefusal wrongValue inType inRange concluded cycle then enter atFirst start resume tested holds bind evaluate fold applyBinary asInteger binaryResult leafValue perform acted log pick has size
+tally-rows = refl
+
+pub tally-published : publishedRows tally tallyCalls ≡ trace
+unfolding publishedRows publishedFrom tallyCalls tally judgedPublished concludedPublished rowRefusal wrongValue inType inRange process sem classOf seqClass actSem waitSem conditionSem performing raised andThen «PRIMREC_option» «PRIMREC_sum» _⇒_∣_ «SIGNAL_ASSIGNMENT» «VARIABLE_ASSIGNMENT» «WAIT» «SEQ_AC» «SEQ_BC» «WHILE_C» «CLOSE_C» bind evaluate fold applyBinary asInteger binaryResult leafValue size
+tally-published = refl
+
+-- tally is a well-formed process, so that every theorem about well-formed processes speaks of it.
+pub tally-well-formed : WellFormed tally
+unfolding tally size seqClass classOf LoopsC IsLe typed typedAct fits isType items typeOf given given2 leafType plainly nth binaryType sumType orderType sameType sameTy inType inRange
+tally-well-formed =
+    record {
+      inputs = le-by-compare 1 16 tt;
+      outputs = le-by-compare 1 16 tt;
+      variables = le-by-compare 1 32 tt;
+      statements = le-by-compare 6 512 tt;
+      initial-outputs = (refl, tt);
+      initial-variables = (refl, tt);
+      typed = refl;
+      class = refl;
+      loops = ((refl, (tt, tt)), (tt, (tt, tt)));
+    }
