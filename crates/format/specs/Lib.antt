@@ -1,2 +1,12 @@
 pub mod Lines
 pub mod Walk
+pub mod Words
+pub mod Code
+pub mod Signature
+pub mod Image
+pub mod Good
+pub mod Opening
+pub mod Refusals
+pub mod State
+pub mod Cycle
+pub mod Encode

@@ -1,0 +1,26 @@
+-- Facts about options and tests that the other proofs cite. Assumes nothing.
+use mathlib.Core.Path.{_≡_, refl}
+use mathlib.Core.Bool.{Bool, true, false, cond, _&&_}
+use mathlib.Core.Option.{Option, none, some, Option·map, bind}
+use Rattle.semantics.proofs.Basic.{none-some, some-injective}
+use Rattle.format.specs.Words.{onlyIf}
+
+pub andThen-some : {X Y : Type 0} (o : Option X) (k : X → Option Y) (y : Y) → bind o k ≡ some y → (x : X) × (o ≡ some x) × (k x ≡ some y)
+unfolding bind
+andThen-some none k y e = none-some y e
+andThen-some (some x) k y e = (x, refl, e)
+
+pub map-some : {X Y : Type 0} (f : X → Y) (o : Option X) (y : Y) → Option·map f o ≡ some y → (x : X) × (o ≡ some x) × (f x ≡ y)
+map-some f none y e = none-some y e
+map-some f (some x) y e = (x, refl, some-injective (f x) y e)
+
+pub onlyIf-some : {X : Type 0} (b : Bool) {x : Option X} (y : X) → onlyIf b x ≡ some y → (b ≡ true) × (x ≡ some y)
+onlyIf-some true y e = (refl, e)
+onlyIf-some false y e = none-some y e
+
+pub cond-case : {X P : Type 0} (b : Bool) {x y z : X} → cond b x y ≡ z → (b ≡ true → x ≡ z → P) → (b ≡ false → y ≡ z → P) → P
+cond-case true e f g = f refl e
+cond-case false e f g = g refl e
+
+pub and-both : (a b : Bool) → a ≡ true → b ≡ true → (a && b) ≡ true
+and-both a b p q = rw (p, q)

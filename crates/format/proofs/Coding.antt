@@ -1,0 +1,143 @@
+-- Running the code of an expression on a stack is recursion over the expression, and decoding is the inverse of coding: by induction on the
+-- expression one way, by induction on the operations the other. Assumes nothing.
+use Prim.Native.Nat.{ℕ, zero, suc, _+_, _-_, _*_, _/_, _%_, _≤_, _<_}
+use native.Mathlib.Omega.{arith}
+use mathlib.Core.Path.{_≡_, refl, sym, ap, _∙_}
+use mathlib.Core.Logic.{_↔_}
+use mathlib.Core.Bool.{Bool, true, false, cond, _&&_}
+use mathlib.Core.Option.{Option, none, some, Option·map, bind as andThen}
+use mathlib.Core.List.{List, [], _∷_, _++_, append-assoc, append-nil}
+use lib.ListN.{length, length-append}
+use lib.IntN.{ℤ}
+use lib.Dec.{eqb}
+use Rattle.design.specs.Types.{Ty, integer, ExprTy, plain, boolean, sameType, inRange}
+use Rattle.design.specs.Expression.{Leaf, int, bit, input, variable, Unary, sign, invert, Binary, plus, minus, equal, unequal, less, at-most, greater, at-least, and, or, xor, Expr, leaf, unary, binary, items, Out, fine, fault, bind, Algebra, fold, leafType, unaryType, binaryType, given, given2, typeOf}
+use Rattle.design.proofs.Types.{sameType-eq, sameType-refl}
+use Rattle.semantics.specs.Evaluation.{applyUnary, applyBinary, values, evaluate}
+use Rattle.semantics.proofs.Basic.{false-true, none-some, fault-fine, some-injective, fine-injective, eqb-true}
+use Rattle.format.specs.Words.{Bytes, word4, bytes4, signed32, unsigned32}
+use Rattle.format.specs.Code.{Operation, push, apply1, apply2, post, unaryByte, binaryByte, bitByte, first, others, operationBytes, code, Taken, readInt, bitOf, readBit, readName, operator, readOperation, operations, Machine, onto, run, runOperations, runCode, untyped, withType, typed, trees, valueOf, decode}
+use Rattle.format.proofs.Words.{word4-small, signed-range, integer-bytes, bytes-integer}
+use Rattle.format.proofs.Basic.{andThen-some, map-some, cond-case}
+
+-- Values handed on.
+
+pub bind-cong : {X Y : Type 0} (o : Out X) (k g : X → Out Y) → ((x : X) → k x ≡ g x) → bind o k ≡ bind o g
+unfolding bind
+bind-cong (fine x) k g h = h x
+bind-cong (fault q) k g h = refl
+
+pub bind-bind : {X Y Z : Type 0} (o : Out X) (f : X → Out Y) (k : Y → Out Z) → bind (bind o f) k ≡ bind o (λ x. bind (f x) k)
+unfolding bind
+bind-bind (fine x) f k = refl
+bind-bind (fault q) f k = refl
+
+bind-itself : {X : Type 0} (o : Out X) → bind o (λ x. fine x) ≡ o
+unfolding bind
+bind-itself (fine x) = refl
+bind-itself (fault q) = refl
+
+onto-bind : {X : Type 0} (o : Out X) (st : List X) (k : List X → Out X) → onto o st k ≡ bind o (λ x. k (x ∷ st))
+unfolding onto bind
+onto-bind (fine x) st k = refl
+onto-bind (fault q) st k = refl
+
+-- A machine as an algebra: it does not look at types.
+abbrev pub untypedAlgebra : {X : Type 0} → Machine X → Algebra X
+untypedAlgebra M = record { ofLeaf = M .ofLeaf; ofUnary = λ o t x. M .ofUnary o x; ofBinary = λ o t x y. M .ofBinary o x y }
+
+module _ {X : Type 0} (M : Machine X) where
+  -- the operations of an expression push what the recursion gives
+  pub run-post : (e : Expr) (is : List Operation) (st : List X) → run M (post e ++ is) st ≡ bind (fold (untypedAlgebra M) e) (λ x. run M is (x ∷ st))
+  unfolding post run fold
+  run-post (leaf l) is st = onto-bind (M .ofLeaf l) st _
+  run-post (unary o t a) is st =
+      ap (λ l. run M l st) (append-assoc (post a) (apply1 o ∷ []) is) ∙ run-post a (apply1 o ∷ is) st
+      ∙ bind-cong (fold (untypedAlgebra M) a) _ _ (λ x. onto-bind (M .ofUnary o x) st _) ∙ sym (bind-bind (fold (untypedAlgebra M) a) (λ x. M .ofUnary o x) _)
+  run-post (binary o t a b) is st =
+      ap (λ l. run M l st) (append-assoc (post a) _ is ∙ ap (λ l. post a ++ l) (append-assoc (post b) (apply2 o ∷ []) is))
+      ∙ run-post a (post b ++ (apply2 o ∷ is)) st
+      ∙ bind-cong (fold (untypedAlgebra M) a) _ _ (λ x. run-post b (apply2 o ∷ is) (x ∷ st)
+      ∙ bind-cong (fold (untypedAlgebra M) b) _ _ (λ y. onto-bind (M .ofBinary o x y) st _) ∙ sym (bind-bind (fold (untypedAlgebra M) b) (λ y. M .ofBinary o x y) _))
+      ∙ sym (bind-bind (fold (untypedAlgebra M) a) (λ x. bind (fold (untypedAlgebra M) b) (λ y. M .ofBinary o x y)) _)
+
+  pub run-tree : (e : Expr) → run M (post e) [] ≡ fold (untypedAlgebra M) e
+  unfolding run
+  run-tree e = ap (λ l. run M l []) (sym (append-nil (post e))) ∙ run-post e [] [] ∙ bind-itself (fold (untypedAlgebra M) e)
+
+-- "1 to 64 operations" are the literals, names and operators
+pub post-items : (e : Expr) → length (post e) ≡ items e
+unfolding post items
+post-items (leaf l) = refl
+post-items (unary o t a) = length-append (post a) (apply1 o ∷ []) ∙ omega (arith, post-items a)
+post-items (binary o t a b) =
+    length-append (post a) (post b ++ (apply2 o ∷ [])) ∙ omega (arith, length-append (post b) (apply2 o ∷ []), post-items a, post-items b)
+
+-- Operations are read back from their bytes.
+
+-- integer literals are integers: nothing else is asked of an operation to be read back
+abbrev pub CodableLeaf : Leaf → Type 0
+CodableLeaf (int z) = inRange z ≡ true
+CodableLeaf (bit b) = Unit {0}
+CodableLeaf (input k) = Unit {0}
+CodableLeaf (variable k) = Unit {0}
+
+abbrev pub CodableOperation : Operation → Type 0
+CodableOperation (push l) = CodableLeaf l
+CodableOperation (apply1 o) = Unit {0}
+CodableOperation (apply2 o) = Unit {0}
+
+unfoldable pub Codable : List Operation → Type 0
+Codable [] = Unit {0}
+Codable (i ∷ is) = CodableOperation i × Codable is
+
+pub codable-append : (a b : List Operation) → Codable a → Codable b → Codable (a ++ b)
+unfolding Codable
+codable-append [] b ha hb = hb
+codable-append (i ∷ a) b ha hb = (ha .0, codable-append a b (ha .1) hb)
+
+read-apply1 : (o : Unary) (s : List ℕ) → readOperation (unaryByte o) s ≡ some (apply1 o, s)
+read-apply1 sign s = refl
+read-apply1 invert s = refl
+
+read-apply2 : (o : Binary) (s : List ℕ) → readOperation (binaryByte o) s ≡ some (apply2 o, s)
+read-apply2 plus s = refl
+read-apply2 minus s = refl
+read-apply2 equal s = refl
+read-apply2 unequal s = refl
+read-apply2 less s = refl
+read-apply2 at-most s = refl
+read-apply2 greater s = refl
+read-apply2 at-least s = refl
+read-apply2 and s = refl
+read-apply2 or s = refl
+read-apply2 xor s = refl
+
+read-bit : (b : Bool) (s : List ℕ) → readOperation 2 (bitByte b ∷ s) ≡ some (push (bit b), s)
+read-bit true s = refl
+read-bit false s = refl
+
+pub read-operation : (i : Operation) (s : List ℕ) → CodableOperation i → readOperation (first i) (others i ++ s) ≡ some (i, s)
+read-operation (push (int z)) s h = ap {B = Taken} (λ n. some (push (int n), s)) (integer-bytes z h)
+read-operation (push (bit b)) s h = read-bit b s
+read-operation (push (input k)) s h = refl
+read-operation (push (variable k)) s h = refl
+read-operation (apply1 o) s h = read-apply1 o s
+read-operation (apply2 o) s h = read-apply2 o s
+
+some-map : {X Y : Type 0} (f : X → Y) (x : X) (o : Option X) → o ≡ some x → Option·map f o ≡ some (f x)
+some-map f x o e = rw e
+
+pub operations-bytes : (is : List Operation) (f : ℕ) → Codable is → length (operationBytes is) ≤ f → operations f (operationBytes is) ≡ some is
+unfolding operations operationBytes Codable andThen
+operations-bytes [] zero h l = refl
+operations-bytes [] (suc f) h l = refl
+operations-bytes (i ∷ is) zero h l = absurd (omega arith)
+operations-bytes (i ∷ is) (suc f) h l =
+    rw (read-operation i (operationBytes is) (h .0))
+    (some-map (λ l. i ∷ l) is _ (operations-bytes is f (h .1) (omega (arith, length-append (others i) (operationBytes is)))))
+
+-- The code bytes of an expression, run on a stack, come to what recursion over the expression gives, for any machine.
+pub run-code : {X : Type 0} (M : Machine X) (e : Expr) → Codable (post e) → runCode M (code e) ≡ fold (untypedAlgebra M) e
+unfolding runCode code runOperations
+run-code M e h = rw (operations-bytes (post e) (length (operationBytes (post e))) h (omega arith)) (run-tree M e)

@@ -1,0 +1,11 @@
+pub mod Basic
+pub mod Words
+pub mod Coding
+pub mod Decoding
+pub mod Signature
+pub mod Sections
+pub mod Lines
+pub mod Opens
+pub mod Refusals
+pub mod Encoded
+pub mod Examples

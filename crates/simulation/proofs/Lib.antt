@@ -1,0 +1,12 @@
+pub mod Lines
+pub mod Ranked
+pub mod Reaches
+pub mod Cycle
+pub mod Below
+pub mod Steps
+pub mod Walked
+pub mod Way
+pub mod Rest
+pub mod Passes
+pub mod Flat
+pub mod Tally

@@ -1,0 +1,3 @@
+pub mod Places
+pub mod Ranked
+pub mod Walked

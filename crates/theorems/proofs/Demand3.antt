@@ -1,0 +1,108 @@
+-- Demand 3. Every call on the image is a call of the equations (`one-row`), and what the equations keep stays as `Invariant` says; so, by induction on
+-- the list of calls, all calls are. Assumes nothing.
+use mathlib.Core.Path.{_≡_, refl, sym, _∙_, ap, subst}
+use mathlib.Core.Bool.{Bool, true, false, cond}
+use mathlib.Core.Logic.{_⊎_, inl, inr}
+use mathlib.Core.List.{List, [], _∷_, _++_}
+use Prim.Native.Nat.{ℕ, suc, _≤_}
+use native.Mathlib.Omega.{arith}
+use lib.ListN.{length, take, drop}
+use lib.Seq.{take-at}
+use lib.IntN.{ℤ}
+use lib.Dec.{leb}
+use Rattle.answers.specs.declared.State.{State}
+use Rattle.design.specs.Statement.{size}
+use Rattle.design.specs.Process.{Process, WellFormed}
+use Rattle.language.specs.Validity.{Valid}
+use Rattle.language.specs.Verdict.{Verdict, accepted, refused, verdict}
+use Rattle.language.proofs.Judged.{accepts}
+use Rattle.language.proofs.WellFormed.{valid-well-formed}
+use Rattle.semantics.specs.Equations.{Run, reached}
+use Rattle.semantics.specs.Rows.{Kept, Outcome, performed, row-refused, operator-refused, row, atFirst}
+use Rattle.semantics.specs.Answer.{Invariant, Answers, by-14, by-16, performs, fresh}
+use Rattle.semantics.proofs.Rows.{first-invariant, row-answers, row-invariant}
+use Rattle.format.specs.Opening.{Opened, opened, openOf}
+use Rattle.format.specs.State.{Started, freshFrom, freshOf, freshTable}
+use Rattle.format.specs.State as S
+use Rattle.format.specs.Cycle.{Called, Call, unlessClosed, cycleOf, rowOf, callsOf}
+use Rattle.format.specs.Encode.{tableOf, encode}
+use Rattle.theorems.specs.Compile.{Compiled, written, not-compiled, Compile, written-into, onVerdict, compileOf}
+use Rattle.theorems.specs.Comparison.{fed, laid, told, seen, equationCalls}
+use Rattle.theorems.specs.Demand3.{Short, AllShort, Demand3}
+use Rattle.simulation.proofs.Way.{cycle-bound}
+use Rattle.theorems.proofs.Size.{valid-fits}
+use Rattle.theorems.proofs.OneRow.{fresh-laid, one-row}
+
+module _ (p : Process) (w : WellFormed p) (o : openOf (encode p) ≡ opened (tableOf p)) where
+  -- one call
+  one-call : (k : Kept) → Invariant p k → (c : Call) → cycleOf (encode p) (laid k) (c .inputs) (c .outputs) ≡ seen (row p k (fed c)) c
+  unfolding cycleOf
+  one-call k v c = rw o (one-row p w k v c)
+
+  -- all calls
+  calls-same : (cs : List Call) (k : Kept) → Invariant p k → callsOf (encode p) (laid k) cs ≡ equationCalls p k cs
+  unfolding callsOf equationCalls
+  calls-same [] k v = refl
+  calls-same (c ∷ cs) k v = rw (one-call k v c) (ap (λ (l : List Called). seen (row p k (fed c)) c ∷ l) (calls-same cs (row p k (fed c) .1) (row-invariant p w k (fed c) v)))
+
+  -- ways
+  way-short : (k : Kept) → Invariant p k → (c : Call) → Short p (laid k .place) (told (row p k (fed c) .0))
+  unfolding S.stateFor
+  way-short k v c = go (row p k (fed c)) (row-answers p w k (fed c))
+    where
+      go : (r : Outcome × Kept) → Answers p k (fed c) r → Short p (laid k .place) (told (r .0))
+      go r (by-14 x m) = tt
+      go r (by-16 n m q) = tt
+      go r (performs x τ m e y) = (y .distinct, y .short, cycle-bound (p .body) (w .class) (w .loops) (w .statements) (k .place) (v .place) (c .inputs) (fresh (k .memory)) τ x refl e)
+
+  ways-short : (cs : List Call) (k : Kept) → Invariant p k → AllShort p (laid k) (equationCalls p k cs)
+  unfolding equationCalls
+  ways-short [] k v = tt
+  ways-short (c ∷ cs) k v = (way-short k v c, ways-short cs (row p k (fed c) .1) (row-invariant p w k (fed c) v))
+
+-- what a compile that wrote n bytes wrote
+record Wrote (text buffer : List ℕ) (n : ℕ) : Type 0 where
+  process : Process
+  verdict : verdict text ≡ accepted process
+  image : take n (compileOf text buffer .buffer) ≡ encode process
+
+not-written : {A : Type 0} {q k n : ℕ} → not-compiled q k ≡ written n → A
+not-written e = absurd (let z : _≡_ {A = ℕ} 0 1 = cc in omega arith)
+
+wrote : (text buffer : List ℕ) (n : ℕ) → compileOf text buffer .answer ≡ written n → Wrote text buffer n
+unfolding compileOf written-into
+wrote text buffer n e = on (verdict text) refl
+  where
+    on : (v : Verdict) → verdict text ≡ v → Wrote text buffer n
+    on (refused q k) h = not-written (sym (ap (λ (v : Verdict). onVerdict v buffer .answer) h) ∙ e)
+    on (accepted p) h = fits (leb (length (encode p)) (length buffer)) refl
+      where
+        fits : (b : Bool) → leb (length (encode p)) (length buffer) ≡ b → Wrote text buffer n
+        fits true l =
+            let c : compileOf text buffer ≡ record { answer = written (length (encode p)); buffer = encode p ++ drop (length (encode p)) buffer } = rw (h, l) in
+            let a : written (length (encode p)) ≡ written n = sym (ap (λ (r : Compile). r .answer) c) ∙ e in
+            let m : length (encode p) ≡ n = cc in
+            record { process = p; verdict = h; image = ap (λ (r : Compile). take n (r .buffer)) c ∙ take-at (encode p) (drop (length (encode p)) buffer) n m }
+        fits false l =
+            let c : compileOf text buffer ≡ record { answer = not-compiled 10 (length (encode p)); buffer = buffer } = rw (h, l) in
+            not-written (sym (ap (λ (r : Compile). r .answer) c) ∙ e)
+
+module _ (encode-opens : (p : Process) → WellFormed p → length (encode p) ≤ 65535 → openOf (encode p) ≡ opened (tableOf p)) where
+  -- THE THEOREM
+  pub demand3 : (text buffer : List ℕ) (n : ℕ) → compileOf text buffer .answer ≡ written n → Demand3 text buffer n
+  unfolding freshOf
+  demand3 text buffer n e =
+      let r = wrote text buffer n e in
+      let p = r .process in
+      let v : Valid text p = accepts text p .0 (r .verdict) in
+      let w : WellFormed p = valid-well-formed v in
+      let o : openOf (encode p) ≡ opened (tableOf p) = encode-opens p w (valid-fits text p v) in
+      let i = first-invariant p w in
+      record {
+        process = p;
+        valid = v;
+        state = laid (atFirst p);
+        starts = ap (λ (b : List ℕ). freshFrom (openOf b)) (r .image) ∙ (ap freshFrom o ∙ ap S.fresh (fresh-laid p));
+        same = λ cs. ap (λ (b : List ℕ). callsOf b (laid (atFirst p)) cs) (r .image) ∙ calls-same p w o cs (atFirst p) i;
+        short = λ cs. ways-short p w o cs (atFirst p) i;
+      }

@@ -1,0 +1,184 @@
+-- For every state record, reached or not, a cycle on the image of an accepted text is the direct run of the text: both refuse the same records by 15, and
+-- one that is not refused is the layout of what the equations keep. Assumes nothing.
+use mathlib.Core.Path.{_≡_, refl, sym, _∙_, ap, subst}
+use mathlib.Core.Bool.{Bool, true, false, cond, _&&_, _||_}
+use mathlib.Core.Logic.{_⊎_, inl, inr, ⊎-elim}
+use mathlib.Core.Option.{Option, none, some}
+use mathlib.Core.List.{List, [], _∷_, _++_}
+use Prim.Native.Nat.{ℕ, zero, suc, _+_, _≤_, _<_}
+use native.Mathlib.Omega.{arith}
+use lib.ListN.{length, take}
+use lib.IntN.{ℤ, pos, negsuc}
+use lib.Dec.{eqb, ltb}
+use borrow.Author.Tests.{ltb-true, lt-ltb}
+use Rattle.answers.specs.declared.State.{State}
+use Rattle.design.specs.Types.{Ty, eqZ, inType}
+use Rattle.design.specs.Statement.{Stmt, act, wait, if-then, if-else, while, seq, size, has}
+use Rattle.design.specs.Process.{Process, Slot, slotTypes, WellFormed}
+use Rattle.semantics.specs.Equations.{Place, beginning, at}
+use Rattle.semantics.specs.Rows.{Kept, rowRefusal, row, judged}
+use Rattle.semantics.specs.Values.{Values}
+use Rattle.semantics.specs.Answer.{Placed, Invariant}
+use Rattle.semantics.proofs.Basic.{false-true, eqb-true, eqb-same, and-left, and-right, or-left, or-right, or-other}
+use Rattle.semantics.proofs.Results.{has-below}
+use Rattle.format.specs.Lines.{Line, waits, acts, branches, line, linesOf}
+use Rattle.format.specs.State.{zeros, slotsOk, isWait, placeOk, stateOk, pad, stateFor}
+use Rattle.format.specs.Opening.{opened, openOf}
+use Rattle.format.specs.Cycle.{Called, turnedBack, unless14, tableRow, rowOf, cycleOf, Call}
+use Rattle.format.specs.Encode.{tableOf, encode, signatureFor}
+use Rattle.simulation.specs.Places.{number}
+use Rattle.theorems.specs.Comparison.{fed, laid, seen}
+use Rattle.theorems.specs.Direct.{fitsText, placeFor, keptOf, cycled, directRow}
+use Rattle.simulation.proofs.Lines.{Each, linesOf-each, linesOf-length, below-or}
+use Rattle.theorems.proofs.OneRow.{map-length, cells-types, same-14, wait-line, same-cycle}
+
+later : (n p : ℕ) → n ≤ p → (suc n ≤ p) ⊎ (n ≡ p)
+later n p l = ⊎-elim (λ v. inl v) (λ v. inr (omega arith)) (below-or n p)
+
+-- a line that is a wait is a wait's number
+line-wait : (t : List Line) (s : Stmt) (n f : ℕ) → Each (λ x l. line t x ≡ l) s n f → (p : ℕ) → n ≤ p → p < n + size s → isWait (line t p) ≡ true → has s n p ≡ true
+unfolding has Each size
+line-wait t (act a) n f h p lo hi e = let q : n ≡ p = omega arith in false-true (sym (ap isWait (rw q at h)) ∙ e)
+line-wait t wait n f h p lo hi e = let q : p ≡ n = omega arith in rw q (eqb-same n)
+line-wait t (if-then c a) n f h p lo hi e = ⊎-elim (λ q. line-wait t a (suc n) f (h .1) p q (omega arith) e) (λ q. false-true (sym (ap isWait (rw q at (h .0))) ∙ e)) (later n p lo)
+line-wait t (if-else c a b) n f h p lo hi e =
+    ⊎-elim (λ q. ⊎-elim (λ v. or-left (has a (suc n) p) (has b (suc n + size a) p) (line-wait t a (suc n) f (h .1) p q v e))
+    (λ v. or-right (has a (suc n) p) (has b (suc n + size a) p) (line-wait t b (suc n + size a) f (h .2) p v (omega arith) e)) (below-or p (suc n + size a)))
+    (λ q. false-true (sym (ap isWait (rw q at (h .0))) ∙ e)) (later n p lo)
+line-wait t (while c b) n f h p lo hi e = ⊎-elim (λ q. line-wait t b (suc n) n (h .1) p q (omega arith) e) (λ q. false-true (sym (ap isWait (rw q at (h .0))) ∙ e)) (later n p lo)
+line-wait t (seq a b) n f h p lo hi e =
+    ⊎-elim (λ v. or-left (has a n p) (has b (n + size a) p) (line-wait t a n (n + size a) (h .0) p lo v e))
+    (λ v. or-right (has a n p) (has b (n + size a) p) (line-wait t b (n + size a) f (h .1) p v (omega arith) e)) (below-or p (n + size a))
+
+-- both accept the same places
+same-bool : (a b : Bool) → (a ≡ true → b ≡ true) → (b ≡ true → a ≡ true) → a ≡ b
+same-bool true b f g = sym (f refl)
+same-bool false true f g = g refl
+same-bool false false f g = refl
+
+same-place : (s : Stmt) (n : ℕ) → (ltb n (length (linesOf s)) && isWait (line (linesOf s) n)) ≡ has s 0 n
+same-place s n = same-bool _ (has s 0 n) there back
+  where
+    there : (ltb n (length (linesOf s)) && isWait (line (linesOf s) n)) ≡ true → has s 0 n ≡ true
+    there e =
+        let l : n < length (linesOf s) = ltb-true n (length (linesOf s)) (and-left (ltb n (length (linesOf s))) (isWait (line (linesOf s) n)) e) in
+        let z = linesOf-length s in
+        let u : n < 0 + size s = omega arith in
+        let o : 0 ≤ n = omega arith in
+        line-wait (linesOf s) s 0 0 (linesOf-each s) n o u (and-right (ltb n (length (linesOf s))) (isWait (line (linesOf s) n)) e)
+
+    back : has s 0 n ≡ true → (ltb n (length (linesOf s)) && isWait (line (linesOf s) n)) ≡ true
+    back h =
+        let z = linesOf-length s in
+        let b = has-below s 0 n h in
+        let l : n < length (linesOf s) = omega arith in
+        rw (lt-ltb n (length (linesOf s)) l, wait-line (linesOf s) s 0 0 (linesOf-each s) n h)
+
+-- 15 is the same
+same-15 : (p : Process) (s : State) → stateOk (tableOf p) s ≡ fitsText p s
+unfolding stateOk fitsText placeOk tableOf signatureFor
+same-15 p s = rw (same-place (p .body) (s .place), cells-types (p .outputs), cells-types (p .variables))
+
+-- a slot that is 0
+zero-slot : (z : ℤ) → eqZ z (pos 0) ≡ true → z ≡ pos 0
+zero-slot (pos a) e = ap pos (eqb-true a 0 e)
+zero-slot (negsuc a) e = false-true e
+
+zeros-pad : (n : ℕ) (l : List ℤ) → length l ≡ n → zeros l ≡ true → pad n [] ≡ l
+unfolding zeros pad
+zeros-pad zero [] h e = refl
+zeros-pad zero (z ∷ l) h e = absurd (omega arith)
+zeros-pad (suc n) [] h e = absurd (omega arith)
+zeros-pad (suc n) (z ∷ l) h e =
+    let a = zero-slot z (and-left (eqZ z (pos 0)) (zeros l) e) in
+    let b = zeros-pad n l (omega arith) (and-right (eqZ z (pos 0)) (zeros l) e) in
+    cc
+
+-- slots that are as they should be: the used ones are of their types, and with 0 after them they are all slots
+slots-values : (ts : List Ty) (l : List ℤ) → slotsOk ts l ≡ true → Values ts (take (length ts) l)
+unfolding slotsOk Values
+slots-values [] l e = tt
+slots-values (t ∷ ts) [] e = false-true e
+slots-values (t ∷ ts) (z ∷ l) e = (and-left (inType t z) (slotsOk ts l) e, slots-values ts l (and-right (inType t z) (slotsOk ts l) e))
+
+slots-pad : (n : ℕ) (ts : List Ty) (l : List ℤ) → length l ≡ n → slotsOk ts l ≡ true → pad n (take (length ts) l) ≡ l
+unfolding slotsOk pad
+slots-pad n [] l h e = zeros-pad n l h e
+slots-pad n (t ∷ ts) [] h e = false-true e
+slots-pad zero (t ∷ ts) (z ∷ l) h e = absurd (omega arith)
+slots-pad (suc n) (t ∷ ts) (z ∷ l) h e = ap (λ (k : List ℤ). z ∷ k) (slots-pad n ts l (omega arith) (and-right (inType t z) (slotsOk ts l) e))
+
+number-back : (n : ℕ) → number (placeFor n) ≡ n
+unfolding placeFor
+number-back n = go (eqb n 512) refl
+  where
+    go : (b : Bool) → eqb n 512 ≡ b → number (cond b beginning (at n)) ≡ n
+    go true e = sym (eqb-true n 512 e)
+    go false e = refl
+
+placed-for : (s : Stmt) (n : ℕ) → (eqb n 512 || has s 0 n) ≡ true → Placed s (placeFor n)
+unfolding placeFor Placed
+placed-for s n e = go (eqb n 512) refl
+  where
+    go : (b : Bool) → eqb n 512 ≡ b → Placed s (cond b beginning (at n))
+    go true h = tt
+    go false h = or-other (eqb n 512) (has s 0 n) h e
+
+module _ (p : Process) (s : State) (f : fitsText p s ≡ true) where
+  abbrev place-fits : Bool
+  place-fits = eqb (s .place) 512 || has (p .body) 0 (s .place)
+
+  abbrev outputs-fit : Bool
+  outputs-fit = eqb (length (s .outputs)) 16 && slotsOk (slotTypes (p .outputs)) (s .outputs)
+
+  abbrev variables-fit : Bool
+  variables-fit = eqb (length (s .variables)) 32 && slotsOk (slotTypes (p .variables)) (s .variables)
+
+  parts : (place-fits ≡ true) × (outputs-fit ≡ true) × (variables-fit ≡ true)
+  unfolding fitsText
+  parts =
+      let r = and-right place-fits (outputs-fit && variables-fit) f in
+      (and-left place-fits (outputs-fit && variables-fit) f, and-left outputs-fit variables-fit r, and-right outputs-fit variables-fit r)
+
+  kept-invariant : Invariant p (keptOf p s)
+  unfolding keptOf
+  kept-invariant =
+      let o = slots-values (slotTypes (p .outputs)) (s .outputs) (and-right (eqb (length (s .outputs)) 16) (slotsOk (slotTypes (p .outputs)) (s .outputs)) (parts .1)) in
+      let v = slots-values (slotTypes (p .variables)) (s .variables) (and-right (eqb (length (s .variables)) 32) (slotsOk (slotTypes (p .variables)) (s .variables)) (parts .2)) in
+      record {
+        place = placed-for (p .body) (s .place) (parts .0);
+        well-typed = record {
+          outputs = subst (λ (n : ℕ). Values (slotTypes (p .outputs)) (take n (s .outputs))) (map-length (λ (x : Slot). x .type) (p .outputs)) o;
+          variables = subst (λ (n : ℕ). Values (slotTypes (p .variables)) (take n (s .variables))) (map-length (λ (x : Slot). x .type) (p .variables)) v;
+        };
+      }
+
+  -- it is the layout of what the equations keep of it
+  kept-laid : laid (keptOf p s) ≡ s
+  unfolding keptOf stateFor
+  kept-laid =
+      let a = number-back (s .place) in
+      let o : pad 16 (take (length (p .outputs)) (s .outputs)) ≡ s .outputs = subst (λ (n : ℕ). pad 16 (take n (s .outputs)) ≡ s .outputs) (map-length (λ (x : Slot). x .type) (p .outputs))
+      (slots-pad 16 (slotTypes (p .outputs)) (s .outputs) (eqb-true (length (s .outputs)) 16 (and-left (eqb (length (s .outputs)) 16) (slotsOk (slotTypes (p .outputs)) (s .outputs)) (parts .1)))
+      (and-right (eqb (length (s .outputs)) 16) (slotsOk (slotTypes (p .outputs)) (s .outputs)) (parts .1))) in
+      let v : pad 32 (take (length (p .variables)) (s .variables)) ≡ s .variables = subst (λ (n : ℕ). pad 32 (take n (s .variables)) ≡ s .variables) (map-length (λ (x : Slot). x .type) (p .variables))
+      (slots-pad 32 (slotTypes (p .variables)) (s .variables) (eqb-true (length (s .variables)) 32 (and-left (eqb (length (s .variables)) 32) (slotsOk (slotTypes (p .variables)) (s .variables)) (parts .2)))
+      (and-right (eqb (length (s .variables)) 32) (slotsOk (slotTypes (p .variables)) (s .variables)) (parts .2))) in
+      λ i. record { place = a i; outputs = o i; variables = v i }
+
+-- One call on the table is one call of the direct run, for every state record.
+table-direct : (p : Process) → WellFormed p → (s : State) (c : Call) → fitsText p s ≡ true → tableRow (tableOf p) s (c .inputs) (c .outputs) ≡ cycled p (keptOf p s) c
+unfolding judged
+table-direct p w s c f =
+    subst (λ (x : State). tableRow (tableOf p) x (c .inputs) (c .outputs) ≡ cycled p (keptOf p s) c) (kept-laid p s f) (same-cycle p w (keptOf p s) (kept-invariant p s f) c)
+
+pub row-direct : (p : Process) → WellFormed p → (s : State) (c : Call) → rowOf (tableOf p) s (c .inputs) (c .outputs) ≡ directRow p s c
+unfolding rowOf directRow tableOf
+row-direct p w s c =
+    rw (same-15 p s, same-14 p c)
+    (ap (λ (r : Called). unless14 (rowRefusal p (fed c)) s (c .outputs) r) (go (fitsText p s) (table-direct p w s c)))
+  where
+    go : (b : Bool) → (b ≡ true → tableRow (tableOf p) s (c .inputs) (c .outputs) ≡ cycled p (keptOf p s) c)
+        → cond b (tableRow (tableOf p) s (c .inputs) (c .outputs)) (turnedBack 15 0 s (c .outputs)) ≡ cond b (cycled p (keptOf p s) c) (turnedBack 15 0 s (c .outputs))
+    go true h = h refl
+    go false h = refl

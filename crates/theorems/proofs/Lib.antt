@@ -1,0 +1,4 @@
+pub mod Size
+pub mod OneRow
+pub mod Direct
+pub mod Demand3

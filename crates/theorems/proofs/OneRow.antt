@@ -1,0 +1,169 @@
+-- One call on the table of a process is one call of its equations: 14 from the signature is 14 from the declarations, the state laid out is not refused
+-- by 15, its slots are what the equations keep, and the cycle is the same (`one-cycle`). Assumes nothing.
+use mathlib.Core.Path.{_≡_, refl, sym, _∙_, ap}
+use mathlib.Core.Bool.{Bool, true, false, cond, _&&_, _||_}
+use mathlib.Core.Option.{Option, none, some}
+use mathlib.Core.List.{List, [], _∷_, map}
+use Prim.Native.Nat.{ℕ, zero, suc, _+_, _≤_, _<_}
+use native.Mathlib.Omega.{arith}
+use lib.ListN.{length, take}
+use lib.IntN.{ℤ, pos}
+use lib.Dec.{eqb, ltb}
+use borrow.Author.Tests.{lt-ltb, eq-eqb}
+use Rattle.design.specs.Types.{Ty, inType}
+use Rattle.design.specs.Statement.{Stmt, act, wait, if-then, if-else, while, seq, size, has}
+use Rattle.design.specs.Process.{Source, Slot, Process, sourceTypes, slotTypes, WellFormed}
+use Rattle.design.specs.Process as D
+use Rattle.semantics.specs.Equations.{Memory, Result, reached, refused, Place, beginning, at, cycle}
+use Rattle.semantics.specs.Rows.{Kept, Outcome, performed, row-refused, operator-refused, rowRefusal, concluded, judged, row, atFirst}
+use Rattle.semantics.specs.Values.{Values}
+use Rattle.semantics.specs.Way.{Ended, at-wait, at-operator}
+use Rattle.semantics.specs.Answer.{Placed, Invariant}
+use Rattle.semantics.proofs.Basic.{false-true, eqb-true}
+use Rattle.semantics.proofs.Values.{values-length}
+use Rattle.semantics.proofs.Results.{or-case, has-below}
+use Rattle.semantics.proofs.Ends.{cycle-ends}
+use Rattle.format.specs.Lines.{Line, waits, acts, branches, line, linesOf}
+use Rattle.format.specs.Walk.{tableCycle}
+use Rattle.format.specs.Signature.{Cell, Signature, types, initials}
+use Rattle.format.specs.Image.{Table}
+use Rattle.format.specs.State.{zeros, slotsOk, isWait, placeOk, stateOk, pad, stateFor, memoryOf, freshTable}
+use Rattle.format.specs.Cycle.{rowPlace, Called, turnedBack, ended, tableRow, unless14, rowOf, Call}
+use Rattle.format.specs.Encode.{cells, signatureFor, tableOf}
+use Rattle.simulation.specs.Places.{number}
+use Rattle.theorems.specs.Comparison.{fed, laid, seen}
+use Rattle.simulation.proofs.Lines.{Each, linesOf-each, linesOf-length}
+use Rattle.simulation.proofs.Cycle.{one-cycle}
+
+-- lists
+
+pub map-length : {A B : Type 0} (f : A → B) (l : List A) → length (map f l) ≡ length l
+map-length f [] = refl
+map-length f (a ∷ l) = ap suc (map-length f l)
+
+cell : Slot → Cell
+cell s = record { type = s .type; initial = s .initial }
+
+cells-length : (l : List Slot) → length (cells l) ≡ length l
+cells-length [] = refl
+cells-length (s ∷ l) = ap suc (cells-length l)
+
+pub cells-types : (l : List Slot) → types (cells l) ≡ slotTypes l
+cells-types [] = refl
+cells-types (s ∷ l) = ap (λ (k : List Ty). s .type ∷ k) (cells-types l)
+
+cells-initials : (l : List Slot) → initials (cells l) ≡ D.initials l
+cells-initials [] = refl
+cells-initials (s ∷ l) = ap (λ (k : List ℤ). s .initial ∷ k) (cells-initials l)
+
+-- padding
+pad-length : (n : ℕ) (l : List ℤ) → length (pad n l) ≡ n
+unfolding pad
+pad-length zero l = refl
+pad-length (suc n) [] = ap suc (pad-length n [])
+pad-length (suc n) (z ∷ l) = ap suc (pad-length n l)
+
+pad-zeros : (n : ℕ) → zeros (pad n []) ≡ true
+unfolding pad zeros
+pad-zeros zero = refl
+pad-zeros (suc n) = pad-zeros n
+
+pad-slots : (n : ℕ) (ts : List Ty) (l : List ℤ) → Values ts l → length ts ≤ n → slotsOk ts (pad n l) ≡ true
+unfolding pad slotsOk Values
+pad-slots n [] [] v h = pad-zeros n
+pad-slots n [] (z ∷ l) v h = absurd v
+pad-slots n (t ∷ ts) [] v h = absurd v
+pad-slots zero (t ∷ ts) (z ∷ l) v h = absurd (omega arith)
+pad-slots (suc n) (t ∷ ts) (z ∷ l) v h = rw (v .0) (pad-slots n ts l (v .1) (omega arith))
+
+pad-take : (n k : ℕ) (l : List ℤ) → length l ≡ k → k ≤ n → take k (pad n l) ≡ l
+unfolding pad
+pad-take n zero [] e h = refl
+pad-take n zero (z ∷ l) e h = absurd (omega arith)
+pad-take n (suc k) [] e h = absurd (omega arith)
+pad-take zero (suc k) (z ∷ l) e h = absurd (omega arith)
+pad-take (suc n) (suc k) (z ∷ l) e h = ap (λ (m : List ℤ). z ∷ m) (pad-take n k l (omega arith) (omega arith))
+
+-- a wait's number is a wait's line
+pub wait-line : (t : List Line) (s : Stmt) (n f : ℕ) → Each (λ x l. line t x ≡ l) s n f → (p : ℕ) → has s n p ≡ true → isWait (line t p) ≡ true
+unfolding has Each
+wait-line t (act a) n f h p e = false-true e
+wait-line t wait n f h p e = let q : p ≡ n = eqb-true p n e in rw q (ap isWait h)
+wait-line t (if-then c a) n f h p e = wait-line t a (suc n) f (h .1) p e
+wait-line t (if-else c a b) n f h p e = or-case (has a (suc n) p) (has b (suc n + size a) p) e (wait-line t a (suc n) f (h .1) p) (wait-line t b (suc n + size a) f (h .2) p)
+wait-line t (while c b) n f h p e = wait-line t b (suc n) n (h .1) p e
+wait-line t (seq a b) n f h p e = or-case (has a n p) (has b (n + size a) p) e (wait-line t a n (n + size a) (h .0) p) (wait-line t b (n + size a) f (h .1) p)
+
+pub place-ok : (s : Stmt) (q : Place) → Placed s q → placeOk (linesOf s) (number q) ≡ true
+unfolding placeOk Placed
+place-ok s beginning v = refl
+place-ok s (at p) v = let h : p < length (linesOf s) = rw linesOf-length (omega (arith, has-below s 0 p v)) in go (eqb p 512) (lt-ltb p (length (linesOf s)) h) (wait-line (linesOf s) s 0 0 (linesOf-each s) p v)
+  where
+    go : (b : Bool) → ltb p (length (linesOf s)) ≡ true → isWait (line (linesOf s) p) ≡ true → (b || (ltb p (length (linesOf s)) && isWait (line (linesOf s) p))) ≡ true
+    go true x y = refl
+    go false x y = rw (x, y)
+
+-- 14 from the signature is 14 from the declarations
+pub same-14 : (p : Process) (c : Call) → rowPlace (signatureFor p) (c .inputs) (length (c .outputs)) ≡ rowRefusal p (fed c)
+unfolding rowPlace rowRefusal signatureFor
+same-14 p c = rw (map-length (λ (s : Source). s .type) (p .inputs), cells-length (p .outputs))
+
+-- The fresh state is the layout of the beginning and the initial values.
+pub fresh-laid : (p : Process) → freshTable (tableOf p) ≡ laid (atFirst p)
+unfolding freshTable tableOf signatureFor atFirst
+fresh-laid p = rw (cells-initials (p .outputs), cells-initials (p .variables))
+
+module _ (p : Process) (w : WellFormed p) (k : Kept) (v : Invariant p k) where
+  outputs-length : length (k .memory .outputs) ≡ length (p .outputs)
+  outputs-length = values-length (slotTypes (p .outputs)) (k .memory .outputs) (v .well-typed .outputs) ∙ map-length (λ (s : Slot). s .type) (p .outputs)
+
+  variables-length : length (k .memory .variables) ≡ length (p .variables)
+  variables-length = values-length (slotTypes (p .variables)) (k .memory .variables) (v .well-typed .variables) ∙ map-length (λ (s : Slot). s .type) (p .variables)
+
+  -- it is not refused by 15
+  state-ok : stateOk (tableOf p) (laid k) ≡ true
+  unfolding stateOk tableOf signatureFor stateFor
+  state-ok =
+      let o : length (slotTypes (p .outputs)) ≤ 16 = rw (map-length (λ (s : Slot). s .type) (p .outputs)) (w .outputs) in
+      let n : length (slotTypes (p .variables)) ≤ 32 = rw (map-length (λ (s : Slot). s .type) (p .variables)) (w .variables) in
+      rw (
+        place-ok (p .body) (k .place) (v .place),
+        pad-length 16 (k .memory .outputs),
+        pad-length 32 (k .memory .variables),
+        cells-types (p .outputs),
+        cells-types (p .variables),
+        pad-slots 16 (slotTypes (p .outputs)) (k .memory .outputs) (v .well-typed .outputs) o,
+        pad-slots 32 (slotTypes (p .variables)) (k .memory .variables) (v .well-typed .variables) n,
+      )
+
+  -- its used slots are what is kept
+  memory-back : memoryOf (signatureFor p) (laid k) ≡ k .memory
+  unfolding memoryOf signatureFor stateFor
+  memory-back = rw (
+    cells-length (p .outputs),
+    cells-length (p .variables),
+    pad-take 16 (length (p .outputs)) (k .memory .outputs) outputs-length (w .outputs),
+    pad-take 32 (length (p .variables)) (k .memory .variables) variables-length (w .variables),
+  )
+
+  -- a cycle's result, told by the table and by the equations
+  same-result : (c : Call) (r : Result) → Ended (p .body) r → ended r (laid k) (c .outputs) ≡ seen (concluded r k) c
+  unfolding concluded
+  same-result c r (at-wait x σ h) = refl
+  same-result c r (at-operator n) = refl
+
+  pub same-cycle : (c : Call) → tableRow (tableOf p) (laid k) (c .inputs) (c .outputs) ≡ seen (judged none p k (fed c)) c
+  unfolding tableRow judged stateFor tableOf signatureFor
+  same-cycle c =
+      ap (λ (m : Memory). ended (tableCycle (tableOf p .lines) (tableOf p .reaches) (number (k .place)) (c .inputs) (record { way = []; memory = m })) (laid k) (c .outputs)) memory-back
+      ∙ (ap (λ (r : Result). ended r (laid k) (c .outputs)) (one-cycle (p .body) (w .class) (w .loops) (w .statements) (k .place) (v .place) (c .inputs) (record { way = []; memory = k .memory }))
+      ∙ same-result c (cycle (p .body) (k .place) (c .inputs) (record { way = []; memory = k .memory })) (cycle-ends (p .body) (w .class) (k .place) (c .inputs) (record { way = []; memory = k .memory })))
+
+  -- One call.
+  pub one-row : (c : Call) → rowOf (tableOf p) (laid k) (c .inputs) (c .outputs) ≡ seen (row p k (fed c)) c
+  unfolding rowOf row judged tableOf
+  one-row c = rw (same-14 p c, state-ok) (go (rowRefusal p (fed c)))
+    where
+      go : (o : Option ℕ) → unless14 o (laid k) (c .outputs) (tableRow (tableOf p) (laid k) (c .inputs) (c .outputs)) ≡ seen (judged o p k (fed c)) c
+      go none = same-cycle c
+      go (some x) = refl

@@ -1,0 +1,178 @@
+-- The image of an accepted text has at most 65,535 bytes. An expression's code has at most 3 bytes for each of its literals, names and operators, and 2
+-- more; each of these and each statement is a token of the text. Assumes nothing.
+use mathlib.Core.Path.{_≡_, refl, sym, _∙_, ap}
+use mathlib.Core.Bool.{Bool, true, false}
+use mathlib.Core.List.{List, [], _∷_, _++_, map}
+use Prim.Native.Nat.{ℕ, suc, _+_, _*_, _≤_}
+use native.Mathlib.Omega.{arith}
+use lib.ListN.{length, length-append}
+use lib.IntN.{ℤ}
+use Rattle.design.specs.Types.{Ty}
+use Rattle.design.specs.Expression.{Leaf, int, bit, input, variable, Unary, Binary, Expr, leaf, unary, binary, items}
+use Rattle.design.specs.Statement.{Act, null, Stmt, act, wait, if-then, if-else, while, seq, size, totalItems}
+use Rattle.design.specs.Statement as D
+use Rattle.design.specs.Process.{Source, Slot, Process, sourceTypes, WellFormed}
+use Rattle.format.specs.Code.{Operation, push, apply1, apply2, post, first, others, operationBytes, code}
+use Rattle.format.specs.Lines.{Line, waits, acts, branches, lines, linesOf, reaches, reachesOf, entry}
+use Rattle.format.specs.Signature.{Cell, Signature, typeBytes, cellBytes, signatureBytes}
+use Rattle.format.specs.Image.{RawLine, rawBytes, rawsBytes, rawOf, rawsOf, lineCode, linesCode, pairs, joined, image, Sections, form1, sectionsFor, encodeTable}
+use Rattle.format.specs.Encode.{cells, signatureFor, tableOf, encode}
+use Rattle.language.specs.Validity.{Valid}
+use Rattle.language.proofs.WellFormed.{valid-well-formed}
+use Rattle.language.proofs.Room.{valid-room}
+use Rattle.simulation.proofs.Lines.{lines-length}
+use Rattle.simulation.proofs.Reaches.{reachesOf-length}
+
+-- code bytes of operations one after another
+bytes-append : (a b : List Operation) → length (operationBytes (a ++ b)) ≡ length (operationBytes a) + length (operationBytes b)
+unfolding operationBytes
+bytes-append [] b = omega arith
+bytes-append (i ∷ a) b =
+    let h = bytes-append a b in
+    let k = length-append (others i) (operationBytes (a ++ b)) in
+    let l = length-append (others i) (operationBytes a) in
+    omega arith
+
+leaf-bytes : (l : Leaf) → length (operationBytes (push l ∷ [])) ≤ 5
+unfolding operationBytes
+leaf-bytes (int z) = omega arith
+leaf-bytes (bit b) = omega arith
+leaf-bytes (input k) = omega arith
+leaf-bytes (variable k) = omega arith
+
+unary-bytes : (o : Unary) → length (operationBytes (apply1 o ∷ [])) ≡ 1
+unfolding operationBytes
+unary-bytes o = refl
+
+binary-bytes : (o : Binary) → length (operationBytes (apply2 o ∷ [])) ≡ 1
+unfolding operationBytes
+binary-bytes o = refl
+
+-- at most 3 bytes an item and 2 more
+code-room : (e : Expr) → length (code e) ≤ 3 * items e + 2
+unfolding code post items
+code-room (leaf l) = let h = leaf-bytes l in omega arith
+code-room (unary o t a) =
+    let h = code-room a in
+    let k = bytes-append (post a) (apply1 o ∷ []) in
+    let l = unary-bytes o in
+    omega arith
+code-room (binary o t a b) =
+    let h = code-room a in
+    let g = code-room b in
+    let k = bytes-append (post a) (post b ++ (apply2 o ∷ [])) in
+    let j = bytes-append (post b) (apply2 o ∷ []) in
+    let l = binary-bytes o in
+    omega arith
+
+linesCode-append : (a b : List Line) → length (linesCode (a ++ b)) ≡ length (linesCode a) + length (linesCode b)
+unfolding linesCode
+linesCode-append [] b = omega arith
+linesCode-append (l ∷ a) b =
+    let h = linesCode-append a b in
+    let k = length-append (lineCode l) (linesCode (a ++ b)) in
+    let j = length-append (lineCode l) (linesCode a) in
+    omega arith
+
+-- one line
+line-one : (l : Line) → length (linesCode (l ∷ [])) ≡ length (lineCode l)
+unfolding linesCode
+line-one l = length-append (lineCode l) [] ∙ omega arith
+
+cons-code : (l : Line) (ls : List Line) → length (linesCode (l ∷ ls)) ≡ length (lineCode l) + length (linesCode ls)
+unfolding linesCode
+cons-code l ls = length-append (lineCode l) (linesCode ls)
+
+-- the code of a statement's lines
+lines-room : (s : Stmt) (n f : ℕ) → length (linesCode (lines s n f)) ≤ 3 * (size s + totalItems s)
+unfolding lines lineCode size totalItems
+lines-room (act (D.Act.output k e)) n f = let h = line-one (acts (D.Act.output k e) f) in let g = code-room e in omega arith
+lines-room (act (D.Act.variable k e)) n f = let h = line-one (acts (D.Act.variable k e) f) in let g = code-room e in omega arith
+lines-room (act null) n f = let h = line-one (acts null f) in omega arith
+lines-room wait n f = let h = line-one (waits f) in omega arith
+lines-room (if-then e a) n f =
+    let h = cons-code (branches e (suc n) f) (lines a (suc n) f) in
+    let g = code-room e in
+    let k = lines-room a (suc n) f in
+    omega arith
+lines-room (if-else e a b) n f =
+    let h = cons-code (branches e (suc n) (suc n + size a)) (lines a (suc n) f ++ lines b (suc n + size a) f) in
+    let j = linesCode-append (lines a (suc n) f) (lines b (suc n + size a) f) in
+    let g = code-room e in
+    let k = lines-room a (suc n) f in
+    let l = lines-room b (suc n + size a) f in
+    omega arith
+lines-room (while e b) n f =
+    let h = cons-code (branches e (suc n) f) (lines b (suc n) n) in
+    let g = code-room e in
+    let k = lines-room b (suc n) n in
+    omega arith
+lines-room (seq a b) n f =
+    let j = linesCode-append (lines a n (n + size a)) (lines b (n + size a) f) in
+    let k = lines-room a n (n + size a) in
+    let l = lines-room b (n + size a) f in
+    omega arith
+
+-- the other sections
+types-length : (l : List Ty) → length (typeBytes l) ≡ length l
+unfolding typeBytes
+types-length [] = refl
+types-length (t ∷ l) = ap suc (types-length l)
+
+cells-length : (l : List Cell) → length (cellBytes l) ≡ 5 * length l
+unfolding cellBytes
+cells-length [] = omega arith
+cells-length (c ∷ l) = let h = cells-length l in omega arith
+
+map-length : {A B : Type 0} (f : A → B) (l : List A) → length (map f l) ≡ length l
+map-length f [] = refl
+map-length f (a ∷ l) = ap suc (map-length f l)
+
+raws-length : (p : ℕ) (ls : List Line) (qs : List ℕ) → length qs ≡ length ls → length (rawsBytes (rawsOf p ls qs)) ≡ 12 * length ls
+unfolding rawsOf rawsBytes
+raws-length p [] [] e = omega arith
+raws-length p [] (q ∷ qs) e = omega arith
+raws-length p (l ∷ ls) [] e = absurd (omega arith)
+raws-length p (l ∷ ls) (q ∷ qs) e = let h = raws-length (p + length (lineCode l)) ls qs (omega arith) in omega arith
+
+-- header and sections
+form1-length : (x : Sections) → length (form1 x) ≡ 28 + (length (x .signature) + (length (x .lines) + length (x .code)))
+unfolding form1 image pairs joined
+form1-length x =
+    let a = length-append (x .signature) (x .lines ++ (x .code ++ [])) in
+    let b = length-append (x .lines) (x .code ++ []) in
+    let c = length-append (x .code) [] in
+    omega arith
+
+-- at most 3 + 16 + 5 * 16 + 5 * 32 bytes
+signature-room : (p : Process) → WellFormed p → length (signatureBytes (signatureFor p)) ≤ 259
+unfolding signatureBytes signatureFor
+signature-room p w =
+    let i = types-length (sourceTypes (p .inputs)) in
+    let i′ = map-length (λ (s : Source). s .type) (p .inputs) in
+    let o = cells-length (cells (p .outputs)) in
+    let o′ = map-length {B = Cell} (λ (s : Slot). record { type = s .type; initial = s .initial }) (p .outputs) in
+    let v = cells-length (cells (p .variables)) in
+    let v′ = map-length {B = Cell} (λ (s : Slot). record { type = s .type; initial = s .initial }) (p .variables) in
+    let a = length-append (typeBytes (sourceTypes (p .inputs))) (cellBytes (cells (p .outputs)) ++ cellBytes (cells (p .variables))) in
+    let b = length-append (cellBytes (cells (p .outputs))) (cellBytes (cells (p .variables))) in
+    let k = w .inputs in
+    let l = w .outputs in
+    let m = w .variables in
+    omega arith
+
+-- The image of a process whose items and statements are few enough.
+pub image-room : (p : Process) → WellFormed p → size (p .body) + totalItems (p .body) ≤ 16384 → length (encode p) ≤ 65535
+unfolding encode tableOf encodeTable sectionsFor linesOf
+image-room p w h =
+    let f = form1-length (sectionsFor (tableOf p)) in
+    let g = signature-room p w in
+    let l = lines-length (p .body) 0 0 in
+    let r = raws-length 0 (lines (p .body) 0 0) (reachesOf (p .body)) (reachesOf-length (p .body) ∙ sym l) in
+    let c = lines-room (p .body) 0 0 in
+    let s = w .statements in
+    omega arith
+
+-- The image of an accepted text.
+pub valid-fits : (b : List ℕ) (d : Process) → Valid b d → length (encode d) ≤ 65535
+valid-fits b d v = image-room d (valid-well-formed v) (valid-room b d v)

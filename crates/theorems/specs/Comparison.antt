@@ -1,0 +1,43 @@
+-- The equations' answers, put as the calls of a cycle on an image put theirs: what is compared after every call (document 01, "Before delivery is
+-- taken"). Assumes nothing.
+use mathlib.Core.List.{List, [], _∷_, map}
+use Prim.Native.Nat.{ℕ}
+use lib.ListN.{length}
+use lib.IntN.{ℤ}
+use Rattle.answers.specs.declared.State.{State}
+use Rattle.design.specs.Process.{Process}
+use Rattle.semantics.specs.Rows.{Kept, Outcome, performed, row-refused, operator-refused, row, atFirst}
+use Rattle.semantics.specs.Rows as R
+use Rattle.format.specs.State.{stateFor}
+use Rattle.format.specs.Cycle.{Answer, Called, Call}
+use Rattle.format.specs.Cycle as F
+use Rattle.simulation.specs.Places.{number}
+
+-- what the equations are fed of a call: "the input row and the output row's length"
+abbrev pub fed : Call → R.Call
+fed c = record { inputs = c .inputs; room = length (c .outputs) }
+
+-- what the equations keep, "laid out as the State section has it": the place 512 for the beginning, unused slots 0
+abbrev pub laid : Kept → State
+laid k = stateFor (number (k .place)) (k .memory)
+
+-- an outcome as a call's answer: the way, or number and place
+abbrev pub told : Outcome → Answer
+told (performed row way) = F.performed way
+told (row-refused place) = F.not-performed 14 place
+told (operator-refused line) = F.not-performed 16 line
+
+-- the output row as it is left: all outputs, or as it was lent
+abbrev pub left : Outcome → List ℤ → List ℤ
+left (performed row way) o = row
+left (row-refused place) o = o
+left (operator-refused line) o = o
+
+-- one call of the equations, seen as a call on an image
+abbrev pub seen : Outcome × Kept → Call → Called
+seen r c = record { answer = told (r .0); state = laid (r .1); row = left (r .0) (c .outputs) }
+
+-- all calls, one after another, by the equations
+unfoldable pub equationCalls : Process → Kept → List Call → List Called
+equationCalls p k [] = []
+equationCalls p k (c ∷ cs) = let r = row p k (fed c) in seen r c ∷ equationCalls p (r .1) cs

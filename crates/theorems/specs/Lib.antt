@@ -1,0 +1,4 @@
+pub mod Compile
+pub mod Comparison
+pub mod Direct
+pub mod Demand3
