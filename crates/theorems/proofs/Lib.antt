@@ -1,3 +1,4 @@
+pub mod Demand2
 pub mod Size
 pub mod OneRow
 pub mod Direct

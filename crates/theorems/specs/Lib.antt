@@ -1,3 +1,4 @@
+pub mod Demand2
 pub mod Compile
 pub mod Comparison
 pub mod Direct

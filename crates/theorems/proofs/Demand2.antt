@@ -1,0 +1,19 @@
+-- Demand 2 on the definitions, from the theorems of language and semantics. Assumes nothing.
+use mathlib.Core.List.{List}
+use Prim.Native.Nat.{ℕ}
+use Rattle.language.proofs.Judged.{accepts, refuses}
+use Rattle.language.proofs.Answers.{valid-one, one-reading}
+use Rattle.language.proofs.WellFormed.{valid-well-formed}
+use Rattle.semantics.proofs.Rows.{rows-answer}
+use Rattle.semantics.proofs.PublishedRows.{rows-published}
+use Rattle.theorems.specs.Demand2.{Demand2}
+
+pub demand2 : (b : List ℕ) → Demand2 b
+demand2 b = record {
+  accepts = accepts b;
+  refuses = refuses b;
+  one-reading = λ t u p q. one-reading p q;
+  one-meaning = λ d e v w. valid-one v w;
+  published = λ d v cs. rows-published d (valid-well-formed v) cs;
+  answered = λ d v cs. rows-answer d (valid-well-formed v) cs;
+}
