@@ -8,4 +8,5 @@ pub mod Lines
 pub mod Opens
 pub mod Refusals
 pub mod Encoded
+pub mod Calls
 pub mod Examples

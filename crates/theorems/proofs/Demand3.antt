@@ -28,16 +28,24 @@ use Rattle.format.specs.Cycle.{Called, Call, unlessClosed, cycleOf, rowOf, call
 use Rattle.format.specs.Encode.{tableOf, encode}
 use Rattle.theorems.specs.Compile.{Compiled, written, not-compiled, Compile, written-into, onVerdict, compileOf}
 use Rattle.theorems.specs.Comparison.{fed, laid, told, seen, equationCalls}
+use Rattle.theorems.specs.Direct.{directRow, unlessRefused, directOf, freshText, directFresh}
 use Rattle.theorems.specs.Demand3.{Short, AllShort, Demand3}
 use Rattle.simulation.proofs.Way.{cycle-bound}
+use Rattle.images.proofs.Processes.{encode-opens}
 use Rattle.theorems.proofs.Size.{valid-fits}
 use Rattle.theorems.proofs.OneRow.{fresh-laid, one-row}
+use Rattle.theorems.proofs.Direct.{row-direct}
 
 module _ (p : Process) (w : WellFormed p) (o : openOf (encode p) ≡ opened (tableOf p)) where
   -- one call
   one-call : (k : Kept) → Invariant p k → (c : Call) → cycleOf (encode p) (laid k) (c .inputs) (c .outputs) ≡ seen (row p k (fed c)) c
   unfolding cycleOf
   one-call k v c = rw o (one-row p w k v c)
+
+  -- one call from any state record
+  any-call : (s : State) (c : Call) → cycleOf (encode p) s (c .inputs) (c .outputs) ≡ directRow p s c
+  unfolding cycleOf
+  any-call s c = rw o (row-direct p w s c)
 
   -- all calls
   calls-same : (cs : List Call) (k : Kept) → Invariant p k → callsOf (encode p) (laid k) cs ≡ equationCalls p k cs
@@ -87,22 +95,24 @@ wrote text buffer n e = on (verdict text) refl
             let c : compileOf text buffer ≡ record { answer = not-compiled 10 (length (encode p)); buffer = buffer } = rw (h, l) in
             not-written (sym (ap (λ (r : Compile). r .answer) c) ∙ e)
 
-module _ (encode-opens : (p : Process) → WellFormed p → length (encode p) ≤ 65535 → openOf (encode p) ≡ opened (tableOf p)) where
-  -- THE THEOREM
-  pub demand3 : (text buffer : List ℕ) (n : ℕ) → compileOf text buffer .answer ≡ written n → Demand3 text buffer n
-  unfolding freshOf
-  demand3 text buffer n e =
-      let r = wrote text buffer n e in
-      let p = r .process in
-      let v : Valid text p = accepts text p .0 (r .verdict) in
-      let w : WellFormed p = valid-well-formed v in
-      let o : openOf (encode p) ≡ opened (tableOf p) = encode-opens p w (valid-fits text p v) in
-      let i = first-invariant p w in
-      record {
-        process = p;
-        valid = v;
-        state = laid (atFirst p);
-        starts = ap (λ (b : List ℕ). freshFrom (openOf b)) (r .image) ∙ (ap freshFrom o ∙ ap S.fresh (fresh-laid p));
-        same = λ cs. ap (λ (b : List ℕ). callsOf b (laid (atFirst p)) cs) (r .image) ∙ calls-same p w o cs (atFirst p) i;
-        short = λ cs. ways-short p w o cs (atFirst p) i;
-      }
+-- THE THEOREM
+pub demand3 : (text buffer : List ℕ) (n : ℕ) → compileOf text buffer .answer ≡ written n → Demand3 text buffer n
+unfolding freshOf directFresh directOf
+demand3 text buffer n e =
+    let r = wrote text buffer n e in
+    let p = r .process in
+    let v : Valid text p = accepts text p .0 (r .verdict) in
+    let w : WellFormed p = valid-well-formed v in
+    let o : openOf (encode p) ≡ opened (tableOf p) = encode-opens p w (valid-fits text p v) in
+    let i = first-invariant p w in
+    let starts = ap (λ (b : List ℕ). freshFrom (openOf b)) (r .image) ∙ (ap freshFrom o ∙ ap S.fresh (fresh-laid p)) in
+    record {
+      process = p;
+      valid = v;
+      state = laid (atFirst p);
+      starts = starts;
+      same = λ cs. ap (λ (b : List ℕ). callsOf b (laid (atFirst p)) cs) (r .image) ∙ calls-same p w o cs (atFirst p) i;
+      short = λ cs. ways-short p w o cs (atFirst p) i;
+      direct = λ s c. ap (λ (b : List ℕ). cycleOf b s (c .inputs) (c .outputs)) (r .image) ∙ any-call p w o s c ∙ ap (λ (x : Verdict). unlessRefused x s c) (sym (r .verdict));
+      direct-start = starts ∙ ap freshText (sym (r .verdict));
+    }

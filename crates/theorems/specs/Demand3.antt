@@ -13,9 +13,10 @@ use Rattle.semantics.specs.Way.{Distinct}
 use Rattle.format.specs.Lines.{linesOf, reachesOf, reach}
 use Rattle.format.specs.Walk.{from}
 use Rattle.format.specs.State.{fresh, freshOf}
-use Rattle.format.specs.Cycle.{Answer, performed, not-performed, Called, Call, callsOf}
+use Rattle.format.specs.Cycle.{Answer, performed, not-performed, Called, Call, cycleOf, callsOf}
 use Rattle.theorems.specs.Compile.{compileOf}
 use Rattle.theorems.specs.Comparison.{equationCalls}
+use Rattle.theorems.specs.Direct.{directOf, directFresh}
 
 -- a performed cycle from the place q: "no way has a line twice, so each performed cycle reaches a wait within as many lines as the text has
 -- statements"; "bounded by the follower's reach plus one"
@@ -29,7 +30,8 @@ AllShort p s [] = Unit {0}
 AllShort p s (r ∷ rs) = Short p (s .place) (r .answer) × AllShort p (r .state) rs
 
 -- The image that a compile wrote has a fresh state, and from it every list of calls, refused ones included, leaves after every call what the equations
--- of the text leave: the answer (the way, whose length is the line count; or number and place), the whole state record, the output row.
+-- of the text leave: the answer (the way, whose length is the line count; or number and place), the whole state record, the output row. From any other
+-- state record, reached or not, a call leaves what the direct run of the text leaves.
 pub record Demand3 (text buffer : List ℕ) (n : ℕ) : Type 0 where
   pub process : Process
   pub valid : Valid text process
@@ -37,3 +39,5 @@ pub record Demand3 (text buffer : List ℕ) (n : ℕ) : Type 0 where
   pub starts : freshOf (take n (compileOf text buffer .buffer)) ≡ fresh state
   pub same : (cs : List Call) → callsOf (take n (compileOf text buffer .buffer)) state cs ≡ equationCalls process (atFirst process) cs
   pub short : (cs : List Call) → AllShort process state (equationCalls process (atFirst process) cs)
+  pub direct : (s : State) (c : Call) → cycleOf (take n (compileOf text buffer .buffer)) s (c .inputs) (c .outputs) ≡ directOf text s c
+  pub direct-start : freshOf (take n (compileOf text buffer .buffer)) ≡ directFresh text

@@ -1,0 +1,5 @@
+pub mod InputRows
+pub mod Tables
+pub mod States
+pub mod Outcomes
+pub mod Processes

@@ -1,0 +1,83 @@
+-- Every row on an image that opens is performed or refused by 14, 15 or 16, and its state is accepted again: by cases in the order of the refusals,
+-- over the walk of ranked lines. Assumes nothing.
+use Prim.Native.Nat.{ℕ, suc, _≤_, _<_}
+use native.Mathlib.Omega.{arith}
+use mathlib.Core.Path.{_≡_, refl, sym, ap, _∙_}
+use mathlib.Core.Logic.{_⊎_, inl, inr}
+use mathlib.Core.Bool.{Bool, true, false, cond, _&&_}
+use mathlib.Core.Option.{Option, none, some}
+use mathlib.Core.List.{List, [], _∷_}
+use lib.ListN.{length}
+use lib.IntN.{ℤ}
+use lib.Dec.{eqb}
+use Rattle.answers.specs.declared.State.{State}
+use Rattle.design.specs.Types.{Ty, inType}
+use Rattle.semantics.specs.Equations.{Memory, Run, Result, passed, reached, refused}
+use Rattle.semantics.specs.Rows.{wrongValue}
+use Rattle.semantics.specs.Values.{Values}
+use Rattle.semantics.proofs.Basic.{false-true, none-some, eqb-true, and-left, and-right}
+use Rattle.semantics.proofs.Values.{values-length}
+use Rattle.format.specs.Words.{Bytes}
+use Rattle.format.specs.Lines.{reach}
+use Rattle.format.specs.Walk.{from, tableCycle}
+use Rattle.format.specs.Signature.{Signature, types}
+use Rattle.format.specs.Image.{Table}
+use Rattle.format.specs.Good.{GoodTable}
+use Rattle.format.specs.Opening.{opened, openOf}
+use Rattle.format.specs.State.{stateOk, stateFor, memoryOf}
+use Rattle.format.specs.Cycle.{rowPlace, Called, turnedBack, ended, tableRow, unless14, rowOf, unlessClosed, cycleOf}
+use Rattle.format.proofs.Opens.{opens-exactly}
+use Rattle.simulation.specs.Walked.{WaitAt, WayFrom, Walked, waits-at, refuses-at}
+use Rattle.simulation.proofs.Walked.{from-inside, cycle-walked}
+use Rattle.images.specs.Outcome.{Typed, GoodState, Outcome, row-refused, state-refused, operator-refused, performs}
+use Rattle.images.proofs.InputRows.{row-exactly, row-right, row-none}
+use Rattle.images.proofs.Tables.{good-ranked, TypedResult, walk-typed}
+use Rattle.images.proofs.States.{types-length, state-exactly, memory-back}
+
+module _ (t : Table) (g : GoodTable t) (s : State) (i o : List ℤ) where
+  -- the cycle of the table from this state
+  abbrev result : Result
+  result = tableCycle (t .lines) (t .reaches) (s .place) i (record { way = []; memory = memoryOf (t .signature) s })
+
+  place-inside : (s .place ≡ 512) ⊎ WaitAt (t .lines) (s .place) → (s .place ≡ 512) ⊎ (s .place < length (t .lines))
+  place-inside (inl e) = inl e
+  place-inside (inr w) = inr (w .inside)
+
+  memory-typed : GoodState t s → Typed (t .signature) (memoryOf (t .signature) s)
+  memory-typed k = rw (ap (memoryOf (t .signature)) (k .slots) ∙ memory-back t g (s .place) (k .memory) (k .typed)) (k .typed)
+
+  result-typed : GoodState t s → Values (t .signature .inputs) i → TypedResult (t .signature) result
+  unfolding tableCycle
+  result-typed k v =
+      walk-typed t g i v (suc (reach (t .reaches) (from (t .lines) (s .place)))) (from (t .lines) (s .place)) _
+      (from-inside (t .lines) (t .reaches) (good-ranked t g) i (g .some-line) (s .place) (place-inside (k .place))) (memory-typed k)
+
+  ended-outcome : rowPlace (t .signature) i (length o) ≡ none → GoodState t s → (z : Result) → result ≡ z → TypedResult (t .signature) z
+      → Walked (t .lines) (t .reaches) (from (t .lines) (s .place)) z → Outcome t s i o (ended z s o)
+  unfolding stateFor
+  ended-outcome r k z e f (waits-at p τ before q w y) =
+      performs p τ (row-none (t .signature) i (length o) r) k e w y (record { place = inr w; memory = τ .memory; typed = f; slots = refl })
+      (values-length (types (t .signature .outputs)) (τ .memory .outputs) (f .outputs) ∙ types-length (t .signature .outputs) ∙ sym (row-right (t .signature) i (length o) r .1))
+  ended-outcome r k z e f (refuses-at x b) = operator-refused x (row-none (t .signature) i (length o) r) k b e
+
+  -- Every row on a good table.
+  pub row-outcome : Outcome t s i o (rowOf t s i o)
+  unfolding rowOf tableRow
+  row-outcome = judge (rowPlace (t .signature) i (length o)) refl
+    where
+      state : rowPlace (t .signature) i (length o) ≡ none → (b : Bool) → stateOk t s ≡ b → Outcome t s i o (cond b (ended result s o) (turnedBack 15 0 s o))
+      state r true q =
+          let k = state-exactly t g s .0 q in
+          ended-outcome r k result refl (result-typed k (row-right (t .signature) i (length o) r .0))
+          (cycle-walked (t .lines) (t .reaches) (good-ranked t g) i (g .some-line) (s .place) (place-inside (k .place)) _ refl)
+      state r false q = state-refused (row-none (t .signature) i (length o) r) (λ k. false-true (sym q ∙ state-exactly t g s .1 k))
+
+      judge : (b : Option ℕ) → rowPlace (t .signature) i (length o) ≡ b
+          → Outcome t s i o (unless14 b s o (cond (stateOk t s) (ended result s o) (turnedBack 15 0 s o)))
+      judge (some k) r = row-refused k (row-exactly (t .signature) i (length o) k .0 r)
+      judge none r = state r (stateOk t s) refl
+
+-- Every row on an image that opens, compiled or not.
+pub image-outcome : (b : List ℕ) (t : Table) → Bytes b → openOf b ≡ opened t → (s : State) (i o : List ℤ) → Outcome t s i o (cycleOf b s i o)
+unfolding cycleOf
+image-outcome b t h e s i o = rw (ap (λ z. unlessClosed z s o (λ u. rowOf u s i o)) e) (row-outcome t (opens-exactly b t h .0 e .1) s i o)

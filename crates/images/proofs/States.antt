@@ -1,0 +1,172 @@
+-- 15 exactly when the State section is not met: a state record that is not refused is the layout of a place and of values of their types.
+-- By induction on the slots. Assumes nothing.
+use Prim.Native.Nat.{ℕ, zero, suc, _≤_, _<_}
+use native.Mathlib.Omega.{arith}
+use mathlib.Core.Path.{_≡_, refl, sym, ap, _∙_}
+use mathlib.Core.Logic.{_↔_, _⊎_, inl, inr}
+use mathlib.Core.Bool.{Bool, true, false, _&&_, _||_}
+use mathlib.Core.List.{List, [], _∷_}
+use lib.ListN.{length, take, length-map}
+use lib.IntN.{ℤ, pos}
+use lib.Dec.{ltb, eqb}
+use borrow.Author.Tests.{ltb-true, lt-ltb, eq-eqb}
+use Rattle.answers.specs.declared.State.{State}
+use Rattle.design.specs.Types.{Ty, eqZ, inType}
+use Rattle.semantics.specs.Equations.{Memory}
+use Rattle.semantics.specs.Values.{Values}
+use Rattle.semantics.proofs.Basic.{false-true, eqb-true, eqb-same, and-left, and-right, or-left, or-right}
+use Rattle.semantics.proofs.Results.{or-case}
+use Rattle.format.specs.Lines.{Line, waits, acts, branches, line}
+use Rattle.format.specs.Signature.{Cell, Signature, types, initials, Initialised, GoodSignature}
+use Rattle.format.specs.Image.{Table}
+use Rattle.format.specs.Good.{GoodTable}
+use Rattle.format.specs.State.{zeros, slotsOk, isWait, placeOk, stateOk, pad, stateFor, memoryOf, freshTable}
+use Rattle.format.proofs.Basic.{and-both}
+use Rattle.format.proofs.Words.{eqZ-true}
+use Rattle.simulation.specs.Walked.{WaitAt}
+use Rattle.images.specs.Outcome.{Typed, GoodState}
+
+-- Slots.
+
+pad-length : (n : ℕ) (l : List ℤ) → length (pad n l) ≡ n
+unfolding pad
+pad-length zero l = refl
+pad-length (suc n) [] = ap suc (pad-length n [])
+pad-length (suc n) (z ∷ l) = ap suc (pad-length n l)
+
+zeros-pad : (n : ℕ) → zeros (pad n []) ≡ true
+unfolding pad zeros
+zeros-pad zero = refl
+zeros-pad (suc n) = zeros-pad n
+
+pad-zeros : (n : ℕ) (l : List ℤ) → length l ≡ n → zeros l ≡ true → l ≡ pad n []
+unfolding pad zeros
+pad-zeros zero [] e h = refl
+pad-zeros zero (z ∷ l) e h = absurd (omega arith)
+pad-zeros (suc n) [] e h = absurd (omega arith)
+pad-zeros (suc n) (z ∷ l) e h =
+    ap (λ y. y ∷ l) (eqZ-true z 0 (and-left (eqZ z (pos 0)) _ h)) ∙ ap (λ r. pos 0 ∷ r) (pad-zeros n l (omega arith) (and-right (eqZ z (pos 0)) _ h))
+
+-- values of their types, padded, are accepted ..
+slots-ok : (n : ℕ) (ts : List Ty) (l : List ℤ) → Values ts l → length ts ≤ n → slotsOk ts (pad n l) ≡ true
+unfolding pad slotsOk Values
+slots-ok n [] [] h b = zeros-pad n
+slots-ok n [] (z ∷ l) h b = absurd h
+slots-ok n (t ∷ ts) [] h b = absurd h
+slots-ok zero (t ∷ ts) (z ∷ l) h b = absurd (omega arith)
+slots-ok (suc n) (t ∷ ts) (z ∷ l) h b = and-both _ _ (h .0) (slots-ok n ts l (h .1) (omega arith))
+
+-- .. and nothing else is: the used slots are values of their types, and the slots are these, padded
+ok-slots : (n : ℕ) (ts : List Ty) (l : List ℤ) → length l ≡ n → slotsOk ts l ≡ true → Values ts (take (length ts) l) × (l ≡ pad n (take (length ts) l))
+unfolding pad slotsOk Values
+ok-slots n [] l e h = (tt, pad-zeros n l e h)
+ok-slots n (t ∷ ts) [] e h = false-true h
+ok-slots zero (t ∷ ts) (z ∷ l) e h = absurd (omega arith)
+ok-slots (suc n) (t ∷ ts) (z ∷ l) e h =
+    let r = ok-slots n ts l (omega arith) (and-right (inType t z) _ h) in
+    ((and-left (inType t z) _ h, r .0), ap (λ q. z ∷ q) (r .1))
+
+-- values of their types are read back from the slots
+pub pad-take : (n : ℕ) (ts : List Ty) (l : List ℤ) → Values ts l → length ts ≤ n → take (length ts) (pad n l) ≡ l
+unfolding pad Values
+pad-take n [] [] h b = refl
+pad-take n [] (z ∷ l) h b = absurd h
+pad-take n (t ∷ ts) [] h b = absurd h
+pad-take zero (t ∷ ts) (z ∷ l) h b = absurd (omega arith)
+pad-take (suc n) (t ∷ ts) (z ∷ l) h b = ap (λ r. z ∷ r) (pad-take n ts l (h .1) (omega arith))
+
+pub types-length : (l : List Cell) → length (types l) ≡ length l
+types-length l = length-map l (λ c. c .type)
+
+-- Places.
+
+wait-line : (l : Line) → isWait l ≡ true → (f : ℕ) × (l ≡ waits f)
+wait-line (waits f) h = (f, refl)
+wait-line (acts a f) h = false-true h
+wait-line (branches e f g) h = false-true h
+
+place-exactly : (t : List Line) (p : ℕ) → (placeOk t p ≡ true) ↔ ((p ≡ 512) ⊎ WaitAt t p)
+unfolding placeOk
+place-exactly t p = (to, back)
+  where
+    to : (eqb p 512 || (ltb p (length t) && isWait (line t p))) ≡ true → (p ≡ 512) ⊎ WaitAt t p
+    to h =
+        or-case (eqb p 512) _ h (λ q. inl (eqb-true p 512 q)) (λ q.
+        let w = wait-line (line t p) (and-right (ltb p (length t)) _ q) in
+        inr (record { inside = ltb-true p (length t) (and-left (ltb p (length t)) _ q); follower = w .0; waiting = w .1 }))
+
+    back : (p ≡ 512) ⊎ WaitAt t p → (eqb p 512 || (ltb p (length t) && isWait (line t p))) ≡ true
+    back (inl e) = or-left (eqb p 512) _ (eq-eqb p 512 e)
+    back (inr w) = or-right (eqb p 512) _ (and-both (ltb p (length t)) (isWait (line t p)) (lt-ltb p (length t) (w .inside)) (rw (w .waiting)))
+
+-- State records.
+
+module _ (t : Table) (g : GoodTable t) where
+  outputs-few : length (types (t .signature .outputs)) ≤ 16
+  outputs-few = omega (arith, types-length (t .signature .outputs), g .signature .outputs)
+
+  variables-few : length (types (t .signature .variables)) ≤ 32
+  variables-few = omega (arith, types-length (t .signature .variables), g .signature .variables)
+
+  state-good : (s : State) → stateOk t s ≡ true → GoodState t s
+  unfolding stateOk stateFor
+  state-good s h =
+      let a = and-left (placeOk (t .lines) (s .place)) _ h in
+      let b = and-right (placeOk (t .lines) (s .place)) _ h in
+      let o = and-left (eqb (length (s .outputs)) 16 && slotsOk (types (t .signature .outputs)) (s .outputs)) _ b in
+      let v = and-right (eqb (length (s .outputs)) 16 && slotsOk (types (t .signature .outputs)) (s .outputs)) _ b in
+      let x = ok-slots 16 (types (t .signature .outputs)) (s .outputs) (eqb-true _ 16 (and-left (eqb (length (s .outputs)) 16) _ o)) (and-right (eqb (length (s .outputs)) 16) _ o) in
+      let y = ok-slots 32 (types (t .signature .variables)) (s .variables) (eqb-true _ 32 (and-left (eqb (length (s .variables)) 32) _ v)) (and-right (eqb (length (s .variables)) 32) _ v) in
+      record {
+        place = place-exactly (t .lines) (s .place) .0 a;
+        memory = record { outputs = take (length (types (t .signature .outputs))) (s .outputs); variables = take (length (types (t .signature .variables))) (s .variables) };
+        typed = record { outputs = x .0; variables = y .0 };
+        slots = λ j. record { place = s .place; outputs = x .1 j; variables = y .1 j };
+      }
+
+  good-state : (s : State) → GoodState t s → stateOk t s ≡ true
+  good-state s k = rw (k .slots) (laid (s .place) (k .memory) (k .place) (k .typed))
+    where
+      laid : (p : ℕ) (m : Memory) → (p ≡ 512) ⊎ WaitAt (t .lines) p → Typed (t .signature) m → stateOk t (stateFor p m) ≡ true
+      laid p m q w = unfold stateOk stateFor in
+          rw (
+            place-exactly (t .lines) p .1 q,
+            pad-length 16 (m .outputs),
+            pad-length 32 (m .variables),
+            slots-ok 16 (types (t .signature .outputs)) (m .outputs) (w .outputs) outputs-few,
+            slots-ok 32 (types (t .signature .variables)) (m .variables) (w .variables) variables-few,
+          )
+
+  -- 15 exactly when the state is none that the State section describes.
+  pub state-exactly : (s : State) → (stateOk t s ≡ true) ↔ GoodState t s
+  state-exactly s = (state-good s, good-state s)
+
+  -- the outputs and variables of a state are read back from its layout
+  pub memory-back : (p : ℕ) (m : Memory) → Typed (t .signature) m → memoryOf (t .signature) (stateFor p m) ≡ m
+  unfolding memoryOf stateFor
+  memory-back p m w =
+      let a : take (length (t .signature .outputs)) (pad 16 (m .outputs)) ≡ m .outputs =
+      ap (λ n. take n (pad 16 (m .outputs))) (sym (types-length (t .signature .outputs))) ∙ pad-take 16 (types (t .signature .outputs)) (m .outputs) (w .outputs) outputs-few in
+      let b : take (length (t .signature .variables)) (pad 32 (m .variables)) ≡ m .variables =
+      ap (λ n. take n (pad 32 (m .variables))) (sym (types-length (t .signature .variables))) ∙ pad-take 32 (types (t .signature .variables)) (m .variables) (w .variables) variables-few in
+      λ j. record { outputs = a j; variables = b j }
+
+  initials-typed : (l : List Cell) → Initialised l → Values (types l) (initials l)
+  unfolding Initialised Values
+  initials-typed [] h = tt
+  initials-typed (c ∷ l) h = (h .0, initials-typed l (h .1))
+
+  -- The fresh state is not refused by 15.
+  pub fresh-good : GoodState t (freshTable t)
+  unfolding freshTable stateFor
+  fresh-good =
+      record {
+        place = inl refl;
+        memory = record { outputs = initials (t .signature .outputs); variables = initials (t .signature .variables) };
+        typed =
+            record {
+              outputs = initials-typed (t .signature .outputs) (g .signature .initial-outputs);
+              variables = initials-typed (t .signature .variables) (g .signature .initial-variables);
+            };
+        slots = refl;
+      }

@@ -1,0 +1,128 @@
+-- A good table is ranked, and a walk over its lines keeps values of their types: line by line, then by induction on the count of lines.
+-- Assumes nothing.
+use Prim.Native.Nat.{ℕ, zero, suc, _≤_, _<_}
+use native.Mathlib.Omega.{arith}
+use mathlib.Core.Path.{_≡_, refl, sym, ap, _∙_}
+use mathlib.Core.Bool.{Bool, true, false, _&&_}
+use mathlib.Core.Option.{Option, none, some}
+use mathlib.Core.List.{List, [], _∷_, _++_}
+use lib.ListN.{length, getD}
+use lib.IntN.{ℤ}
+use lib.Dec.{ltb, eqb}
+use borrow.Author.Tests.{ltb-true}
+use Rattle.design.specs.Types.{Ty, ExprTy, plain, inType}
+use Rattle.design.specs.Expression.{Expr, Out, fine, fault, nth, plainly, typeOf}
+use Rattle.design.specs.Statement.{Act, output, variable, null}
+use Rattle.design.specs.Process.{fits, typedAct}
+use Rattle.semantics.specs.Evaluation.{evaluate}
+use Rattle.semantics.specs.Equations.{Memory, Run, Result, passed, reached, refused, perform, log}
+use Rattle.semantics.specs.Values.{ofType, Values}
+use Rattle.semantics.proofs.Basic.{none-some, some-injective, fine-injective, bind-fine, eqb-true, and-left, and-right}
+use Rattle.semantics.proofs.Values.{values-set, value-typed}
+use Rattle.format.specs.Lines.{Line, waits, acts, branches, line, reach, reachOf}
+use Rattle.format.specs.Walk.{walk}
+use Rattle.format.specs.Signature.{Signature, types}
+use Rattle.format.specs.Image.{Table}
+use Rattle.format.specs.Good.{fitsLine, within, goodLine, GoodLines, GoodTable}
+use Rattle.format.proofs.Lines.{fits-type}
+use Rattle.simulation.specs.Ranked.{Followers, Ranked}
+use Rattle.simulation.proofs.Steps.{Next, next-inside, step-holds}
+use Rattle.images.specs.Outcome.{Typed}
+
+-- Good lines, one by one.
+
+lines-good : (σ : Signature) (n : ℕ) (rs : List ℕ) (ls : List Line) (qs : List ℕ) → GoodLines σ n rs ls qs
+    → (x : ℕ) → x < length ls → goodLine σ n rs (getD qs x 0) (getD ls x (waits 0)) ≡ true
+unfolding GoodLines
+lines-good σ n rs [] [] g x b = absurd (omega arith)
+lines-good σ n rs [] (q ∷ qs) g x b = absurd g
+lines-good σ n rs (l ∷ ls) [] g x b = absurd g
+lines-good σ n rs (l ∷ ls) (q ∷ qs) g zero b = g .0
+lines-good σ n rs (l ∷ ls) (q ∷ qs) g (suc x) b = lines-good σ n rs ls qs (g .2) x (omega arith)
+
+lines-long : (σ : Signature) (n : ℕ) (rs : List ℕ) (ls : List Line) (qs : List ℕ) → GoodLines σ n rs ls qs → length qs ≡ length ls
+unfolding GoodLines
+lines-long σ n rs [] [] g = refl
+lines-long σ n rs [] (q ∷ qs) g = absurd g
+lines-long σ n rs (l ∷ ls) [] g = absurd g
+lines-long σ n rs (l ∷ ls) (q ∷ qs) g = ap suc (lines-long σ n rs ls qs (g .2))
+
+within-followers : (n : ℕ) (l : Line) → within n l ≡ true → Followers n l
+within-followers n (waits f) h = ltb-true f n h
+within-followers n (acts a f) h = ltb-true f n h
+within-followers n (branches e f g) h = (ltb-true f n (and-left (ltb f n) _ h), ltb-true g n (and-right (ltb f n) _ h))
+
+-- what a good line is
+good-parts : (σ : Signature) (n : ℕ) (rs : List ℕ) (q : ℕ) (l : Line) → goodLine σ n rs q l ≡ true
+    → Followers n l × (q ≡ reachOf rs l) × (fitsLine σ l ≡ true)
+unfolding goodLine
+good-parts σ n rs q l h =
+    let r = and-right (within n l) _ h in
+    (within-followers n l (and-left (within n l) _ h), eqb-true q (reachOf rs l) (and-left (eqb q (reachOf rs l)) _ r), and-right (eqb q (reachOf rs l)) _ r)
+
+module _ (t : Table) (g : GoodTable t) where
+  pub line-good : (x : ℕ) → x < length (t .lines)
+      → Followers (length (t .lines)) (line (t .lines) x) × (reach (t .reaches) x ≡ reachOf (t .reaches) (line (t .lines) x)) × (fitsLine (t .signature) (line (t .lines) x) ≡ true)
+  line-good x b =
+      good-parts (t .signature) (length (t .lines)) (t .reaches) (reach (t .reaches) x) (line (t .lines) x)
+      (lines-good (t .signature) (length (t .lines)) (t .reaches) (t .lines) (t .reaches) (g .lines) x b)
+
+  -- The lines and reaches of a good table satisfy document 01's equation for reaches, and every follower is a line.
+  pub good-ranked : Ranked (t .lines) (t .reaches)
+  good-ranked =
+      record {
+        long = lines-long (t .signature) (length (t .lines)) (t .reaches) (t .lines) (t .reaches) (g .lines);
+        followers = λ x b. line-good x b .0;
+        reaches = λ x b. line-good x b .1;
+      }
+
+-- Types.
+
+-- a target that fits has the expression's type
+target-type : (is vs : List Ty) (e : Expr) (o : Option Ty) → fits is vs e (plainly o) ≡ true → (t : Ty) × (typeOf is vs e ≡ some (plain t)) × (o ≡ some t)
+target-type is vs e o h = let u = fits-type is vs e (plainly o) h in go o (u .0) (u .1) (u .2)
+  where
+    go : (o : Option Ty) (u : ExprTy) → typeOf is vs e ≡ some u → plainly o ≡ some u → (t : Ty) × (typeOf is vs e ≡ some (plain t)) × (o ≡ some t)
+    go none u p q = unfold plainly in none-some u q
+    go (some t) u p q = unfold plainly in (t, p ∙ sym q, refl)
+
+module _ (σ : Signature) (i : List ℤ) (hi : Values (σ .inputs) i) where
+  stored : (m : Memory) → Typed σ m → (e : Expr) (o : Option Ty) (z : ℤ) → fits (σ .inputs) (types (σ .variables)) e (plainly o) ≡ true
+      → evaluate e i (m .variables) ≡ fine z → (t : Ty) × (o ≡ some t) × (inType t z ≡ true)
+  unfolding ofType
+  stored m w e o z h q =
+      let t = target-type _ _ e o h in
+      (t .0, t .2, value-typed (σ .inputs) (types (σ .variables)) i (m .variables) hi (w .variables) e (plain (t .0)) z (t .1) q)
+
+  perform-typed : (a : Act) → typedAct (σ .inputs) (types (σ .outputs)) (types (σ .variables)) a ≡ true → (m m′ : Memory) → Typed σ m → perform a i m ≡ fine m′ → Typed σ m′
+  unfolding typedAct perform
+  perform-typed (output k e) h m m′ w q =
+      let r = bind-fine _ _ m′ q in
+      let t = stored m w e _ (r .0) h (r .1) in
+      rw (← fine-injective _ m′ (r .2)) (record { outputs = values-set _ _ k (t .0) (r .0) (w .outputs) (t .1) (t .2); variables = w .variables })
+  perform-typed (variable k e) h m m′ w q =
+      let r = bind-fine _ _ m′ q in
+      let t = stored m w e _ (r .0) h (r .1) in
+      rw (← fine-injective _ m′ (r .2)) (record { outputs = w .outputs; variables = values-set _ _ k (t .0) (r .0) (w .variables) (t .1) (t .2) })
+  perform-typed null h m m′ w q = rw (← fine-injective m m′ q) w
+
+  next-typed : (l : Line) → fitsLine σ l ≡ true → (m m′ : Memory) (z : ℕ) → Next l i m m′ z → Typed σ m → Typed σ m′
+  next-typed (waits f) h m m′ z n w = absurd n
+  next-typed (acts a f) h m m′ z n w = perform-typed a h m m′ w (n .0)
+  next-typed (branches e f g) h m m′ z n w = rw (n .0) at w
+
+-- the memory of a walk that ends at a wait
+abbrev pub TypedResult : Signature → Result → Type 0
+TypedResult σ (passed τ) = Unit {0}
+TypedResult σ (reached p τ) = Typed σ (τ .memory)
+TypedResult σ (refused q x) = Unit {0}
+
+module _ (t : Table) (g : GoodTable t) (i : List ℤ) (hi : Values (t .signature .inputs) i) where
+  -- A walk over a good table's lines keeps outputs and variables in their types.
+  pub walk-typed : (k x : ℕ) (σ : Run) → x < length (t .lines) → Typed (t .signature) (σ .memory) → TypedResult (t .signature) (walk (t .lines) i k x σ)
+  unfolding walk log
+  walk-typed zero x σ b w = tt
+  walk-typed (suc k) x σ b w =
+      let l = line-good t g x b in
+      step-holds (TypedResult (t .signature)) (line (t .lines) x) x i σ _ (λ f e. w) tt
+      (λ z m n. walk-typed k z _ (next-inside (length (t .lines)) (line (t .lines) x) (l .0) i _ m z n) (next-typed (t .signature) i hi (line (t .lines) x) (l .2) _ m z n w))
