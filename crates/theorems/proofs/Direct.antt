@@ -7,7 +7,7 @@ use mathlib.Core.Option.{Option, none, some}
 use mathlib.Core.List.{List, [], _∷_, _++_}
 use Prim.Native.Nat.{ℕ, zero, suc, _+_, _≤_, _<_}
 use native.Mathlib.Omega.{arith}
-use lib.ListN.{length, take}
+use lib.ListN.{length, take, length-map}
 use lib.IntN.{ℤ, pos, negsuc}
 use lib.Dec.{eqb, ltb}
 use borrow.Author.Tests.{ltb-true, lt-ltb}
@@ -29,8 +29,9 @@ use Rattle.format.specs.Encode.{tableOf, encode, signatureFor}
 use Rattle.simulation.specs.Places.{number}
 use Rattle.theorems.specs.Comparison.{fed, laid, seen}
 use Rattle.theorems.specs.Direct.{fitsText, placeFor, keptOf, cycled, directRow}
+use Rattle.images.proofs.Processes.{cells-types, row-refusal}
 use Rattle.simulation.proofs.Lines.{Each, linesOf-each, linesOf-length, below-or}
-use Rattle.theorems.proofs.OneRow.{map-length, cells-types, same-14, wait-line, same-cycle}
+use Rattle.theorems.proofs.OneRow.{wait-line, same-cycle}
 
 later : (n p : ℕ) → n ≤ p → (suc n ≤ p) ⊎ (n ≡ p)
 later n p l = ⊎-elim (λ v. inl v) (λ v. inr (omega arith)) (below-or n p)
@@ -148,8 +149,8 @@ module _ (p : Process) (s : State) (f : fitsText p s ≡ true) where
       record {
         place = placed-for (p .body) (s .place) (parts .0);
         well-typed = record {
-          outputs = subst (λ (n : ℕ). Values (slotTypes (p .outputs)) (take n (s .outputs))) (map-length (λ (x : Slot). x .type) (p .outputs)) o;
-          variables = subst (λ (n : ℕ). Values (slotTypes (p .variables)) (take n (s .variables))) (map-length (λ (x : Slot). x .type) (p .variables)) v;
+          outputs = subst (λ (n : ℕ). Values (slotTypes (p .outputs)) (take n (s .outputs))) (length-map (p .outputs) (λ (x : Slot). x .type)) o;
+          variables = subst (λ (n : ℕ). Values (slotTypes (p .variables)) (take n (s .variables))) (length-map (p .variables) (λ (x : Slot). x .type)) v;
         };
       }
 
@@ -158,10 +159,10 @@ module _ (p : Process) (s : State) (f : fitsText p s ≡ true) where
   unfolding keptOf stateFor
   kept-laid =
       let a = number-back (s .place) in
-      let o : pad 16 (take (length (p .outputs)) (s .outputs)) ≡ s .outputs = subst (λ (n : ℕ). pad 16 (take n (s .outputs)) ≡ s .outputs) (map-length (λ (x : Slot). x .type) (p .outputs))
+      let o : pad 16 (take (length (p .outputs)) (s .outputs)) ≡ s .outputs = subst (λ (n : ℕ). pad 16 (take n (s .outputs)) ≡ s .outputs) (length-map (p .outputs) (λ (x : Slot). x .type))
       (slots-pad 16 (slotTypes (p .outputs)) (s .outputs) (eqb-true (length (s .outputs)) 16 (and-left (eqb (length (s .outputs)) 16) (slotsOk (slotTypes (p .outputs)) (s .outputs)) (parts .1)))
       (and-right (eqb (length (s .outputs)) 16) (slotsOk (slotTypes (p .outputs)) (s .outputs)) (parts .1))) in
-      let v : pad 32 (take (length (p .variables)) (s .variables)) ≡ s .variables = subst (λ (n : ℕ). pad 32 (take n (s .variables)) ≡ s .variables) (map-length (λ (x : Slot). x .type) (p .variables))
+      let v : pad 32 (take (length (p .variables)) (s .variables)) ≡ s .variables = subst (λ (n : ℕ). pad 32 (take n (s .variables)) ≡ s .variables) (length-map (p .variables) (λ (x : Slot). x .type))
       (slots-pad 32 (slotTypes (p .variables)) (s .variables) (eqb-true (length (s .variables)) 32 (and-left (eqb (length (s .variables)) 32) (slotsOk (slotTypes (p .variables)) (s .variables)) (parts .2)))
       (and-right (eqb (length (s .variables)) 32) (slotsOk (slotTypes (p .variables)) (s .variables)) (parts .2))) in
       λ i. record { place = a i; outputs = o i; variables = v i }
@@ -175,7 +176,7 @@ table-direct p w s c f =
 pub row-direct : (p : Process) → WellFormed p → (s : State) (c : Call) → rowOf (tableOf p) s (c .inputs) (c .outputs) ≡ directRow p s c
 unfolding rowOf directRow tableOf
 row-direct p w s c =
-    rw (same-15 p s, same-14 p c)
+    rw (same-15 p s, row-refusal p w (c .inputs) (length (c .outputs)))
     (ap (λ (r : Called). unless14 (rowRefusal p (fed c)) s (c .outputs) r) (go (fitsText p s) (table-direct p w s c)))
   where
     go : (b : Bool) → (b ≡ true → tableRow (tableOf p) s (c .inputs) (c .outputs) ≡ cycled p (keptOf p s) c)

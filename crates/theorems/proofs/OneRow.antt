@@ -6,7 +6,7 @@ use mathlib.Core.Option.{Option, none, some}
 use mathlib.Core.List.{List, [], _∷_, map}
 use Prim.Native.Nat.{ℕ, zero, suc, _+_, _≤_, _<_}
 use native.Mathlib.Omega.{arith}
-use lib.ListN.{length, take}
+use lib.ListN.{length, take, length-map}
 use lib.IntN.{ℤ, pos}
 use lib.Dec.{eqb, ltb}
 use borrow.Author.Tests.{lt-ltb, eq-eqb}
@@ -32,25 +32,11 @@ use Rattle.format.specs.Cycle.{rowPlace, Called, turnedBack, ended, tableRow, u
 use Rattle.format.specs.Encode.{cells, signatureFor, tableOf}
 use Rattle.simulation.specs.Places.{number}
 use Rattle.theorems.specs.Comparison.{fed, laid, seen}
+use Rattle.images.proofs.Processes.{cells-types, cells-length, row-refusal}
 use Rattle.simulation.proofs.Lines.{Each, linesOf-each, linesOf-length}
 use Rattle.simulation.proofs.Cycle.{one-cycle}
 
 -- lists
-
-pub map-length : {A B : Type 0} (f : A → B) (l : List A) → length (map f l) ≡ length l
-map-length f [] = refl
-map-length f (a ∷ l) = ap suc (map-length f l)
-
-cell : Slot → Cell
-cell s = record { type = s .type; initial = s .initial }
-
-cells-length : (l : List Slot) → length (cells l) ≡ length l
-cells-length [] = refl
-cells-length (s ∷ l) = ap suc (cells-length l)
-
-pub cells-types : (l : List Slot) → types (cells l) ≡ slotTypes l
-cells-types [] = refl
-cells-types (s ∷ l) = ap (λ (k : List Ty). s .type ∷ k) (cells-types l)
 
 cells-initials : (l : List Slot) → initials (cells l) ≡ D.initials l
 cells-initials [] = refl
@@ -103,11 +89,6 @@ place-ok s (at p) v = let h : p < length (linesOf s) = rw linesOf-length (omega 
     go true x y = refl
     go false x y = rw (x, y)
 
--- 14 from the signature is 14 from the declarations
-pub same-14 : (p : Process) (c : Call) → rowPlace (signatureFor p) (c .inputs) (length (c .outputs)) ≡ rowRefusal p (fed c)
-unfolding rowPlace rowRefusal signatureFor
-same-14 p c = rw (map-length (λ (s : Source). s .type) (p .inputs), cells-length (p .outputs))
-
 -- The fresh state is the layout of the beginning and the initial values.
 pub fresh-laid : (p : Process) → freshTable (tableOf p) ≡ laid (atFirst p)
 unfolding freshTable tableOf signatureFor atFirst
@@ -115,17 +96,17 @@ fresh-laid p = rw (cells-initials (p .outputs), cells-initials (p .variables))
 
 module _ (p : Process) (w : WellFormed p) (k : Kept) (v : Invariant p k) where
   outputs-length : length (k .memory .outputs) ≡ length (p .outputs)
-  outputs-length = values-length (slotTypes (p .outputs)) (k .memory .outputs) (v .well-typed .outputs) ∙ map-length (λ (s : Slot). s .type) (p .outputs)
+  outputs-length = values-length (slotTypes (p .outputs)) (k .memory .outputs) (v .well-typed .outputs) ∙ length-map (p .outputs) (λ (s : Slot). s .type)
 
   variables-length : length (k .memory .variables) ≡ length (p .variables)
-  variables-length = values-length (slotTypes (p .variables)) (k .memory .variables) (v .well-typed .variables) ∙ map-length (λ (s : Slot). s .type) (p .variables)
+  variables-length = values-length (slotTypes (p .variables)) (k .memory .variables) (v .well-typed .variables) ∙ length-map (p .variables) (λ (s : Slot). s .type)
 
   -- it is not refused by 15
   state-ok : stateOk (tableOf p) (laid k) ≡ true
   unfolding stateOk tableOf signatureFor stateFor
   state-ok =
-      let o : length (slotTypes (p .outputs)) ≤ 16 = rw (map-length (λ (s : Slot). s .type) (p .outputs)) (w .outputs) in
-      let n : length (slotTypes (p .variables)) ≤ 32 = rw (map-length (λ (s : Slot). s .type) (p .variables)) (w .variables) in
+      let o : length (slotTypes (p .outputs)) ≤ 16 = rw (length-map (p .outputs) (λ (s : Slot). s .type)) (w .outputs) in
+      let n : length (slotTypes (p .variables)) ≤ 32 = rw (length-map (p .variables) (λ (s : Slot). s .type)) (w .variables) in
       rw (
         place-ok (p .body) (k .place) (v .place),
         pad-length 16 (k .memory .outputs),
@@ -162,7 +143,7 @@ module _ (p : Process) (w : WellFormed p) (k : Kept) (v : Invariant p k) where
   -- One call.
   pub one-row : (c : Call) → rowOf (tableOf p) (laid k) (c .inputs) (c .outputs) ≡ seen (row p k (fed c)) c
   unfolding rowOf row judged tableOf
-  one-row c = rw (same-14 p c, state-ok) (go (rowRefusal p (fed c)))
+  one-row c = rw (row-refusal p w (c .inputs) (length (c .outputs)), state-ok) (go (rowRefusal p (fed c)))
     where
       go : (o : Option ℕ) → unless14 o (laid k) (c .outputs) (tableRow (tableOf p) (laid k) (c .inputs) (c .outputs)) ≡ seen (judged o p k (fed c)) c
       go none = same-cycle c
