@@ -13,7 +13,7 @@ use Rattle.format.specs.Image.{Table}
 use Rattle.format.specs.Opening.{Opened, opened, not-opened, openOf}
 use Rattle.format.specs.State.{stateOk, memoryOf}
 use Rattle.format.specs.Walk.{tableCycle}
-use Rattle.format.specs.Cycle.{rowPlace, Called, performed, not-performed, turnedBack, ended, tableRow, unless14, rowOf, unlessClosed, cycleOf}
+use Rattle.format.specs.Cycle.{rowPlace, Called, not-performed, turnedBack, ended, tableRow, unless14, rowOf, unlessClosed, cycleOf}
 
 module _ (s : State) (o : List ℤ) where
   -- where a call is refused, state and output row are as they came
@@ -40,7 +40,8 @@ module _ (s : State) (o : List ℤ) where
       judge none false = turned-untouched 15 0
 
   -- "Buffers and state are untouched": a refused call leaves state and output row as they came.
-  pub refused-untouched : (b : List ℕ) (i : List ℤ) (q k : ℕ) → cycleOf b s i o .answer ≡ not-performed q k → (cycleOf b s i o .state ≡ s) × (cycleOf b s i o .row ≡ o)
+  pub refused-untouched : (b : List ℕ) (i : List ℤ) (q k : ℕ) → cycleOf b s i o .answer ≡ not-performed q k
+      → (cycleOf b s i o .state ≡ s) × (cycleOf b s i o .row ≡ o)
   unfolding cycleOf Untouched
   refused-untouched b i = by (openOf b)
     where

@@ -1,24 +1,15 @@
--- Running the code of an expression on a stack is recursion over the expression, and decoding is the inverse of coding: by induction on the
--- expression one way, by induction on the operations the other. Assumes nothing.
-use Prim.Native.Nat.{ℕ, zero, suc, _+_, _-_, _*_, _/_, _%_, _≤_, _<_}
+-- Running the code of an expression on a stack is recursion over the expression, for any machine: by induction on the expression. Assumes nothing.
+use Prim.Native.Nat.{ℕ, zero, suc, _≤_}
 use native.Mathlib.Omega.{arith}
 use mathlib.Core.Path.{_≡_, refl, sym, ap, _∙_}
-use mathlib.Core.Logic.{_↔_}
-use mathlib.Core.Bool.{Bool, true, false, cond, _&&_}
-use mathlib.Core.Option.{Option, none, some, Option·map, bind as andThen}
+use mathlib.Core.Bool.{Bool, true, false}
+use mathlib.Core.Option.{Option, some, Option·map, bind as andThen}
 use mathlib.Core.List.{List, [], _∷_, _++_, append-assoc, append-nil}
 use lib.ListN.{length, length-append}
-use lib.IntN.{ℤ}
-use lib.Dec.{eqb}
-use Rattle.design.specs.Types.{Ty, integer, ExprTy, plain, boolean, sameType, inRange}
-use Rattle.design.specs.Expression.{Leaf, int, bit, input, variable, Unary, sign, invert, Binary, plus, minus, equal, unequal, less, at-most, greater, at-least, and, or, xor, Expr, leaf, unary, binary, items, Out, fine, fault, bind, Algebra, fold, leafType, unaryType, binaryType, given, given2, typeOf}
-use Rattle.design.proofs.Types.{sameType-eq, sameType-refl}
-use Rattle.semantics.specs.Evaluation.{applyUnary, applyBinary, values, evaluate}
-use Rattle.semantics.proofs.Basic.{false-true, none-some, fault-fine, some-injective, fine-injective, eqb-true}
-use Rattle.format.specs.Words.{Bytes, word4, bytes4, signed32, unsigned32}
-use Rattle.format.specs.Code.{Operation, push, apply1, apply2, post, unaryByte, binaryByte, bitByte, first, others, operationBytes, code, Taken, readInt, bitOf, readBit, readName, operator, readOperation, operations, Machine, onto, run, runOperations, runCode, untyped, withType, typed, trees, valueOf, decode}
-use Rattle.format.proofs.Words.{word4-small, signed-range, integer-bytes, bytes-integer}
-use Rattle.format.proofs.Basic.{andThen-some, map-some, cond-case}
+use Rattle.design.specs.Types.{inRange}
+use Rattle.design.specs.Expression.{Leaf, int, bit, input, variable, Unary, sign, invert, Binary, plus, minus, equal, unequal, less, at-most, greater, at-least, and, or, xor, Expr, leaf, unary, binary, items, Out, fine, fault, bind, Algebra, fold}
+use Rattle.format.specs.Code.{Operation, push, apply1, apply2, post, unaryByte, binaryByte, bitByte, first, others, operationBytes, code, Taken, readOperation, operations, Machine, onto, run, runOperations, runCode}
+use Rattle.format.proofs.Words.{integer-bytes}
 
 -- Values handed on.
 
@@ -58,7 +49,8 @@ module _ {X : Type 0} (M : Machine X) where
       ap (λ l. run M l st) (append-assoc (post a) _ is ∙ ap (λ l. post a ++ l) (append-assoc (post b) (apply2 o ∷ []) is))
       ∙ run-post a (post b ++ (apply2 o ∷ is)) st
       ∙ bind-cong (fold (untypedAlgebra M) a) _ _ (λ x. run-post b (apply2 o ∷ is) (x ∷ st)
-      ∙ bind-cong (fold (untypedAlgebra M) b) _ _ (λ y. onto-bind (M .ofBinary o x y) st _) ∙ sym (bind-bind (fold (untypedAlgebra M) b) (λ y. M .ofBinary o x y) _))
+      ∙ bind-cong (fold (untypedAlgebra M) b) _ _ (λ y. onto-bind (M .ofBinary o x y) st _)
+      ∙ sym (bind-bind (fold (untypedAlgebra M) b) (λ y. M .ofBinary o x y) _))
       ∙ sym (bind-bind (fold (untypedAlgebra M) a) (λ x. bind (fold (untypedAlgebra M) b) (λ y. M .ofBinary o x y)) _)
 
   pub run-tree : (e : Expr) → run M (post e) [] ≡ fold (untypedAlgebra M) e

@@ -1,21 +1,21 @@
 -- Decoding is the inverse of coding, and a typed machine gives each operator its operands' type: by induction on the expression one way,
 -- on the operations, over a stack of typed expressions, the other. Assumes nothing.
-use Prim.Native.Nat.{ℕ, zero, suc, _+_, _*_, _<_}
+use Prim.Native.Nat.{ℕ, zero, suc}
 use mathlib.Core.Path.{_≡_, refl, sym, ap, _∙_}
 use mathlib.Core.Logic.{_↔_}
 use mathlib.Core.Bool.{Bool, true, false, cond}
-use mathlib.Core.Option.{Option, none, some, Option·map, bind as andThen}
+use mathlib.Core.Option.{Option, none, some}
 use mathlib.Core.List.{List, [], _∷_, _++_, append-assoc, append-nil}
 use lib.ListN.{length}
 use lib.IntN.{ℤ}
 use lib.Dec.{eqb}
-use Rattle.design.specs.Types.{Ty, integer, ExprTy, plain, boolean, sameType, inRange}
+use Rattle.design.specs.Types.{Ty, ExprTy, boolean, sameType, inRange}
 use Rattle.design.specs.Expression.{Leaf, int, bit, input, variable, Unary, sign, invert, Binary, plus, minus, equal, unequal, less, at-most, greater, at-least, and, or, xor, Expr, leaf, unary, binary, Out, fine, fault, bind, Algebra, fold, leafType, unaryType, binaryType, given, given2, typeOf}
 use Rattle.design.proofs.Types.{sameType-eq, sameType-refl}
 use Rattle.semantics.specs.Evaluation.{applyUnary, applyBinary, values, evaluate}
-use Rattle.semantics.proofs.Basic.{false-true, none-some, fault-fine, some-injective, fine-injective, eqb-true}
-use Rattle.format.specs.Words.{Bytes, word4, bytes4, signed32, unsigned32}
-use Rattle.format.specs.Code.{Operation, push, apply1, apply2, post, unaryByte, binaryByte, bitByte, first, others, operationBytes, code, readInt, bitOf, readBit, readName, operator, readOperation, operations, Machine, onto, run, runOperations, runCode, untyped, withType, typed, trees, valueOf, decode}
+use Rattle.semantics.proofs.Basic.{none-some, fault-fine, some-injective, fine-injective, eqb-true}
+use Rattle.format.specs.Words.{Bytes, word4, signed32}
+use Rattle.format.specs.Code.{Operation, push, apply1, apply2, post, unaryByte, binaryByte, bitByte, first, others, operationBytes, code, readInt, bitOf, readBit, readName, operator, readOperation, operations, onto, run, runOperations, runCode, untyped, withType, typed, trees, valueOf, decode}
 use Rattle.format.proofs.Words.{word4-small, signed-range, bytes-integer}
 use Rattle.format.proofs.Basic.{andThen-some, map-some, cond-case}
 use Rattle.format.proofs.Coding.{bind-cong, bind-bind, untypedAlgebra, CodableOperation, Codable, codable-append, run-code}
@@ -279,9 +279,11 @@ module _ (is vs : List Ty) where
   run-back (apply2 o ∷ ops) (y ∷ x ∷ st) p g h =
       let s = onto-same (sameType (x .0) (y .0)) _ st _ p h in
       let q = onto-fine (binaryType o (x .0)) (binary o (x .0) (x .1) (y .1)) st _ p (s .1) in
-      let r = run-back ops ((q .0, binary o (x .0) (x .1) (y .1)) ∷ st) p (binary-type is vs o (x .0) (y .0) (q .0) (x .1) (y .1) (g .1 .0) (g .0) (s .0) (q .1), g .1 .1) (q .2) in (
+      let u = binary-type is vs o (x .0) (y .0) (q .0) (x .1) (y .1) (g .1 .0) (g .0) (s .0) (q .1) in
+      let r = run-back ops ((q .0, binary o (x .0) (x .1) (y .1)) ∷ st) p (u, g .1 .1) (q .2) in (
         sym (append-assoc ((before st ++ post (x .1)) ++ post (y .1)) (apply2 o ∷ []) ops)
-            ∙ ap (λ l. l ++ ops) (append-assoc (before st ++ post (x .1)) (post (y .1)) (apply2 o ∷ []) ∙ append-assoc (before st) (post (x .1)) (post (y .1) ++ (apply2 o ∷ [])))
+            ∙ ap (λ l. l ++ ops) (append-assoc (before st ++ post (x .1)) (post (y .1)) (apply2 o ∷ [])
+            ∙ append-assoc (before st) (post (x .1)) (post (y .1) ++ (apply2 o ∷ [])))
             ∙ r .0,
         r .1,
       )

@@ -1,14 +1,14 @@
 -- Every number of a good table's image is a byte: by induction on expressions, cells and lines. Assumes nothing.
-use Prim.Native.Nat.{ℕ, zero, suc, _+_, _*_, _≤_, _<_}
+use Prim.Native.Nat.{ℕ, zero, suc, _+_, _≤_, _<_}
 use native.Mathlib.Omega.{arith}
 use mathlib.Core.Path.{_≡_, refl, sym, ap, _∙_}
 use mathlib.Core.Bool.{Bool, true, false}
 use mathlib.Core.Option.{Option, none, some}
 use mathlib.Core.List.{List, [], _∷_, _++_, append-assoc}
 use lib.ListN.{length, length-map}
-use Rattle.design.specs.Types.{Ty, std-logic, integer, ExprTy, plain}
+use Rattle.design.specs.Types.{Ty, std-logic, integer, ExprTy}
 use Rattle.design.specs.Expression.{Leaf, int, bit, input, variable, Unary, sign, invert, Binary, plus, minus, equal, unequal, less, at-most, greater, at-least, and, or, xor, Expr, leaf, unary, binary, nth, plainly, leafType, typeOf}
-use Rattle.design.specs.Statement.{Act, output, variable as assign, null}
+use Rattle.design.specs.Statement.{output, variable as assign, null}
 use Rattle.design.specs.Process.{typedAct}
 use Rattle.semantics.proofs.Basic.{none-some}
 use Rattle.format.specs.Words.{Bytes, bytes2, bytes4, unsigned32}
@@ -113,10 +113,12 @@ module _ (σ : Signature) (g : GoodSignature σ) where
   line-bytes (waits f) p q h = (tt, omega arith, omega arith)
   line-bytes (acts (output k e) f) p q h =
       let s = fits-type _ _ e _ h in
-      (code-bytes (σ .inputs) (types (σ .variables)) inputs-few variables-few e (s .0) (s .1), omega arith, omega (arith, outputs-few, named-below (types (σ .outputs)) k (s .0) (s .2)))
+      let b = named-below (types (σ .outputs)) k (s .0) (s .2) in
+      (code-bytes (σ .inputs) (types (σ .variables)) inputs-few variables-few e (s .0) (s .1), omega arith, omega (arith, outputs-few))
   line-bytes (acts (assign k e) f) p q h =
       let s = fits-type _ _ e _ h in
-      (code-bytes (σ .inputs) (types (σ .variables)) inputs-few variables-few e (s .0) (s .1), omega arith, omega (arith, variables-few, named-below (types (σ .variables)) k (s .0) (s .2)))
+      let b = named-below (types (σ .variables)) k (s .0) (s .2) in
+      (code-bytes (σ .inputs) (types (σ .variables)) inputs-few variables-few e (s .0) (s .1), omega arith, omega (arith, variables-few))
   line-bytes (acts null f) p q h = (tt, omega arith, omega arith)
   line-bytes (branches e f k) p q h =
       let s = fits-type _ _ e _ h in
@@ -127,7 +129,8 @@ module _ (σ : Signature) (g : GoodSignature σ) where
   raw-bytes w k t =
       (k, (t, (omega arith, (omega arith, (omega arith, (omega arith, (omega arith, (omega arith, (omega arith, (omega arith, (omega arith, (omega arith, tt))))))))))))
 
-  lines-bytes : (n : ℕ) (rs : List ℕ) (p : ℕ) (ls : List Line) (qs : List ℕ) → GoodLines σ n rs ls qs → Bytes (linesCode ls) × Bytes (rawsBytes (rawsOf p ls qs))
+  lines-bytes : (n : ℕ) (rs : List ℕ) (p : ℕ) (ls : List Line) (qs : List ℕ) → GoodLines σ n rs ls qs
+      → Bytes (linesCode ls) × Bytes (rawsBytes (rawsOf p ls qs))
   unfolding linesCode rawsOf GoodLines rawsBytes Bytes
   lines-bytes n rs p [] [] h = (tt, tt)
   lines-bytes n rs p [] (q ∷ qs) h = absurd h

@@ -10,3 +10,4 @@ pub mod Refusals
 pub mod Encoded
 pub mod Calls
 pub mod Examples
+pub mod Mixed

@@ -1,34 +1,31 @@
 -- Lines are read back from their bytes, and lines that open are those whose bytes they are: by induction on the lines, code offset and rest of the
 -- code running along. Assumes nothing.
-use Prim.Native.Nat.{ℕ, zero, suc, _+_, _*_, _/_, _%_, _≤_, _<_}
+use Prim.Native.Nat.{ℕ, zero, suc, _+_, _*_, _≤_, _<_}
 use native.Mathlib.Omega.{arith}
 use mathlib.Core.Path.{_≡_, refl, sym, ap, _∙_}
-use mathlib.Core.Logic.{_↔_}
-use mathlib.Core.Bool.{Bool, true, false, cond, _&&_}
+use mathlib.Core.Bool.{true, _&&_}
 use mathlib.Core.Option.{Option, none, some, Option·map, bind}
-use mathlib.Core.List.{List, [], _∷_, _++_, map, append-assoc, append-nil}
-use lib.ListN.{length, getD, take, drop, length-append, length-drop, take-append-drop, length-map}
+use mathlib.Core.List.{List, [], _∷_, _++_}
+use lib.ListN.{length, getD, take, drop, length-append, length-drop, take-append-drop}
 use lib.Seq.{length-take-le, take-append-seam, drop-append-seam}
 use lib.Dec.{ltb, leb, eqb}
 use borrow.Author.Tests.{leb-true, le-leb, ltb-true}
-use Rattle.design.specs.Types.{Ty, ExprTy, plain, boolean, sameType}
-use Rattle.design.specs.Expression.{Expr, items, nth, plainly, typeOf}
-use Rattle.design.specs.Statement.{Act, output, variable, null}
+use Rattle.design.specs.Types.{Ty, ExprTy}
+use Rattle.design.specs.Expression.{Expr, items, typeOf}
+use Rattle.design.specs.Statement.{output, variable, null}
 use Rattle.design.specs.Process.{isType, fits, typedAct}
 use Rattle.design.proofs.Types.{sameType-eq}
 use Rattle.semantics.proofs.Basic.{false-true, none-some, some-injective, eqb-true, eqb-same, and-left, and-right}
-use Rattle.format.specs.Words.{Bytes, word2, bytes2, word2At, onlyIf}
+use Rattle.format.specs.Words.{Bytes, onlyIf}
 use Rattle.format.specs.Code.{code, decode}
-use Rattle.format.specs.Signature.{Signature, types, signatureBytes, signatureOf, GoodSignature}
+use Rattle.format.specs.Signature.{Signature, types}
 use Rattle.format.specs.Lines.{Line, waits, acts, branches, reachOf}
-use Rattle.format.specs.Image.{Table, RawLine, rawBytes, rawsBytes, lineCode, linesCode, raw, rawOf, rawsOf, pairs, joined, start, image, Sections, form1, sectionsFor, encodeTable}
-use Rattle.format.specs.Good.{fitsLine, within, goodLine, GoodLines, GoodTable}
-use Rattle.format.specs.Opening.{wholeLines, sectionsOf, rawAt, raws, isEmpty, lineOf, openLine, Lined, lined, bad-at, with, goOn, openLines, rawReaches, Opened, opened, not-opened, tabled, openTable, unless12, rawLines, openSections, unless11, openOf}
-use Rattle.format.proofs.Words.{word2-bytes2, bytes2-front, word2-small, byte-at, bytes-left, bytes-right, bytes-take, bytes-drop}
+use Rattle.format.specs.Image.{RawLine, rawBytes, rawsBytes, lineCode, linesCode, raw, rawOf, rawsOf}
+use Rattle.format.specs.Good.{fitsLine, within, goodLine, GoodLines}
+use Rattle.format.specs.Opening.{rawAt, raws, isEmpty, lineOf, openLine, Lined, lined, bad-at, with, goOn, openLines, rawReaches}
+use Rattle.format.proofs.Words.{word2-bytes2, bytes2-front, word2-small, byte-at, bytes-take, bytes-drop}
 use Rattle.format.proofs.Basic.{andThen-some, map-some, onlyIf-some, cond-case}
 use Rattle.format.proofs.Decoding.{decode-code, decode-back}
-use Rattle.format.proofs.Signature.{signature-read, signature-exactly}
-use Rattle.format.proofs.Sections.{form1-length, whole-lines, form1-read, sections-exactly}
 
 -- A line's fields.
 
@@ -215,8 +212,8 @@ empty-nil : (c : List ℕ) → isEmpty c ≡ true → c ≡ []
 empty-nil [] e = refl
 empty-nil (k ∷ c) e = false-true e
 
-shape-without : (k t : ℕ) (c : List ℕ) (f g : ℕ) (m : Line) (l : Line) (n : ℕ) → eqb k n ≡ true → lineCode m ≡ [] → ((p q : ℕ) → rawOf p m q ≡ raw n 0 p 0 f 0 q)
-    → onlyIf (eqb t 0 && (eqb g 0 && isEmpty c)) (some m) ≡ some l → Shape k t c f g l
+shape-without : (k t : ℕ) (c : List ℕ) (f g : ℕ) (m : Line) (l : Line) (n : ℕ) → eqb k n ≡ true → lineCode m ≡ []
+    → ((p q : ℕ) → rawOf p m q ≡ raw n 0 p 0 f 0 q) → onlyIf (eqb t 0 && (eqb g 0 && isEmpty c)) (some m) ≡ some l → Shape k t c f g l
 shape-without k t c f g m l n q em er e =
     let z = onlyIf-some (eqb t 0 && (eqb g 0 && isEmpty c)) l e in
     let ec = empty-nil c (and-right (eqb g 0) _ (and-right (eqb t 0) _ (z .0))) in
@@ -269,7 +266,8 @@ pub record LineBack (σ : Signature) (n : ℕ) (rs : List ℕ) (p : ℕ) (c : Li
   pub fields : w ≡ rawOf p l (w .reach)
   pub good : goodLine σ n rs (w .reach) l ≡ true
 
-pub line-back : (σ : Signature) (n : ℕ) (rs : List ℕ) (p : ℕ) (c : List ℕ) (w : RawLine) (l : Line) → Bytes c → openLine σ n rs p c w ≡ some l → LineBack σ n rs p c w l
+pub line-back : (σ : Signature) (n : ℕ) (rs : List ℕ) (p : ℕ) (c : List ℕ) (w : RawLine) (l : Line) → Bytes c → openLine σ n rs p c w ≡ some l
+    → LineBack σ n rs p c w l
 unfolding openLine
 line-back σ n rs p c w l h e =
     let z = onlyIf-some (eqb (w .offset) p && leb (w .size) (length c)) l e in
@@ -277,7 +275,8 @@ line-back σ n rs p c w l h e =
     let es = length-take-le (w .size) c (leb-true (w .size) (length c) (and-right (eqb (w .offset) p) _ (z .0))) in
     let m = andThen-some (lineOf (σ .inputs) (types (σ .variables)) (w .kind) (w .target) (take (w .size) c) (w .next) (w .other)) _ l (z .1) in
     let q = onlyIf-some (goodLine σ n rs (w .reach) (m .0)) l (m .2) in
-    let s = line-shape (σ .inputs) (types (σ .variables)) (w .kind) (w .target) (take (w .size) c) (w .next) (w .other) (m .0) (bytes-take (w .size) c h) (m .1) in
+    let s =
+    line-shape (σ .inputs) (types (σ .variables)) (w .kind) (w .target) (take (w .size) c) (w .next) (w .other) (m .0) (bytes-take (w .size) c h) (m .1) in
     rw (← some-injective (m .0) l (q .1))
     (record {
       code = s .code;

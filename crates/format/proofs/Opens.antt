@@ -1,35 +1,27 @@
 -- An image opens to a table exactly when it is the encoding of that table and the table is good. Assumes nothing.
-use Prim.Native.Nat.{ℕ, zero, suc, _+_, _*_, _/_, _%_, _≤_, _<_}
+use Prim.Native.Nat.{ℕ, _*_, _/_, _%_, _≤_, _<_}
 use native.Mathlib.Omega.{arith}
 use mathlib.Core.Path.{_≡_, refl, sym, ap, _∙_}
 use mathlib.Core.Logic.{_↔_}
-use mathlib.Core.Bool.{Bool, true, false, cond, _&&_}
-use mathlib.Core.Option.{Option, none, some, Option·map, bind}
-use mathlib.Core.List.{List, [], _∷_, _++_, map, append-assoc, append-nil}
-use lib.ListN.{length, getD, take, drop, length-append, length-drop, take-append-drop, length-map}
-use lib.Seq.{length-take-le, take-append-seam, drop-append-seam}
-use lib.Dec.{ltb, leb, eqb}
-use borrow.Author.Tests.{leb-true, le-leb, ltb-true}
-use Rattle.design.specs.Types.{Ty, ExprTy, plain, boolean, sameType}
-use Rattle.design.specs.Expression.{Expr, items, nth, plainly, typeOf}
-use Rattle.design.specs.Statement.{Act, output, variable, null}
-use Rattle.design.specs.Process.{isType, fits, typedAct}
-use Rattle.design.proofs.Types.{sameType-eq}
-use Rattle.semantics.proofs.Basic.{false-true, none-some, some-injective, eqb-true, eqb-same, and-left, and-right}
-use Rattle.format.specs.Words.{Bytes, word2, bytes2, word2At, onlyIf}
-use Rattle.format.specs.Code.{code, decode}
-use Rattle.format.specs.Signature.{Signature, types, signatureBytes, signatureOf, GoodSignature}
-use Rattle.format.specs.Lines.{Line, waits, acts, branches, reachOf}
-use Rattle.format.specs.Image.{Table, RawLine, rawBytes, rawsBytes, lineCode, linesCode, raw, rawOf, rawsOf, pairs, joined, start, image, Sections, form1, sectionsFor, encodeTable}
-use Rattle.format.specs.Good.{fitsLine, within, goodLine, GoodLines, GoodTable}
-use Rattle.format.specs.Opening.{wholeLines, sectionsOf, rawAt, raws, isEmpty, lineOf, openLine, Lined, lined, bad-at, with, goOn, openLines, rawReaches, Opened, opened, not-opened, tabled, openTable, unless12, rawLines, openSections, unless11, openOf}
+use mathlib.Core.Bool.{true}
+use mathlib.Core.Option.{Option, none, some}
+use mathlib.Core.List.{List, [], _∷_, _++_}
+use lib.ListN.{length}
+use lib.Dec.{leb, eqb}
+use borrow.Author.Tests.{leb-true}
+use Rattle.semantics.proofs.Basic.{eqb-true, and-left, and-right}
+use Rattle.format.specs.Words.{Bytes}
+use Rattle.format.specs.Code.{code}
+use Rattle.format.specs.Signature.{Signature, signatureBytes, signatureOf, GoodSignature}
+use Rattle.format.specs.Lines.{Line}
+use Rattle.format.specs.Image.{Table, rawsBytes, linesCode, rawsOf, pairs, joined, image, Sections, form1, sectionsFor, encodeTable}
+use Rattle.format.specs.Good.{GoodTable}
+use Rattle.format.specs.Opening.{wholeLines, sectionsOf, raws, Lined, lined, bad-at, rawReaches, Opened, opened, tabled, openTable, unless12, rawLines, openSections, unless11, openOf}
 use Rattle.format.specs.Refusals.{Sectioned, Signed}
-use Rattle.format.proofs.Words.{word2-bytes2, bytes2-front, word2-small, byte-at, bytes-left, bytes-right, bytes-take, bytes-drop}
-use Rattle.format.proofs.Basic.{andThen-some, map-some, onlyIf-some, cond-case}
-use Rattle.format.proofs.Decoding.{decode-code, decode-back}
+use Rattle.format.proofs.Words.{bytes-left, bytes-right}
 use Rattle.format.proofs.Signature.{signature-read, signature-exactly}
 use Rattle.format.proofs.Sections.{form1-length, whole-lines, form1-read, sections-exactly}
-use Rattle.format.proofs.Lines.{AllNarrow, AllReach, raws-read, raws-bytes-length, lines-open, raws-reaches, raws-length, raws-narrow, raws-back, LinesBack, lines-back}
+use Rattle.format.proofs.Lines.{raws-read, raws-bytes-length, lines-open, raws-reaches, raws-length, raws-narrow, raws-back, LinesBack, lines-back}
 
 -- The image of a good table opens to that table.
 pub table-opens : (t : Table) → GoodTable t → openOf (encodeTable t) ≡ opened t
@@ -44,7 +36,8 @@ table-opens t g =
     rw (form1-read (sectionsFor t) (whole-lines (rawsBytes ws) n lb (g .some-line) (g .few-lines)) (g .bytes))
     (rw (signature-read (t .signature) (g .signature), d)
     (rw (
-      ap (λ k. raws k (rawsBytes ws)) (sym lw) ∙ raws-read ws (raws-narrow (t .signature) n (t .reaches) 0 (t .lines) (t .reaches) (g .lines) (g .few-lines) (omega arith)),
+      ap (λ k. raws k (rawsBytes ws)) (sym lw)
+          ∙ raws-read ws (raws-narrow (t .signature) n (t .reaches) 0 (t .lines) (t .reaches) (g .lines) (g .few-lines) (omega arith)),
       raws-reaches (t .signature) n (t .reaches) 0 (t .lines) (t .reaches) (g .lines),
       lw,
       lines-open (t .signature) n (t .reaches) 0 0 (t .lines) (t .reaches) (g .lines),
@@ -77,23 +70,27 @@ whole-lines-back l h =
 pub sections-bytes : (x : Sections) → Bytes (form1 x) → Bytes (x .signature) × Bytes (x .lines) × Bytes (x .code)
 unfolding form1 image pairs joined Bytes
 sections-bytes x h =
-    let a : Bytes (x .signature ++ (x .lines ++ (x .code ++ []))) = bytes-right (pairs 28 (x .signature ∷ x .lines ∷ x .code ∷ [])) (x .signature ++ (x .lines ++ (x .code ++ []))) (h .1 .1 .1 .1) in
+    let a : Bytes (x .signature ++ (x .lines ++ (x .code ++ []))) =
+    bytes-right (pairs 28 (x .signature ∷ x .lines ∷ x .code ∷ [])) (x .signature ++ (x .lines ++ (x .code ++ []))) (h .1 .1 .1 .1) in
     let b = bytes-right (x .signature) (x .lines ++ (x .code ++ [])) a in
     (bytes-left (x .signature) _ a, bytes-left (x .lines) _ b, bytes-left (x .code) [] (bytes-right (x .lines) (x .code ++ []) b))
 
 table-back : (b : List ℕ) (x : Sections) (σ : Signature) (ls : List Line) → Sectioned b x → Signed x σ
     → (rawsBytes (rawLines x) ≡ x .lines) × (length (rawLines x) ≡ length (x .lines) / 12)
     → LinesBack σ (length (rawLines x)) (rawReaches (rawLines x)) 0 (x .code) (rawLines x) ls
-    → (b ≡ encodeTable (record { signature = σ; lines = ls; reaches = rawReaches (rawLines x) })) × GoodTable (record { signature = σ; lines = ls; reaches = rawReaches (rawLines x) })
+    → (b ≡ encodeTable (record { signature = σ; lines = ls; reaches = rawReaches (rawLines x) }))
+    × GoodTable (record { signature = σ; lines = ls; reaches = rawReaches (rawLines x) })
 unfolding encodeTable sectionsFor form1
 table-back b x σ ls s g r k =
     let w = whole-lines-back (x .lines) (s .lines) in
-    let n : length ls ≡ length (rawLines x) = sym (raws-length σ (length (rawLines x)) (rawReaches (rawLines x)) 0 ls (rawReaches (rawLines x)) (k .good)) ∙ sym (ap length (k .fields)) in
+    let n : length ls ≡ length (rawLines x) =
+    sym (raws-length σ (length (rawLines x)) (rawReaches (rawLines x)) 0 ls (rawReaches (rawLines x)) (k .good)) ∙ sym (ap length (k .fields)) in
     let e : b ≡ encodeTable (record { signature = σ; lines = ls; reaches = rawReaches (rawLines x) }) =
     s .bytes ∙ sections-cong (g .bytes) (sym (r .0) ∙ ap rawsBytes (k .fields)) (k .code) in
     (e, record { signature = g .good; some-line = omega (arith, r .1); few-lines = omega (arith, r .1); lines = rw n (k .good); bytes = rw (← e) (s .small) })
   where
-    sections-cong : {l c : List ℕ} → x .signature ≡ signatureBytes σ → x .lines ≡ l → x .code ≡ c → form1 x ≡ form1 (record { signature = signatureBytes σ; lines = l; code = c })
+    sections-cong : {l c : List ℕ} → x .signature ≡ signatureBytes σ → x .lines ≡ l → x .code ≡ c
+        → form1 x ≡ form1 (record { signature = signatureBytes σ; lines = l; code = c })
     sections-cong p q u = cc
 
 opens-back : (b : List ℕ) (t : Table) → Bytes b → openOf b ≡ opened t → (b ≡ encodeTable t) × GoodTable t

@@ -1,26 +1,25 @@
 -- 11, 12 and 13, each exactly when its clause says so and at that place: by induction on the lines. Assumes nothing.
-use Prim.Native.Nat.{ℕ, zero, suc, _+_, _*_, _/_, _≤_, _<_}
+use Prim.Native.Nat.{ℕ, zero, suc, _+_, _≤_, _<_}
 use native.Mathlib.Omega.{arith}
 use native.Mathlib.Nat.{add-zero}
 use native.Mathlib.Decide.{decLt}
 use mathlib.Core.Path.{_≡_, refl, sym, ap, _∙_}
 use mathlib.Core.Logic.{_↔_}
 use mathlib.Core.Option.{Option, none, some}
-use mathlib.Core.List.{List, [], _∷_, _++_, map}
+use mathlib.Core.List.{List, [], _∷_, _++_}
 use lib.ListN.{length, getD, take, drop, length-drop, take-append-drop}
 use lib.Seq.{drop-drop}
-use Rattle.semantics.proofs.Basic.{none-some, some-injective}
+use Rattle.semantics.proofs.Basic.{none-some}
 use Rattle.format.specs.Words.{Bytes}
-use Rattle.format.specs.Signature.{Signature, signatureBytes, signatureOf, GoodSignature}
+use Rattle.format.specs.Signature.{Signature, signatureOf}
 use Rattle.format.specs.Lines.{Line}
-use Rattle.format.specs.Image.{RawLine, raw, lineCode, rawOf, Sections, form1}
-use Rattle.format.specs.Good.{goodLine}
-use Rattle.format.specs.Opening.{sectionsOf, openLine, Lined, lined, bad-at, with, goOn, openLines, rawReaches, Opened, opened, not-opened, tabled, openTable, unless12, rawLines, openSections, unless11, openOf}
+use Rattle.format.specs.Image.{RawLine, raw, lineCode, rawOf, Sections}
+use Rattle.format.specs.Opening.{sectionsOf, openLine, Lined, lined, bad-at, with, goOn, openLines, rawReaches, not-opened, tabled, openTable, unless12, rawLines, openSections, unless11, openOf}
 use Rattle.format.specs.Refusals.{Sectioned, Signed, runStart, GoodAt, Lowest, bad-line, not-filled, Refusal, sections-refused, signature-refused, line-refused}
 use Rattle.format.proofs.Words.{bytes-drop}
 use Rattle.format.proofs.Signature.{signature-exactly}
 use Rattle.format.proofs.Sections.{sections-exactly}
-use Rattle.format.proofs.Lines.{raw-place, line-opens, line-back}
+use Rattle.format.proofs.Lines.{line-opens, line-back}
 use Rattle.format.proofs.Opens.{sections-bytes}
 
 abbrev noRaw : RawLine
@@ -54,7 +53,8 @@ judged-next σ n rs p c w ws y =
     let e : p + w .size + runStart ws y ≡ p + (w .size + runStart ws y) = omega arith in
     rw (e, drop-drop (runStart ws y) (w .size) c)
 
-judged-first : (σ : Signature) (n : ℕ) (rs : List ℕ) (p : ℕ) (c : List ℕ) (w : RawLine) (ws : List RawLine) → judged σ n rs p c (w ∷ ws) 0 ≡ openLine σ n rs p c w
+judged-first : (σ : Signature) (n : ℕ) (rs : List ℕ) (p : ℕ) (c : List ℕ) (w : RawLine) (ws : List RawLine)
+    → judged σ n rs p c (w ∷ ws) 0 ≡ openLine σ n rs p c w
 unfolding judged runStart
 judged-first σ n rs p c w ws = ap (λ z. openLine σ n rs z c w) (add-zero p)
 
@@ -64,7 +64,8 @@ module _ (σ : Signature) (n : ℕ) (rs : List ℕ) (p : ℕ) (c : List ℕ) (w 
   good-next l e k h zero b = rw (judged-first σ n rs p c w ws ∙ e) tt
   good-next l e k h (suc y) b = rw (← judged-next σ n rs p c w ws y) (h y (omega arith))
 
-  lowest-next : (l : Line) → openLine σ n rs p c w ≡ some l → (j : ℕ) → LowestOf σ n rs (p + w .size) (drop (w .size) c) ws j → LowestOf σ n rs p c (w ∷ ws) (suc j)
+  lowest-next : (l : Line) → openLine σ n rs p c w ≡ some l → (j : ℕ) → LowestOf σ n rs (p + w .size) (drop (w .size) c) ws j
+      → LowestOf σ n rs p c (w ∷ ws) (suc j)
   unfolding runStart
   lowest-next l e j (bad-one b h g) = bad-one (omega arith) (rw (← judged-next σ n rs p c w ws j) h) (good-next l e j g)
   lowest-next l e j (left-over q g b) = left-over (omega arith) (good-next l e j g) (omega (arith, length-drop (w .size) c))
@@ -86,7 +87,8 @@ lines-mean σ n rs x p [] [] = (λ y b. absurd (omega arith), omega arith)
 lines-mean σ n rs x p (k ∷ c) [] = (0, omega arith, left-over refl (λ y b. absurd (omega arith)) (omega arith))
 lines-mean σ n rs x p c (w ∷ ws) =
     means-go σ n rs p c w ws x (openLine σ n rs p c w) _ refl (λ l e.
-    means-with σ n rs p c w ws l x e (openLines σ n rs (suc x) (p + w .size) (drop (w .size) c) ws) (lines-mean σ n rs (suc x) (p + w .size) (drop (w .size) c) ws))
+    means-with σ n rs p c w ws l x e (openLines σ n rs (suc x) (p + w .size) (drop (w .size) c) ws)
+    (lines-mean σ n rs (suc x) (p + w .size) (drop (w .size) c) ws))
 
 -- there is one lowest place
 
@@ -94,7 +96,8 @@ good-bad : {P : Type 0} (o : Option Line) → IsGood o → IsBad o → P
 good-bad none g b = absurd g
 good-bad (some l) g b = absurd b
 
-lowest-once : (σ : Signature) (n : ℕ) (rs : List ℕ) (p : ℕ) (c : List ℕ) (ws : List RawLine) (j k : ℕ) → LowestOf σ n rs p c ws j → LowestOf σ n rs p c ws k → j ≡ k
+lowest-once : (σ : Signature) (n : ℕ) (rs : List ℕ) (p : ℕ) (c : List ℕ) (ws : List RawLine) (j k : ℕ) → LowestOf σ n rs p c ws j
+    → LowestOf σ n rs p c ws k → j ≡ k
 lowest-once σ n rs p c ws j k (bad-one b h g) (bad-one b′ h′ g′) = go (decLt j k) (decLt k j)
   where
     go : Dec (j < k) → Dec (k < j) → j ≡ k
@@ -150,7 +153,8 @@ module _ (σ : Signature) (x : Sections) (h : Bytes (x .code)) where
       let s = runStart (rawLines x) k in
       let c = drop s (x .code) in
       let z : 0 + s ≡ s = omega arith in
-      let d : c ≡ lineCode l ++ drop (length (lineCode l)) c = sym (take-append-drop (length (lineCode l)) c) ∙ ap (λ y. y ++ drop (length (lineCode l)) c) (g .code) in
+      let d : c ≡ lineCode l ++ drop (length (lineCode l)) c =
+      sym (take-append-drop (length (lineCode l)) c) ∙ ap (λ y. y ++ drop (length (lineCode l)) c) (g .code) in
       ap (λ p. openLine σ (length (rawLines x)) (rawReaches (rawLines x)) p c w) z
       ∙ ap (λ y. openLine σ (length (rawLines x)) (rawReaches (rawLines x)) s y w) d
       ∙ ap (λ y. openLine σ (length (rawLines x)) (rawReaches (rawLines x)) s (lineCode l ++ drop (length (lineCode l)) c) y) (g .fields)
@@ -211,7 +215,8 @@ module _ (b : List ℕ) (h : Bytes b) where
   refused-means q k e = outer (sectionsOf b) refl e
     where
       lines : (x : Sections) (σ : Signature) → Sectioned b x → Signed x σ → (r : Lined)
-          → openLines σ (length (rawLines x)) (rawReaches (rawLines x)) 0 0 (x .code) (rawLines x) ≡ r → tabled σ (rawReaches (rawLines x)) r ≡ not-opened q k → Refusal b q k
+          → openLines σ (length (rawLines x)) (rawReaches (rawLines x)) 0 0 (x .code) (rawLines x) ≡ r
+          → tabled σ (rawReaches (rawLines x)) r ≡ not-opened q k → Refusal b q k
       lines x σ s g (lined ls) m f = absurd (let z : _≡_ {A = ℕ} 0 1 = cc in omega arith)
       lines x σ s g (bad-at y) m f =
           let i : q ≡ 13 = cc in

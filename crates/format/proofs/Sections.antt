@@ -3,20 +3,20 @@ use Prim.Native.Nat.{ℕ, zero, suc, _+_, _*_, _/_, _%_, _≤_, _<_}
 use native.Mathlib.Omega.{arith}
 use mathlib.Core.Path.{_≡_, refl, sym, ap, _∙_}
 use mathlib.Core.Logic.{_↔_}
-use mathlib.Core.Bool.{Bool, true, false, cond, _&&_}
-use mathlib.Core.Option.{Option, none, some, Option·map, bind}
-use mathlib.Core.List.{List, [], _∷_, _++_, append-assoc, append-nil}
+use mathlib.Core.Bool.{true, _&&_}
+use mathlib.Core.Option.{some, bind}
+use mathlib.Core.List.{List, [], _∷_, _++_, append-nil}
 use lib.ListN.{length, getD, take, drop, length-append, length-drop, take-append-drop}
 use lib.Seq.{length-take-le, take-append-seam, drop-append-seam, drop-drop, drop-at}
 use lib.Dec.{leb, eqb}
-use borrow.Author.Tests.{leb-true, le-leb, eq-eqb}
+use borrow.Author.Tests.{leb-true, le-leb}
 use Rattle.semantics.proofs.Basic.{none-some, some-injective, eqb-true, eqb-same, and-left, and-right}
-use Rattle.format.specs.Words.{Bytes, word2, word4, bytes2, bytes4, word2At, word4At, onlyIf}
+use Rattle.format.specs.Words.{Bytes, bytes2, bytes4, word2At, word4At}
 use Rattle.format.specs.Image.{pairs, joined, start, image, Sections, form1}
 use Rattle.format.specs.Opening.{readSections, readImage, wholeLines, sectionsOf}
 use Rattle.format.specs.Refusals.{Sectioned}
 use Rattle.format.proofs.Words.{word2-bytes2, word4-bytes4, bytes2-front, bytes4-word4, bytes-drop}
-use Rattle.format.proofs.Basic.{andThen-some, map-some, onlyIf-some, and-both}
+use Rattle.format.proofs.Basic.{andThen-some, map-some, onlyIf-some}
 
 -- Lengths.
 
@@ -37,7 +37,8 @@ form1-length x =
 
 -- What is written is read.
 
-sections-read : (ss : List (List ℕ)) (o : ℕ) (r : List ℕ) → o + length (joined ss) < 4294967296 → readSections (length ss) o (pairs o ss ++ r) (joined ss) ≡ some ss
+sections-read : (ss : List (List ℕ)) (o : ℕ) (r : List ℕ) → o + length (joined ss) < 4294967296
+    → readSections (length ss) o (pairs o ss ++ r) (joined ss) ≡ some ss
 unfolding readSections pairs joined
 sections-read [] o r b = refl
 sections-read (s ∷ ss) o r b =
@@ -166,7 +167,8 @@ image-back form n b ss h e =
     let s = sections-back n (start n) (drop 4 b) (drop (start n) b) ss (bytes-drop 4 b h) (omega (arith, length-drop 4 b)) (z .1) in
     (whole s ef en (two-back b h (omega arith)), s .count)
   where
-    whole : SectionsBack n (start n) (drop 4 b) (drop (start n) b) ss → word2At b 0 ≡ form → word2At b 2 ≡ n → bytes2 (word2At b 0) ++ (bytes2 (word2At b 2) ++ drop 4 b) ≡ b
+    whole : SectionsBack n (start n) (drop 4 b) (drop (start n) b) ss → word2At b 0 ≡ form → word2At b 2 ≡ n
+        → bytes2 (word2At b 0) ++ (bytes2 (word2At b 2) ++ drop 4 b) ≡ b
         → b ≡ bytes2 form ++ (bytes2 (length ss) ++ (pairs (start (length ss)) ss ++ joined ss))
     whole s ef en p =
         let r : s .header .0 ≡ joined ss =

@@ -1,18 +1,18 @@
 -- A good signature is read back from its bytes, and bytes that are read are those of the signature, which is good: by induction on the lists.
 -- Assumes nothing.
-use Prim.Native.Nat.{ℕ, zero, suc, _≤_, _<_}
+use Prim.Native.Nat.{ℕ, zero, suc, _≤_}
 use native.Mathlib.Omega.{arith}
 use mathlib.Core.Path.{_≡_, refl, sym, ap, _∙_}
 use mathlib.Core.Logic.{_↔_}
-use mathlib.Core.Bool.{Bool, true, false, cond, _&&_}
-use mathlib.Core.Option.{Option, none, some, bind}
+use mathlib.Core.Bool.{true, _&&_}
+use mathlib.Core.Option.{some, bind}
 use mathlib.Core.List.{List, [], _∷_, _++_, append-nil}
 use lib.ListN.{length}
 use lib.Dec.{leb, eqb}
 use borrow.Author.Tests.{leb-true, le-leb}
 use Rattle.design.specs.Types.{Ty, std-logic, integer, inType}
 use Rattle.semantics.proofs.Basic.{none-some, some-injective, eqb-true, and-left, and-right}
-use Rattle.format.specs.Words.{Bytes, word4, bytes4, signed32, unsigned32, onlyIf}
+use Rattle.format.specs.Words.{Bytes, word4, bytes4, signed32, unsigned32}
 use Rattle.format.specs.Signature.{Cell, Signature, typeByte, typeBytes, cellBytes, signatureBytes, Initialised, GoodSignature, typeOfByte, readTypes, readCell, readCells, atEnd, signatureOf}
 use Rattle.format.proofs.Words.{integer-bytes, bytes-integer, type-range}
 use Rattle.format.proofs.Basic.{andThen-some, onlyIf-some, cond-case}
@@ -119,12 +119,19 @@ end-some (k ∷ s) x y e = none-some y e
 
 signature-parts : (i o v : ℕ) (s r q t : List ℕ) (ts : List Ty) (cs ds : List Cell) → TypesBack i s ts r → CellsBack o r cs q → CellsBack v q ds t → t ≡ []
     → i ≤ 16 → o ≤ 16 → v ≤ 32
-    → (i ∷ o ∷ v ∷ s ≡ signatureBytes (record { inputs = ts; outputs = cs; variables = ds })) × GoodSignature (record { inputs = ts; outputs = cs; variables = ds })
+    → (i ∷ o ∷ v ∷ s ≡ signatureBytes (record { inputs = ts; outputs = cs; variables = ds }))
+    × GoodSignature (record { inputs = ts; outputs = cs; variables = ds })
 unfolding signatureBytes
 signature-parts i o v s r q t ts cs ds a b c z li lo lv = (
   cons-cong (sym (a .size)) (cons-cong (sym (b .size)) (cons-cong (sym (c .size))
       (a .same ∙ ap (λ y. typeBytes ts ++ y) (b .same ∙ ap (λ y. cellBytes cs ++ y) (c .same ∙ ap (λ y. cellBytes ds ++ y) z ∙ append-nil (cellBytes ds)))))),
-  record { inputs = omega (arith, a .size); outputs = omega (arith, b .size); variables = omega (arith, c .size); initial-outputs = b .initialised; initial-variables = c .initialised },
+  record {
+    inputs = omega (arith, a .size);
+    outputs = omega (arith, b .size);
+    variables = omega (arith, c .size);
+    initial-outputs = b .initialised;
+    initial-variables = c .initialised;
+  },
 )
 
 signature-back : (s : List ℕ) (σ : Signature) → Bytes s → signatureOf s ≡ some σ → (s ≡ signatureBytes σ) × GoodSignature σ

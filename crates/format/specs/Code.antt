@@ -40,11 +40,12 @@ binaryByte and = 26
 binaryByte or = 27
 binaryByte xor = 28
 
+-- '0' and '1'
 abbrev pub bitByte : Bool → ℕ
 bitByte true = 1
 bitByte false = 0
 
--- "1 integer (4 bytes), 2 std_logic (1 byte), 3 input, 4 variable (1-byte index)": an operation's first byte and the others
+-- "1 integer (4 bytes), 2 std_logic (1 byte), 3 input, 4 variable (1-byte index)": an operation's first byte
 abbrev pub first : Operation → ℕ
 first (push (int z)) = 1
 first (push (bit b)) = 2
@@ -53,6 +54,7 @@ first (push (variable k)) = 4
 first (apply1 o) = unaryByte o
 first (apply2 o) = binaryByte o
 
+-- an operation's bytes after the first
 abbrev pub others : Operation → List ℕ
 others (push (int z)) = bytes4 (unsigned32 z)
 others (push (bit b)) = bitByte b ∷ []
@@ -61,6 +63,7 @@ others (push (variable k)) = k ∷ []
 others (apply1 o) = []
 others (apply2 o) = []
 
+-- the bytes of operations, one after the other
 unfoldable pub operationBytes : List Operation → List ℕ
 operationBytes [] = []
 operationBytes (i ∷ is) = first i ∷ (others i ++ operationBytes is)
@@ -71,9 +74,11 @@ code e = operationBytes (post e)
 
 -- Reading: an operation and the bytes after it, or none where there is no operation.
 
+-- what reading one operation gives
 abbrev pub Taken : Type 0
 Taken = Option (Operation × List ℕ)
 
+-- "1 integer (4 bytes)": any four bytes are an integer
 abbrev pub readInt : List ℕ → Taken
 readInt [] = none
 readInt (a ∷ []) = none
@@ -85,14 +90,17 @@ readInt (a ∷ b ∷ c ∷ d ∷ s) = some (push (int (signed32 (word4 a b c d))
 abbrev pub bitOf : ℕ → Option Bool
 bitOf k = cond (eqb k 0) (some false) (cond (eqb k 1) (some true) none)
 
+-- "2 std_logic (1 byte)"
 abbrev pub readBit : List ℕ → Taken
 readBit [] = none
 readBit (a ∷ s) = Option·map (λ b. (push (bit b), s)) (bitOf a)
 
+-- "3 input, 4 variable (1-byte index)"
 abbrev pub readName : (ℕ → Leaf) → List ℕ → Taken
 readName f [] = none
 readName f (a ∷ s) = some (push (f a), s)
 
+-- "16 sign, 17 not, 18 +, .. 28 xor"
 abbrev pub operator : ℕ → Option Operation
 operator k =
     cond (eqb k 16) (some (apply1 sign)) (cond (eqb k 17) (some (apply1 invert))
@@ -122,6 +130,7 @@ pub record Machine (X : Type 0) : Type 0 where
   pub ofUnary : Unary → X → Out X
   pub ofBinary : Binary → X → X → Out X
 
+-- a value is pushed on the stack st, and what is left goes on; a fault ends the run
 unfoldable pub onto : {X : Type 0} → Out X → List X → (List X → Out X) → Out X
 onto (fine x) st k = k (x ∷ st)
 onto (fault q) st k = fault q
@@ -138,6 +147,7 @@ run M (apply2 o ∷ is) [] = fault 13
 run M (apply2 o ∷ is) (y ∷ []) = fault 13
 run M (apply2 o ∷ is) (y ∷ x ∷ st) = onto (M .ofBinary o x y) st (λ u. run M is u)
 
+-- the operations that were read, run on an empty stack
 unfoldable pub runOperations : {X : Type 0} → Machine X → Option (List Operation) → Out X
 runOperations M none = fault 13
 runOperations M (some is) = run M is []
@@ -169,6 +179,7 @@ typed is vs A =
 abbrev pub trees : Algebra Expr
 trees = record { ofLeaf = λ l. fine (leaf l); ofUnary = λ o t x. fine (unary o t x); ofBinary = λ o t x y. fine (binary o t x y) }
 
+-- a value, or none for a fault
 unfoldable pub valueOf : {X : Type 0} → Out X → Option X
 valueOf (fine x) = some x
 valueOf (fault q) = none

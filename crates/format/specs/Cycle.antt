@@ -1,5 +1,5 @@
 -- One call of the cycle on an image: its answer, and state and output row as they are left (document 01, "State", "Turned back"). Assumes nothing.
-use mathlib.Core.Bool.{Bool, true, false, cond, _&&_}
+use mathlib.Core.Bool.{cond, _&&_}
 use mathlib.Core.Option.{Option, none, some}
 use mathlib.Core.List.{List, [], _∷_}
 use Prim.Native.Nat.{ℕ}
@@ -7,7 +7,7 @@ use lib.ListN.{length}
 use lib.IntN.{ℤ}
 use lib.Dec.{eqb}
 use Rattle.answers.specs.declared.State.{State}
-use Rattle.semantics.specs.Equations.{Memory, Run, Result, passed, reached, refused}
+use Rattle.semantics.specs.Equations.{Result, passed, reached, refused}
 use Rattle.semantics.specs.Rows.{wrongValue}
 use Rattle.format.specs.Walk.{tableCycle}
 use Rattle.format.specs.Signature.{Signature}
@@ -45,6 +45,7 @@ unfoldable pub tableRow : Table → State → List ℤ → List ℤ → Called
 tableRow t s i o =
     ended (tableCycle (t .lines) (t .reaches) (s .place) i (record { way = []; memory = memoryOf (t .signature) s })) s o
 
+-- refusal 14 at the place k, or what comes after it
 abbrev pub unless14 : Option ℕ → State → List ℤ → Called → Called
 unless14 none s o r = r
 unless14 (some k) s o r = turnedBack 14 k s o
@@ -53,6 +54,7 @@ unless14 (some k) s o r = turnedBack 14 k s o
 unfoldable pub rowOf : Table → State → List ℤ → List ℤ → Called
 rowOf t s i o = unless14 (rowPlace (t .signature) i (length o)) s o (cond (stateOk t s) (tableRow t s i o) (turnedBack 15 0 s o))
 
+-- refusal 11, 12 or 13, or what is done with the opened table
 abbrev pub unlessClosed : Opened → State → List ℤ → (Table → Called) → Called
 unlessClosed (opened t) s o k = k t
 unlessClosed (not-opened q p) s o k = turnedBack q p s o

@@ -1,7 +1,7 @@
 -- The image of a process (document 01, "Image, form 1"). Assumes nothing.
 use mathlib.Core.List.{List, map}
 use Prim.Native.Nat.{ℕ}
-use Rattle.design.specs.Process.{Source, Slot, Process, sourceTypes}
+use Rattle.design.specs.Process.{Slot, Process, sourceTypes}
 use Rattle.format.specs.Lines.{linesOf, reachesOf}
 use Rattle.format.specs.Signature.{Cell, Signature}
 use Rattle.format.specs.Image.{Table, encodeTable}
@@ -18,5 +18,6 @@ signatureFor p = record { inputs = sourceTypes (p .inputs); outputs = cells (p .
 unfoldable pub tableOf : Process → Table
 tableOf p = record { signature = signatureFor p; lines = linesOf (p .body); reaches = reachesOf (p .body) }
 
+-- the image of a process
 unfoldable pub encode : Process → List ℕ
 encode p = encodeTable (tableOf p)

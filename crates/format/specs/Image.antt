@@ -2,7 +2,7 @@
 use mathlib.Core.List.{List, [], _∷_, _++_}
 use Prim.Native.Nat.{ℕ, _+_, _*_}
 use lib.ListN.{length}
-use Rattle.design.specs.Statement.{Act, output, variable, null}
+use Rattle.design.specs.Statement.{output, variable, null}
 use Rattle.format.specs.Words.{bytes2, bytes4}
 use Rattle.format.specs.Code.{code}
 use Rattle.format.specs.Signature.{Signature, signatureBytes}
@@ -29,6 +29,7 @@ abbrev pub rawBytes : RawLine → List ℕ
 rawBytes w =
     w .kind ∷ w .target ∷ (bytes2 (w .offset) ++ (bytes2 (w .size) ++ (bytes2 (w .next) ++ (bytes2 (w .other) ++ bytes2 (w .reach)))))
 
+-- the lines section
 unfoldable pub rawsBytes : List RawLine → List ℕ
 rawsBytes [] = []
 rawsBytes (w ∷ ws) = rawBytes w ++ rawsBytes ws
@@ -46,6 +47,7 @@ unfoldable pub linesCode : List Line → List ℕ
 linesCode [] = []
 linesCode (l ∷ ls) = lineCode l ++ linesCode ls
 
+-- a line by its fields in their order
 abbrev pub raw : ℕ → ℕ → ℕ → ℕ → ℕ → ℕ → ℕ → RawLine
 raw k t p n f g q = record { kind = k; target = t; offset = p; size = n; next = f; other = g; reach = q }
 
@@ -68,6 +70,7 @@ unfoldable pub pairs : ℕ → List (List ℕ) → List ℕ
 pairs o [] = []
 pairs o (s ∷ ss) = bytes4 o ++ (bytes4 (length s) ++ pairs (o + length s) ss)
 
+-- sections one after the other
 unfoldable pub joined : List (List ℕ) → List ℕ
 joined [] = []
 joined (s ∷ ss) = s ++ joined ss
@@ -90,6 +93,7 @@ pub record Sections : Type 0 where
 unfoldable pub form1 : Sections → List ℕ
 form1 x = image 1 (x .signature ∷ x .lines ∷ x .code ∷ [])
 
+-- the three sections of a table
 unfoldable pub sectionsFor : Table → Sections
 sectionsFor t =
     record {
@@ -98,5 +102,6 @@ sectionsFor t =
       code = linesCode (t .lines);
     }
 
+-- the image of a table
 unfoldable pub encodeTable : Table → List ℕ
 encodeTable t = form1 (sectionsFor t)

@@ -6,7 +6,7 @@ use Prim.Native.Nat.{ℕ, zero, suc, _+_, _/_, _%_}
 use lib.ListN.{length, getD, take, drop}
 use lib.Dec.{leb, eqb}
 use Rattle.design.specs.Types.{Ty}
-use Rattle.design.specs.Statement.{Act, output, variable, null}
+use Rattle.design.specs.Statement.{output, variable, null}
 use Rattle.format.specs.Words.{word2At, word4At, onlyIf}
 use Rattle.format.specs.Code.{decode}
 use Rattle.format.specs.Signature.{Signature, types, signatureOf}
@@ -49,6 +49,7 @@ unfoldable pub raws : ℕ → List ℕ → List RawLine
 raws zero s = []
 raws (suc n) s = rawAt s ∷ raws n (drop 12 s)
 
+-- a line without code
 abbrev pub isEmpty : List ℕ → Bool
 isEmpty [] = true
 isEmpty (k ∷ s) = false
@@ -75,10 +76,12 @@ pub data Lined : Type 0 where
   lined : List Line → Lined
   bad-at : ℕ → Lined
 
+-- a line in front of those after it
 abbrev pub with : Line → Lined → Lined
 with l (lined ls) = lined (l ∷ ls)
 with l (bad-at x) = bad-at x
 
+-- the line x is bad, or the lines after it follow
 abbrev pub goOn : Option Line → ℕ → (Line → Lined) → Lined
 goOn none x k = bad-at x
 goOn (some l) x k = k l
@@ -90,6 +93,7 @@ openLines σ n rs x p (k ∷ c) [] = bad-at x
 openLines σ n rs x p c (w ∷ ws) =
     goOn (openLine σ n rs p c w) x (λ l. with l (openLines σ n rs (suc x) (p + w .size) (drop (w .size) c) ws))
 
+-- the reaches that the lines have in the image
 abbrev pub rawReaches : List RawLine → List ℕ
 rawReaches ws = map (λ (w : RawLine). w .reach) ws
 
@@ -98,13 +102,16 @@ pub data Opened : Type 0 where
   opened : Table → Opened
   not-opened : (number place : ℕ) → Opened
 
+-- the table of the lines, or refusal 13
 abbrev pub tabled : Signature → List ℕ → Lined → Opened
 tabled σ rs (lined ls) = opened (record { signature = σ; lines = ls; reaches = rs })
 tabled σ rs (bad-at x) = not-opened 13 x
 
+-- the table of a signature, the fields of the lines and the code section
 unfoldable pub openTable : Signature → List RawLine → List ℕ → Opened
 openTable σ ws c = tabled σ (rawReaches ws) (openLines σ (length ws) (rawReaches ws) 0 0 c ws)
 
+-- refusal 12, or what is done with the signature
 abbrev pub unless12 : Option Signature → (Signature → Opened) → Opened
 unless12 none k = not-opened 12 0
 unless12 (some σ) k = k σ
@@ -113,9 +120,11 @@ unless12 (some σ) k = k σ
 abbrev pub rawLines : Sections → List RawLine
 rawLines x = raws (length (x .lines) / 12) (x .lines)
 
+-- the table of the sections, or refusal 12 or 13
 unfoldable pub openSections : Sections → Opened
 openSections x = unless12 (signatureOf (x .signature)) (λ σ. openTable σ (rawLines x) (x .code))
 
+-- refusal 11, or what is done with the sections
 abbrev pub unless11 : Option Sections → (Sections → Opened) → Opened
 unless11 none k = not-opened 11 0
 unless11 (some x) k = k x

@@ -27,11 +27,15 @@ runStart [] k = 0
 runStart (w ∷ ws) zero = 0
 runStart (w ∷ ws) (suc k) = w .size + runStart ws k
 
+-- the fields of the line k
+abbrev pub fieldsAt : Sections → ℕ → RawLine
+fieldsAt x k = getD (rawLines x) k (raw 0 0 0 0 0 0 0)
+
 -- the fields and the run of the line k, with the offset where the runs before it end, are those of the good line l
 pub record GoodAt (σ : Signature) (x : Sections) (k : ℕ) (l : Line) : Type 0 where
-  pub fields : getD (rawLines x) k (raw 0 0 0 0 0 0 0) ≡ rawOf (runStart (rawLines x) k) l (getD (rawLines x) k (raw 0 0 0 0 0 0 0) .reach)
+  pub fields : fieldsAt x k ≡ rawOf (runStart (rawLines x) k) l (fieldsAt x k .reach)
   pub code : take (length (lineCode l)) (drop (runStart (rawLines x) k) (x .code)) ≡ lineCode l
-  pub good : goodLine σ (length (rawLines x)) (rawReaches (rawLines x)) (getD (rawLines x) k (raw 0 0 0 0 0 0 0) .reach) l ≡ true
+  pub good : goodLine σ (length (rawLines x)) (rawReaches (rawLines x)) (fieldsAt x k .reach) l ≡ true
 
 -- "lowest bad line; the line count if only the code section is not filled"
 pub data Lowest (σ : Signature) (x : Sections) (k : ℕ) : Type 0 where

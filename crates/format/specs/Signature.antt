@@ -1,6 +1,6 @@
 -- The signature section of an image (document 01, "Image, form 1"). Assumes nothing.
 use mathlib.Core.Path.{_≡_}
-use mathlib.Core.Bool.{Bool, true, cond, _&&_}
+use mathlib.Core.Bool.{true, cond, _&&_}
 use mathlib.Core.Option.{Option, none, some, bind}
 use mathlib.Core.List.{List, [], _∷_, _++_, map}
 use Prim.Native.Nat.{ℕ, zero, suc, _≤_}
@@ -21,9 +21,11 @@ pub record Signature : Type 0 where
   pub outputs : List Cell
   pub variables : List Cell
 
+-- the types of outputs or variables
 abbrev pub types : List Cell → List Ty
 types l = map (λ (c : Cell). c .type) l
 
+-- the initial values of outputs or variables
 abbrev pub initials : List Cell → List ℤ
 initials l = map (λ (c : Cell). c .initial) l
 
@@ -37,6 +39,7 @@ unfoldable pub typeBytes : List Ty → List ℕ
 typeBytes [] = []
 typeBytes (t ∷ l) = typeByte t ∷ typeBytes l
 
+-- "type and 4-byte initial value" of each
 unfoldable pub cellBytes : List Cell → List ℕ
 cellBytes [] = []
 cellBytes (c ∷ l) = typeByte (c .type) ∷ (bytes4 (unsigned32 (c .initial)) ++ cellBytes l)
@@ -62,14 +65,17 @@ pub record GoodSignature (σ : Signature) : Type 0 where
 
 -- Reading: n types or cells and the bytes after them, or none where the bytes are no such.
 
+-- "0 std_logic, 1 integer", and no other byte
 abbrev pub typeOfByte : ℕ → Option Ty
 typeOfByte k = cond (eqb k 0) (some std-logic) (cond (eqb k 1) (some integer) none)
 
+-- n types
 unfoldable pub readTypes : ℕ → List ℕ → Option (List Ty × List ℕ)
 readTypes zero s = some ([], s)
 readTypes (suc n) [] = none
 readTypes (suc n) (k ∷ s) = bind (typeOfByte k) (λ t. bind (readTypes n s) (λ p. some (t ∷ p .0, p .1)))
 
+-- a type and an initial value of that type
 abbrev pub readCell : List ℕ → Option (Cell × List ℕ)
 readCell [] = none
 readCell (k ∷ []) = none
@@ -79,6 +85,7 @@ readCell (k ∷ a ∷ b ∷ c ∷ []) = none
 readCell (k ∷ a ∷ b ∷ c ∷ d ∷ s) =
     bind (typeOfByte k) (λ t. onlyIf (inType t (signed32 (word4 a b c d))) (some (record { type = t; initial = signed32 (word4 a b c d) }, s)))
 
+-- n types with their initial values
 unfoldable pub readCells : ℕ → List ℕ → Option (List Cell × List ℕ)
 readCells zero s = some ([], s)
 readCells (suc n) s = bind (readCell s) (λ q. bind (readCells n (q .1)) (λ p. some (q .0 ∷ p .0, p .1)))

@@ -1,5 +1,5 @@
 -- The state record: refusal 15, its layout, and the fresh state of an image (document 01, "State"). Assumes nothing.
-use mathlib.Core.Bool.{Bool, true, false, cond, _&&_, _||_}
+use mathlib.Core.Bool.{Bool, true, false, _&&_, _||_}
 use mathlib.Core.List.{List, [], _∷_}
 use Prim.Native.Nat.{ℕ, zero, suc}
 use lib.ListN.{length, take}
@@ -24,6 +24,7 @@ slotsOk [] l = zeros l
 slotsOk (t ∷ ts) [] = false
 slotsOk (t ∷ ts) (z ∷ l) = inType t z && slotsOk ts l
 
+-- the line is a wait
 abbrev pub isWait : Line → Bool
 isWait (waits f) = true
 isWait (acts a f) = false
@@ -63,6 +64,7 @@ pub data Started : Type 0 where
   fresh : State → Started
   not-started : (number place : ℕ) → Started
 
+-- the fresh state of an opened table, or the refusal
 abbrev pub freshFrom : Opened → Started
 freshFrom (opened t) = fresh (freshTable t)
 freshFrom (not-opened q k) = not-started q k

@@ -12,31 +12,35 @@ unfoldable pub Bytes : List ℕ → Type 0
 Bytes [] = Unit {0}
 Bytes (k ∷ s) = (k < 256) × Bytes s
 
--- "Little-endian": the number of two bytes, of four bytes, the lowest first
+-- "Little-endian": the number of two bytes, the lowest first
 abbrev pub word2 : ℕ → ℕ → ℕ
 word2 a b = a + b * 256
 
+-- the number of four bytes, the lowest first
 abbrev pub word4 : ℕ → ℕ → ℕ → ℕ → ℕ
 word4 a b c d = a + (b + (c + d * 256) * 256) * 256
 
--- the two bytes, the four bytes of a number
+-- the two bytes of a number
 abbrev pub bytes2 : ℕ → List ℕ
 bytes2 n = n % 256 ∷ n / 256 % 256 ∷ []
 
+-- the four bytes of a number
 abbrev pub bytes4 : ℕ → List ℕ
 bytes4 n = n % 256 ∷ n / 256 % 256 ∷ n / 256 / 256 % 256 ∷ n / 256 / 256 / 256 % 256 ∷ []
 
--- the number at the byte k; a byte past the end counts as 0
+-- the two-byte number at the byte k; a byte past the end counts as 0
 abbrev pub word2At : List ℕ → ℕ → ℕ
 word2At s k = word2 (getD s k 0) (getD s (k + 1) 0)
 
+-- the four-byte number at the byte k
 abbrev pub word4At : List ℕ → ℕ → ℕ
 word4At s k = word4 (getD s k 0) (getD s (k + 1) 0) (getD s (k + 2) 0) (getD s (k + 3) 0)
 
--- the integer of a four-byte number, and back; negsuc n is -(n + 1)
+-- the integer of a four-byte number, in two's complement; negsuc n is -(n + 1)
 abbrev pub signed32 : ℕ → ℤ
 signed32 n = cond (ltb n 2147483648) (pos n) (negsuc (4294967295 - n))
 
+-- the four-byte number of an integer
 abbrev pub unsigned32 : ℤ → ℕ
 unsigned32 (pos n) = n
 unsigned32 (negsuc n) = 4294967295 - n

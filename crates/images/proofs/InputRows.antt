@@ -1,18 +1,16 @@
 -- 14 exactly when its clause says so, on the table's side as on the text's: by the exactness that the equations' rows have. Assumes nothing.
-use Prim.Native.Nat.{ℕ, suc, _<_}
+use Prim.Native.Nat.{ℕ}
 use mathlib.Core.Path.{_≡_, refl, sym, ap, _∙_}
-use mathlib.Core.Logic.{_↔_, _⊎_}
-use mathlib.Core.Bool.{cond, _&&_}
-use mathlib.Core.Option.{Option, none, some}
+use mathlib.Core.Logic.{_↔_}
+use mathlib.Core.Option.{none, some}
 use mathlib.Core.List.{List, [], _∷_, map}
 use lib.ListN.{length, length-map}
 use lib.IntN.{ℤ}
-use lib.Dec.{eqb}
 use Rattle.design.specs.Types.{Ty}
 use Rattle.design.specs.Statement.{wait}
 use Rattle.design.specs.Process.{Source, Slot, Process, sourceTypes}
-use Rattle.semantics.specs.Rows.{Call, wrongValue, rowRefusal}
-use Rattle.semantics.specs.InputRow.{Wrong, Fitting as FittingCall, Meets14 as Meets14Call}
+use Rattle.semantics.specs.Rows.{Call, rowRefusal}
+use Rattle.semantics.specs.InputRow.{Fitting as FittingCall, Meets14 as Meets14Call}
 use Rattle.semantics.specs.Values.{Values}
 use Rattle.semantics.proofs.Basic.{none-some}
 use Rattle.semantics.proofs.Rows.{meets-14-exactly, meets-none}

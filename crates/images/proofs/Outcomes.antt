@@ -1,33 +1,29 @@
 -- Every row on an image that opens is performed or refused by 14, 15 or 16, and its state is accepted again: by cases in the order of the refusals,
 -- over the walk of ranked lines. Assumes nothing.
-use Prim.Native.Nat.{ℕ, suc, _≤_, _<_}
-use native.Mathlib.Omega.{arith}
+use Prim.Native.Nat.{ℕ, suc, _<_}
 use mathlib.Core.Path.{_≡_, refl, sym, ap, _∙_}
 use mathlib.Core.Logic.{_⊎_, inl, inr}
-use mathlib.Core.Bool.{Bool, true, false, cond, _&&_}
+use mathlib.Core.Bool.{Bool, true, false, cond}
 use mathlib.Core.Option.{Option, none, some}
-use mathlib.Core.List.{List, [], _∷_}
+use mathlib.Core.List.{List, []}
 use lib.ListN.{length}
 use lib.IntN.{ℤ}
-use lib.Dec.{eqb}
 use Rattle.answers.specs.declared.State.{State}
-use Rattle.design.specs.Types.{Ty, inType}
-use Rattle.semantics.specs.Equations.{Memory, Run, Result, passed, reached, refused}
-use Rattle.semantics.specs.Rows.{wrongValue}
+use Rattle.semantics.specs.Equations.{Result}
 use Rattle.semantics.specs.Values.{Values}
-use Rattle.semantics.proofs.Basic.{false-true, none-some, eqb-true, and-left, and-right}
+use Rattle.semantics.proofs.Basic.{false-true}
 use Rattle.semantics.proofs.Values.{values-length}
 use Rattle.format.specs.Words.{Bytes}
 use Rattle.format.specs.Lines.{reach}
 use Rattle.format.specs.Walk.{from, tableCycle}
-use Rattle.format.specs.Signature.{Signature, types}
+use Rattle.format.specs.Signature.{types}
 use Rattle.format.specs.Image.{Table}
 use Rattle.format.specs.Good.{GoodTable}
 use Rattle.format.specs.Opening.{opened, openOf}
 use Rattle.format.specs.State.{stateOk, stateFor, memoryOf}
-use Rattle.format.specs.Cycle.{rowPlace, Called, turnedBack, ended, tableRow, unless14, rowOf, unlessClosed, cycleOf}
+use Rattle.format.specs.Cycle.{rowPlace, turnedBack, ended, tableRow, unless14, rowOf, unlessClosed, cycleOf}
 use Rattle.format.proofs.Opens.{opens-exactly}
-use Rattle.simulation.specs.Walked.{WaitAt, WayFrom, Walked, waits-at, refuses-at}
+use Rattle.simulation.specs.Walked.{WaitAt, Walked, waits-at, refuses-at}
 use Rattle.simulation.proofs.Walked.{from-inside, cycle-walked}
 use Rattle.images.specs.Outcome.{Typed, GoodState, Outcome, row-refused, state-refused, operator-refused, performs}
 use Rattle.images.proofs.InputRows.{row-exactly, row-right, row-none}
@@ -57,7 +53,8 @@ module _ (t : Table) (g : GoodTable t) (s : State) (i o : List ℤ) where
   unfolding stateFor
   ended-outcome r k z e f (waits-at p τ before q w y) =
       performs p τ (row-none (t .signature) i (length o) r) k e w y (record { place = inr w; memory = τ .memory; typed = f; slots = refl })
-      (values-length (types (t .signature .outputs)) (τ .memory .outputs) (f .outputs) ∙ types-length (t .signature .outputs) ∙ sym (row-right (t .signature) i (length o) r .1))
+      (values-length (types (t .signature .outputs)) (τ .memory .outputs) (f .outputs) ∙ types-length (t .signature .outputs)
+      ∙ sym (row-right (t .signature) i (length o) r .1))
   ended-outcome r k z e f (refuses-at x b) = operator-refused x (row-none (t .signature) i (length o) r) k b e
 
   -- Every row on a good table.

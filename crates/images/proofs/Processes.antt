@@ -1,31 +1,32 @@
 -- The table of a well-formed process is good, so that its image opens to it: line by line, over the reaches of a body. Assumes nothing.
-use Prim.Native.Nat.{ℕ, zero, suc, _+_, _≤_, _<_}
+use Prim.Native.Nat.{ℕ, suc, _+_, _≤_, _<_}
 use native.Mathlib.Omega.{arith}
 use mathlib.Core.Path.{_≡_, refl, sym, ap, _∙_}
-use mathlib.Core.Bool.{Bool, true, false, _&&_}
+use mathlib.Core.Bool.{true}
 use mathlib.Core.Option.{some}
 use mathlib.Core.List.{List, [], _∷_}
 use lib.ListN.{length, getD, length-map}
 use lib.IntN.{ℤ}
-use lib.Dec.{ltb, eqb}
+use lib.Dec.{eqb}
 use borrow.Author.Tests.{lt-ltb, eq-eqb}
 use Rattle.design.specs.Types.{Ty, boolean}
 use Rattle.design.specs.Statement.{Stmt, act, wait, if-then, if-else, while, seq, size}
-use Rattle.design.specs.Process.{Source, Slot, Process, sourceTypes, slotTypes, fits, typed, Initialised as SlotsInitialised, WellFormed}
+use Rattle.design.specs.Process.{Source, Slot, Process, slotTypes, initials as slotInitials, fits, typed, Initialised as SlotsInitialised, WellFormed}
 use Rattle.semantics.specs.Rows.{rowRefusal}
 use Rattle.semantics.proofs.Basic.{and-left, and-right}
 use Rattle.semantics.proofs.Results.{size-pos}
 use Rattle.format.specs.Words.{Bytes}
 use Rattle.format.specs.Lines.{Line, waits, acts, branches, linesOf, line, reach, reachOf, reachesOf}
-use Rattle.format.specs.Signature.{Signature, types, Initialised, GoodSignature}
+use Rattle.format.specs.Signature.{Signature, types, initials, Initialised, GoodSignature}
 use Rattle.format.specs.Good.{fitsLine, within, goodLine, GoodLines, GoodTable}
 use Rattle.format.specs.Opening.{opened, openOf}
 use Rattle.format.specs.Encode.{cells, signatureFor, tableOf, encode}
+use Rattle.format.specs.State.{stateFor, freshTable, fresh, freshOf}
 use Rattle.format.specs.Cycle.{rowPlace}
 use Rattle.format.proofs.Basic.{and-both}
 use Rattle.format.proofs.Opens.{table-opens}
 use Rattle.format.proofs.Encoded.{table-bytes}
-use Rattle.simulation.specs.Ranked.{Followers, Ranked}
+use Rattle.simulation.specs.Ranked.{Followers}
 use Rattle.simulation.proofs.Lines.{Each, linesOf-length, linesOf-line}
 use Rattle.simulation.proofs.Reaches.{reachesOf-length, linesOf-ranked}
 use Rattle.simulation.proofs.Below.{reachesOf-below}
@@ -37,6 +38,10 @@ cells-types (s ∷ l) = ap (λ (r : List Ty). s .type ∷ r) (cells-types l)
 pub cells-length : (l : List Slot) → length (cells l) ≡ length l
 cells-length [] = refl
 cells-length (s ∷ l) = ap suc (cells-length l)
+
+pub cells-initials : (l : List Slot) → initials (cells l) ≡ slotInitials l
+cells-initials [] = refl
+cells-initials (s ∷ l) = ap (λ (r : List ℤ). s .initial ∷ r) (cells-initials l)
 
 cells-initialised : (l : List Slot) → SlotsInitialised l → Initialised (cells l)
 unfolding Initialised
@@ -55,7 +60,8 @@ signature-good p w =
     }
 
 -- each line of a typed statement fits
-lines-fit : (σ : Signature) (s : Stmt) (n f : ℕ) → typed (σ .inputs) (types (σ .outputs)) (types (σ .variables)) s ≡ true → Each (λ x l. fitsLine σ l ≡ true) s n f
+lines-fit : (σ : Signature) (s : Stmt) (n f : ℕ) → typed (σ .inputs) (types (σ .outputs)) (types (σ .variables)) s ≡ true
+    → Each (λ x l. fitsLine σ l ≡ true) s n f
 unfolding typed Each
 lines-fit σ (act a) n f h = h
 lines-fit σ wait n f h = refl
@@ -101,7 +107,8 @@ module _ (p : Process) (w : WellFormed p) where
       let r = linesOf-ranked (p .body) (w .class) (w .loops) in
       let low = reachesOf-below (p .body) (w .class) (w .loops) x (omega arith) in (
         and-both (within (length (linesOf (p .body))) l) _ (followers-within _ l (r .followers x b))
-            (and-both (eqb (reach (reachesOf (p .body)) x) (reachOf (reachesOf (p .body)) l)) (fitsLine (signatureFor p) l) (eq-eqb _ _ (r .reaches x b)) (line-fits x (omega arith))),
+            (and-both (eqb (reach (reachesOf (p .body)) x) (reachOf (reachesOf (p .body)) l)) (fitsLine (signatureFor p) l)
+            (eq-eqb _ _ (r .reaches x b)) (line-fits x (omega arith))),
         omega (arith, w .statements),
       )
 
@@ -129,6 +136,12 @@ module _ (p : Process) (w : WellFormed p) where
   pub encode-bytes : length (encode p) ≤ 65535 → Bytes (encode p)
   unfolding encode
   encode-bytes h = table-bytes (tableOf p) (process-good h)
+
+  -- The fresh state of its image: place 512 and the declared initial values.
+  pub encode-fresh : length (encode p) ≤ 65535
+      → freshOf (encode p) ≡ fresh (stateFor 512 (record { outputs = slotInitials (p .outputs); variables = slotInitials (p .variables) }))
+  unfolding freshOf freshTable tableOf signatureFor
+  encode-fresh h = rw (encode-opens h, cells-initials (p .outputs), cells-initials (p .variables))
 
   -- 14 on the table's side is 14 on the text's side
   pub row-refusal : (i : List ℤ) (n : ℕ) → rowPlace (signatureFor p) i n ≡ rowRefusal p (record { inputs = i; room = n })

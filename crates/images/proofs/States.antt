@@ -1,10 +1,10 @@
 -- 15 exactly when the State section is not met: a state record that is not refused is the layout of a place and of values of their types.
 -- By induction on the slots. Assumes nothing.
-use Prim.Native.Nat.{ℕ, zero, suc, _≤_, _<_}
+use Prim.Native.Nat.{ℕ, zero, suc, _≤_}
 use native.Mathlib.Omega.{arith}
 use mathlib.Core.Path.{_≡_, refl, sym, ap, _∙_}
 use mathlib.Core.Logic.{_↔_, _⊎_, inl, inr}
-use mathlib.Core.Bool.{Bool, true, false, _&&_, _||_}
+use mathlib.Core.Bool.{true, _&&_, _||_}
 use mathlib.Core.List.{List, [], _∷_}
 use lib.ListN.{length, take, length-map}
 use lib.IntN.{ℤ, pos}
@@ -14,10 +14,10 @@ use Rattle.answers.specs.declared.State.{State}
 use Rattle.design.specs.Types.{Ty, eqZ, inType}
 use Rattle.semantics.specs.Equations.{Memory}
 use Rattle.semantics.specs.Values.{Values}
-use Rattle.semantics.proofs.Basic.{false-true, eqb-true, eqb-same, and-left, and-right, or-left, or-right}
+use Rattle.semantics.proofs.Basic.{false-true, eqb-true, and-left, and-right, or-left, or-right}
 use Rattle.semantics.proofs.Results.{or-case}
 use Rattle.format.specs.Lines.{Line, waits, acts, branches, line}
-use Rattle.format.specs.Signature.{Cell, Signature, types, initials, Initialised, GoodSignature}
+use Rattle.format.specs.Signature.{Cell, types, initials, Initialised}
 use Rattle.format.specs.Image.{Table}
 use Rattle.format.specs.Good.{GoodTable}
 use Rattle.format.specs.State.{zeros, slotsOk, isWait, placeOk, stateOk, pad, stateFor, memoryOf, freshTable}
@@ -65,6 +65,9 @@ ok-slots zero (t ∷ ts) (z ∷ l) e h = absurd (omega arith)
 ok-slots (suc n) (t ∷ ts) (z ∷ l) e h =
     let r = ok-slots n ts l (omega arith) (and-right (inType t z) _ h) in
     ((and-left (inType t z) _ h, r .0), ap (λ q. z ∷ q) (r .1))
+
+counted-slots : (n : ℕ) (ts : List Ty) (l : List ℤ) → (eqb (length l) n && slotsOk ts l) ≡ true → Values ts (take (length ts) l) × (l ≡ pad n (take (length ts) l))
+counted-slots n ts l h = ok-slots n ts l (eqb-true (length l) n (and-left (eqb (length l) n) _ h)) (and-right (eqb (length l) n) _ h)
 
 -- values of their types are read back from the slots
 pub pad-take : (n : ℕ) (ts : List Ty) (l : List ℤ) → Values ts l → length ts ≤ n → take (length ts) (pad n l) ≡ l
@@ -115,11 +118,14 @@ module _ (t : Table) (g : GoodTable t) where
       let b = and-right (placeOk (t .lines) (s .place)) _ h in
       let o = and-left (eqb (length (s .outputs)) 16 && slotsOk (types (t .signature .outputs)) (s .outputs)) _ b in
       let v = and-right (eqb (length (s .outputs)) 16 && slotsOk (types (t .signature .outputs)) (s .outputs)) _ b in
-      let x = ok-slots 16 (types (t .signature .outputs)) (s .outputs) (eqb-true _ 16 (and-left (eqb (length (s .outputs)) 16) _ o)) (and-right (eqb (length (s .outputs)) 16) _ o) in
-      let y = ok-slots 32 (types (t .signature .variables)) (s .variables) (eqb-true _ 32 (and-left (eqb (length (s .variables)) 32) _ v)) (and-right (eqb (length (s .variables)) 32) _ v) in
+      let x = counted-slots 16 (types (t .signature .outputs)) (s .outputs) o in
+      let y = counted-slots 32 (types (t .signature .variables)) (s .variables) v in
       record {
         place = place-exactly (t .lines) (s .place) .0 a;
-        memory = record { outputs = take (length (types (t .signature .outputs))) (s .outputs); variables = take (length (types (t .signature .variables))) (s .variables) };
+        memory = record {
+          outputs = take (length (types (t .signature .outputs))) (s .outputs);
+          variables = take (length (types (t .signature .variables))) (s .variables);
+        };
         typed = record { outputs = x .0; variables = y .0 };
         slots = λ j. record { place = s .place; outputs = x .1 j; variables = y .1 j };
       }
@@ -146,9 +152,11 @@ module _ (t : Table) (g : GoodTable t) where
   unfolding memoryOf stateFor
   memory-back p m w =
       let a : take (length (t .signature .outputs)) (pad 16 (m .outputs)) ≡ m .outputs =
-      ap (λ n. take n (pad 16 (m .outputs))) (sym (types-length (t .signature .outputs))) ∙ pad-take 16 (types (t .signature .outputs)) (m .outputs) (w .outputs) outputs-few in
+      ap (λ n. take n (pad 16 (m .outputs))) (sym (types-length (t .signature .outputs)))
+      ∙ pad-take 16 (types (t .signature .outputs)) (m .outputs) (w .outputs) outputs-few in
       let b : take (length (t .signature .variables)) (pad 32 (m .variables)) ≡ m .variables =
-      ap (λ n. take n (pad 32 (m .variables))) (sym (types-length (t .signature .variables))) ∙ pad-take 32 (types (t .signature .variables)) (m .variables) (w .variables) variables-few in
+      ap (λ n. take n (pad 32 (m .variables))) (sym (types-length (t .signature .variables)))
+      ∙ pad-take 32 (types (t .signature .variables)) (m .variables) (w .variables) variables-few in
       λ j. record { outputs = a j; variables = b j }
 
   initials-typed : (l : List Cell) → Initialised l → Values (types l) (initials l)

@@ -1,23 +1,23 @@
 -- A good table is ranked, and a walk over its lines keeps values of their types: line by line, then by induction on the count of lines.
 -- Assumes nothing.
-use Prim.Native.Nat.{ℕ, zero, suc, _≤_, _<_}
+use Prim.Native.Nat.{ℕ, zero, suc, _<_}
 use native.Mathlib.Omega.{arith}
 use mathlib.Core.Path.{_≡_, refl, sym, ap, _∙_}
-use mathlib.Core.Bool.{Bool, true, false, _&&_}
+use mathlib.Core.Bool.{true}
 use mathlib.Core.Option.{Option, none, some}
-use mathlib.Core.List.{List, [], _∷_, _++_}
+use mathlib.Core.List.{List, [], _∷_}
 use lib.ListN.{length, getD}
 use lib.IntN.{ℤ}
 use lib.Dec.{ltb, eqb}
 use borrow.Author.Tests.{ltb-true}
 use Rattle.design.specs.Types.{Ty, ExprTy, plain, inType}
-use Rattle.design.specs.Expression.{Expr, Out, fine, fault, nth, plainly, typeOf}
+use Rattle.design.specs.Expression.{Expr, fine, plainly, typeOf}
 use Rattle.design.specs.Statement.{Act, output, variable, null}
 use Rattle.design.specs.Process.{fits, typedAct}
 use Rattle.semantics.specs.Evaluation.{evaluate}
 use Rattle.semantics.specs.Equations.{Memory, Run, Result, passed, reached, refused, perform, log}
 use Rattle.semantics.specs.Values.{ofType, Values}
-use Rattle.semantics.proofs.Basic.{none-some, some-injective, fine-injective, bind-fine, eqb-true, and-left, and-right}
+use Rattle.semantics.proofs.Basic.{none-some, fine-injective, bind-fine, eqb-true, and-left, and-right}
 use Rattle.semantics.proofs.Values.{values-set, value-typed}
 use Rattle.format.specs.Lines.{Line, waits, acts, branches, line, reach, reachOf}
 use Rattle.format.specs.Walk.{walk}
@@ -62,7 +62,8 @@ good-parts σ n rs q l h =
 
 module _ (t : Table) (g : GoodTable t) where
   pub line-good : (x : ℕ) → x < length (t .lines)
-      → Followers (length (t .lines)) (line (t .lines) x) × (reach (t .reaches) x ≡ reachOf (t .reaches) (line (t .lines) x)) × (fitsLine (t .signature) (line (t .lines) x) ≡ true)
+      → Followers (length (t .lines)) (line (t .lines) x) × (reach (t .reaches) x ≡ reachOf (t .reaches) (line (t .lines) x))
+      × (fitsLine (t .signature) (line (t .lines) x) ≡ true)
   line-good x b =
       good-parts (t .signature) (length (t .lines)) (t .reaches) (reach (t .reaches) x) (line (t .lines) x)
       (lines-good (t .signature) (length (t .lines)) (t .reaches) (t .lines) (t .reaches) (g .lines) x b)
@@ -94,7 +95,8 @@ module _ (σ : Signature) (i : List ℤ) (hi : Values (σ .inputs) i) where
       let t = target-type _ _ e o h in
       (t .0, t .2, value-typed (σ .inputs) (types (σ .variables)) i (m .variables) hi (w .variables) e (plain (t .0)) z (t .1) q)
 
-  perform-typed : (a : Act) → typedAct (σ .inputs) (types (σ .outputs)) (types (σ .variables)) a ≡ true → (m m′ : Memory) → Typed σ m → perform a i m ≡ fine m′ → Typed σ m′
+  perform-typed : (a : Act) → typedAct (σ .inputs) (types (σ .outputs)) (types (σ .variables)) a ≡ true → (m m′ : Memory) → Typed σ m
+      → perform a i m ≡ fine m′ → Typed σ m′
   unfolding typedAct perform
   perform-typed (output k e) h m m′ w q =
       let r = bind-fine _ _ m′ q in
@@ -125,4 +127,5 @@ module _ (t : Table) (g : GoodTable t) (i : List ℤ) (hi : Values (t .signature
   walk-typed (suc k) x σ b w =
       let l = line-good t g x b in
       step-holds (TypedResult (t .signature)) (line (t .lines) x) x i σ _ (λ f e. w) tt
-      (λ z m n. walk-typed k z _ (next-inside (length (t .lines)) (line (t .lines) x) (l .0) i _ m z n) (next-typed (t .signature) i hi (line (t .lines) x) (l .2) _ m z n w))
+      (λ z m n. walk-typed k z _ (next-inside (length (t .lines)) (line (t .lines) x) (l .0) i _ m z n)
+      (next-typed (t .signature) i hi (line (t .lines) x) (l .2) _ m z n w))

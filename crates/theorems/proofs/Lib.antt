@@ -2,4 +2,5 @@ pub mod Demand2
 pub mod Size
 pub mod OneRow
 pub mod Direct
+pub mod Demand1
 pub mod Demand3
