@@ -86,14 +86,14 @@ unfolding opened
 refused-text = refl
 
 -- the state record: a place, one output, one variable, all other slots 0
-abbrev stateAt : ℕ → ℤ → ℤ → State
+abbrev pub stateAt : ℕ → ℤ → ℤ → State
 stateAt p o v = record { place = p; outputs = o ∷ replicate 15 (pos 0); variables = v ∷ replicate 31 (pos 0) }
 
-abbrev did : List ℕ → ℕ → ℤ → ℤ → Called
+abbrev pub did : List ℕ → ℕ → ℤ → ℤ → Called
 did w p o v = record { answer = performed w; state = stateAt p o v; row = o ∷ [] }
 
 -- P1 on the table, every slot: rows 7, 7, 1, -5, -2147483648, 20, each with an output row that holds 99
-abbrev rowOf : ℤ → Call
+abbrev pub rowOf : ℤ → Call
 rowOf z = record { inputs = z ∷ []; outputs = pos 99 ∷ [] }
 
 pub p1-fresh : freshOf tallyImage ≡ fresh (stateAt 512 (pos 0) (pos 0))
@@ -108,7 +108,7 @@ unfolding opened
 p1 = refl
 
 -- P7: one image; the condition's code is variable 0, not, variable 1, =
-abbrev twoBits : List ℕ → List ℕ
+abbrev pub twoBits : List ℕ → List ℕ
 twoBits s =
     bytes "entity e is port(clk:in std_logic);end e;architecture t of e is begin process variable a,b:std_logic:='0';begin if " ++
     (s ++ bytes " then null;end if;wait until clk='1';end process;end t;")

@@ -1,3 +1,4 @@
 pub mod Large
 pub mod Equations
 pub mod Images
+pub mod Nine

@@ -308,3 +308,15 @@ module _ (is vs : List Ty) where
   -- One expression for each code, one code for each typed expression.
   pub decode-exactly : (s : List ℕ) (t : ExprTy) (e : Expr) → Bytes s → (decode is vs s ≡ some (t, e)) ↔ ((s ≡ code e) × (typeOf is vs e ≡ some t))
   decode-exactly s t e h = (decode-back s t e h, λ p. ap (decode is vs) (p .0) ∙ decode-code is vs e t (p .1))
+
+  -- So the code of any line of any image that opens comes to what its expression gives: for any algebra, ..
+  pub run-decoded : {X : Type 0} (A : Algebra X) (s : List ℕ) (t : ExprTy) (e : Expr) → Bytes s → decode is vs s ≡ some (t, e)
+      → runCode (typed is vs A) s ≡ bind (fold A e) (λ x. fine (t, x))
+  run-decoded A s t e h d = let b = decode-back s t e h d in ap (runCode (typed is vs A)) (b .0) ∙ run-typed is vs A e t (b .1)
+
+  -- .. and for its value, refusal 16 included.
+  pub value-decoded : (s : List ℕ) (t : ExprTy) (e : Expr) (i v : List ℤ) → Bytes s → decode is vs s ≡ some (t, e)
+      → runCode (untyped (values i v)) s ≡ evaluate e i v
+  value-decoded s t e i v h d =
+      let b = decode-back s t e h d in
+      ap (runCode (untyped (values i v))) (b .0) ∙ value-code e i v (typed-codable is vs e t (b .1))

@@ -34,7 +34,8 @@ pub record Called : Type 0 where
 abbrev pub turnedBack : ℕ → ℕ → State → List ℤ → Called
 turnedBack q k s o = record { answer = not-performed q k; state = s; row = o }
 
--- "The wait reached becomes the place ..; the output row gets all outputs"; 16 at its line. A cycle of an opened image is never passed: see `row-outcome`.
+-- "The wait reached becomes the place ..; the output row gets all outputs"; 16 at its line. That a cycle of an opened image is never passed is
+-- `image-outcome` of the crate `images`.
 abbrev pub ended : Result → State → List ℤ → Called
 ended (passed τ) s o = record { answer = performed (τ .way); state = stateFor 512 (τ .memory); row = τ .memory .outputs }
 ended (reached p τ) s o = record { answer = performed (τ .way); state = stateFor p (τ .memory); row = τ .memory .outputs }

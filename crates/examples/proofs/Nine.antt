@@ -1,0 +1,93 @@
+-- Document 01's nine examples, P1 to P9, as one table of claims on whole texts, and the theorem that each holds, by computation. Assumes nothing.
+use mathlib.Core.Path.{_≡_, refl}
+use mathlib.Core.Option.{Option, none, some}
+use mathlib.Core.List.{List, [], _∷_, _++_, map}
+use Prim.Native.Nat.{ℕ}
+use lib.ListN.{length, replicate}
+use lib.IntN.{ℤ, pos, negsuc}
+use Rattle.grammar.specs.Limits.{Each}
+use Rattle.answers.specs.declared.State.{State}
+use Rattle.language.specs.Bytes.{bytes}
+use Rattle.language.specs.Lexer.{tokenAt}
+use Rattle.language.specs.Verdict.{Verdict, accepted, refused, verdict}
+use Rattle.language.proofs.Examples.{plain, place, whole, stdPorts, stdVars, stmts, vars, passes}
+use Rattle.language.proofs.ExamplesReadings.{tallyText}
+use Rattle.format.specs.Words.{word2At, word4At}
+use Rattle.format.specs.Encode.{encode}
+use Rattle.format.specs.State.{Started, fresh, not-started, freshOf}
+use Rattle.format.specs.Cycle.{Call, Called, performed, not-performed, callsOf}
+use Rattle.theorems.specs.Compile.{compileOf}
+use Rattle.examples.proofs.Images.{opened, tallyImage, stateAt, did, rowOf, twoBits}
+
+-- the image of a text that is accepted
+abbrev onVerdict : Verdict → List ℕ
+onVerdict (accepted p) = encode p
+onVerdict (refused n k) = []
+
+unfoldable pub imageOf : List ℕ → List ℕ
+imageOf text = onVerdict (verdict text)
+
+-- the answers to these calls, from the fresh state of an image
+abbrev fromStart : Started → List ℕ → List Call → List Called
+fromStart (fresh s) image cs = callsOf image s cs
+fromStart (not-started n k) image cs = []
+
+unfoldable pub traceOf : List ℕ → List Call → List Called
+traceOf text cs = fromStart (freshOf (imageOf text)) (imageOf text) cs
+
+-- what an example claims
+pub data Claim : Type 0 where
+  -- calls on the text's image, from its fresh state, leave these answers, states and output rows
+  traces : (text : List ℕ) → List Call → List Called → Claim
+  -- the two-byte numbers at these offsets of the text's image
+  words2 : (text offsets values : List ℕ) → Claim
+  -- the four-byte numbers at these offsets of the text's image, and its length
+  words4 : (text offsets values : List ℕ) → (size : ℕ) → Claim
+  -- the text, without its caret, is refused by this number at the caret, and this token is handed out
+  refuses : (number : ℕ) → (text token : List ℕ) → Claim
+  -- both texts have one image, and it is not empty
+  one-image : (text other : List ℕ) → (size : ℕ) → Claim
+
+abbrev pub Says : Claim → Type 0
+Says (traces t cs rs) = traceOf t cs ≡ rs
+Says (words2 t os vs) = map (word2At (imageOf t)) os ≡ vs
+Says (words4 t os vs n) = (map (word4At (imageOf t)) os ≡ vs) × (length (imageOf t) ≡ n)
+Says (refuses n t w) = (verdict (plain t) ≡ refused n (place t)) × (tokenAt (plain t) (place t) ≡ w)
+Says (one-image t u n) = (imageOf t ≡ imageOf u) × (length (imageOf t) ≡ n)
+
+abbrev row8 : Call
+row8 = record { inputs = pos 0 ∷ pos 1 ∷ pos 0 ∷ pos 5 ∷ []; outputs = pos 99 ∷ pos 99 ∷ [] }
+
+abbrev state8 : ℕ → ℤ → ℤ → State
+state8 p s u = record { place = p; outputs = replicate 16 (pos 0); variables = s ∷ u ∷ pos 1 ∷ replicate 29 (pos 0) }
+
+abbrev pub nine : List Claim
+nine =
+    -- P1
+    traces tallyText (rowOf (pos 7) ∷ rowOf (pos 7) ∷ rowOf (pos 1) ∷ rowOf (negsuc 4) ∷ rowOf (negsuc 2147483647) ∷ rowOf (pos 20) ∷ [])
+    (did (0 ∷ 1 ∷ 2 ∷ []) 2 (pos 0) (pos 7) ∷ did (0 ∷ 1 ∷ 2 ∷ []) 2 (pos 0) (pos 14) ∷ did (0 ∷ 3 ∷ 4 ∷ 5 ∷ []) 5 (pos 14) (pos 0) ∷
+    did (0 ∷ 1 ∷ 2 ∷ []) 2 (pos 14) (negsuc 4) ∷ record { answer = not-performed 16 1; state = stateAt 2 (pos 14) (negsuc 4); row = pos 99 ∷ [] } ∷
+    did (0 ∷ 1 ∷ 2 ∷ []) 2 (pos 14) (pos 15) ∷ []) ∷
+    -- P2
+    words2 tallyText (52 ∷ 64 ∷ 76 ∷ 88 ∷ 100 ∷ 112 ∷ []) (3 ∷ 1 ∷ 0 ∷ 2 ∷ 1 ∷ 0 ∷ []) ∷
+    -- P3
+    words4 tallyText (4 ∷ 8 ∷ 12 ∷ 16 ∷ 20 ∷ 24 ∷ []) (28 ∷ 14 ∷ 42 ∷ 72 ∷ 114 ∷ 20 ∷ []) 134 ∷
+    -- P4
+    refuses 9 (whole stdPorts stdVars "^process" (bytes "if '1' = '1' then wait until clk = '1'; end if;")) (bytes "process") ∷
+    -- P5
+    refuses 3 (stmts "f := a and b ^or c;") (bytes "or") ∷
+    -- P6
+    refuses 3 (stmts "s := s - ^-1;") (bytes "-") ∷
+    -- P7
+    one-image (twoBits (bytes "not a = b")) (twoBits (bytes "(not a) = b")) 83 ∷
+    -- P8
+    traces (stmts "s := -2147483647 - 1;") (row8 ∷ [])
+    (record { answer = performed (0 ∷ 1 ∷ []); state = state8 1 (negsuc 2147483647) (pos 0); row = pos 0 ∷ pos 0 ∷ [] } ∷ []) ∷
+    traces (stmts "s := 3; u := -(-2147483647 - 1);") (row8 ∷ [])
+    (record { answer = not-performed 16 1; state = state8 512 (pos 0) (pos 0); row = pos 99 ∷ pos 99 ∷ [] } ∷ []) ∷
+    -- P9
+    refuses 4 (vars "variable s : integer := -^2147483648;") (bytes "2147483648") ∷ []
+
+pub nine-hold : Each Says nine
+unfolding opened passes imageOf traceOf
+nine-hold = (refl, (refl, ((refl, refl), ((refl, refl), ((refl, refl), ((refl, refl), ((refl, refl), (refl, (refl, ((refl, refl), tt))))))))))
