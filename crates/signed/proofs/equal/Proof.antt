@@ -1,0 +1,10 @@
+-- `signed::equal` meets its contract: integers are equal where their bits are. Assumes nothing.
+use Rattle.signed.proofs.Range.{equal-bits}
+use Rattle.signed.proofs.equal.Statement.{statement}
+use Rattle.signed.proofs.equal.Tie as tie
+
+returns : tie.Need-returns
+returns c = equal-bits (c .fits .x) (c .fits .y)
+
+pub equal-spec : {M : Type 1} → statement M
+equal-spec = tie.close (tie.spec returns)

@@ -1,0 +1,15 @@
+-- `signed::negate` meets its contract: the sign is the difference from 0. Assumes nothing.
+use mir.Facts.{toZ-ofZ}
+use Rattle.signed.proofs.Range.{zero-minus}
+use borrow.Author.Needs.{needs}
+use Rattle.signed.proofs.negate.Statement.{statement}
+use Rattle.signed.proofs.negate.Tie as tie
+
+subtract-requires : tie.Need-subtract-requires
+subtract-requires c κs = search needs
+
+returns : tie.Need-returns
+returns c = simp (toZ-ofZ (c .before .fits .x), zero-minus) at (c .subtract .ensures)
+
+pub negate-spec : {M : Type 1} → statement M
+negate-spec = tie.close (tie.spec subtract-requires returns)

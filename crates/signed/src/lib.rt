@@ -1,0 +1,119 @@
+// 32-bit integers of document 01, exact: operators through 64 bits, comparisons, two's complement, the values of a type. No other crate computes
+// with signed numbers.
+ghost use mathlib.Core.Path.{_≡_};
+ghost use lib.IntN.{_+ℤ_, _-ℤ_, negℤ};
+ghost use lib.Signed.{ltZ, leZ};
+ghost use Rattle.design.specs.Types.{eqZ};
+ghost use Rattle.semantics.specs.Evaluation.{asInteger, bitOf, isOne};
+ghost use Rattle.format.specs.Words.{signed32, unsigned32};
+ghost use Rattle.signed.specs.Signed.{checkedOf, inTypeByte};
+
+// The result of an operator: an integer, or the number of the refusal (16 where the result is outside integer).
+pub enum Checked {
+    Value(i32),
+    Refused(u8),
+}
+
+// A number as an integer, where it is one.
+fn narrow(s: i64) -> Checked
+    ensures { λ r. ⌜ r ≡ checkedOf (asInteger s) ⌝ }
+{
+    if s < -2147483648 {
+        return Checked::Refused(16);
+    }
+    if 2147483647 < s {
+        return Checked::Refused(16);
+    }
+    Checked::Value(s as i32)
+}
+
+// The operator +.
+pub fn add(x: i32, y: i32) -> Checked
+    ensures { λ r. ⌜ r ≡ checkedOf (asInteger (x +ℤ y)) ⌝ }
+{
+    narrow((x as i64) + (y as i64))
+}
+
+// The operator -.
+pub fn subtract(x: i32, y: i32) -> Checked
+    ensures { λ r. ⌜ r ≡ checkedOf (asInteger (x -ℤ y)) ⌝ }
+{
+    narrow((x as i64) - (y as i64))
+}
+
+// The sign -.
+pub fn negate(x: i32) -> Checked
+    ensures { λ r. ⌜ r ≡ checkedOf (asInteger (negℤ x)) ⌝ }
+{
+    subtract(0, x)
+}
+
+// x = y.
+pub fn equal(x: i32, y: i32) -> bool
+    ensures { λ r. ⌜ r ≡ eqZ x y ⌝ }
+{
+    x == y
+}
+
+// x < y.
+pub fn less(x: i32, y: i32) -> bool
+    ensures { λ r. ⌜ r ≡ ltZ x y ⌝ }
+{
+    x < y
+}
+
+// x <= y.
+pub fn at_most(x: i32, y: i32) -> bool
+    ensures { λ r. ⌜ r ≡ leZ x y ⌝ }
+{
+    x <= y
+}
+
+// The number of a std_logic or a boolean: 1 where it is true.
+pub fn from_bool(b: bool) -> i32
+    ensures { λ r. ⌜ r ≡ bitOf b ⌝ }
+{
+    if b { 1 } else { 0 }
+}
+
+// A std_logic or a boolean from its number.
+pub fn is_one(x: i32) -> bool
+    ensures { λ r. ⌜ r ≡ isOne x ⌝ }
+{
+    equal(x, 1)
+}
+
+// A number of 32 bits read as two's complement.
+pub fn from_bits(n: u32) -> i32
+    ensures { λ r. ⌜ r ≡ signed32 n ⌝ }
+{
+    if n < 2147483648 {
+        n as i32
+    } else {
+        -1 - ((4294967295 - n) as i32)
+    }
+}
+
+// An integer as 32 bits in two's complement.
+pub fn to_bits(x: i32) -> u32
+    ensures { λ r. ⌜ r ≡ unsigned32 x ⌝ }
+{
+    if x < 0 {
+        4294967295 - ((-1 - x) as u32)
+    } else {
+        x as u32
+    }
+}
+
+// Whether v is a value of the type with that type byte: 0 std_logic, 1 integer.
+pub fn in_type(kind: u8, v: i32) -> bool
+    ensures { λ r. ⌜ r ≡ inTypeByte kind v ⌝ }
+{
+    if kind == 0 {
+        if equal(v, 0) {
+            return true;
+        }
+        return equal(v, 1);
+    }
+    kind == 1
+}
