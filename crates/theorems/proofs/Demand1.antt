@@ -21,7 +21,7 @@ use Rattle.format.specs.Opening.{Opened, opened, not-opened, openOf}
 use Rattle.format.specs.Refusals.{Refusal, sections-refused, signature-refused, line-refused}
 use Rattle.format.specs.State.{freshFrom, freshOf}
 use Rattle.format.specs.Cycle.{Called, Call, unlessClosed, rowOf, cycleOf}
-use Rattle.format.specs.Encode.{tableOf, encode}
+use Rattle.format.specs.Encode.{tableOf}
 use Rattle.format.proofs.Refusals.{refused-exactly}
 use Rattle.images.specs.Outcome as O
 use Rattle.images.proofs.Outcomes.{row-outcome, image-outcome}
@@ -47,17 +47,21 @@ refuses-9 b n p (offends h (there f (there g (there i (here e l))))) = (omega ar
 refuses-9 b n p (offends h (there f (there g (there i (there j (here e l)))))) = (omega arith, omega arith)
 
 -- a compile
+written-compiles : (i buffer : List ℕ) → Compiles buffer (written-into i buffer)
+unfolding written-into
+written-compiles i buffer = fits (leb (length i) (length buffer)) refl
+  where
+    fits : (b : Bool) → leb (length i) (length buffer) ≡ b
+        → Compiles buffer (cond b (record { answer = written (length i); buffer = i ++ drop (length i) buffer }) (record { answer = not-compiled 10 (length i); buffer = buffer }))
+    fits true e = writes i (leb-true (length i) (length buffer) e)
+    fits false e = D.refuses 10 (length i) (omega arith) (omega arith)
+
 compiles : (text buffer : List ℕ) → Compiles buffer (compileOf text buffer)
-unfolding compileOf written-into
+unfolding compileOf
 compiles text buffer = on (verdict text) refl
   where
-    fits : (i : List ℕ) (b : Bool) → leb (length i) (length buffer) ≡ b
-        → Compiles buffer (cond b (record { answer = written (length i); buffer = i ++ drop (length i) buffer }) (record { answer = not-compiled 10 (length i); buffer = buffer }))
-    fits i true e = writes i (leb-true (length i) (length buffer) e)
-    fits i false e = D.refuses 10 (length i) (omega arith) (omega arith)
-
     on : (v : Verdict) → verdict text ≡ v → Compiles buffer (onVerdict v buffer)
-    on (accepted p) e = fits (encode p) (leb (length (encode p)) (length buffer)) refl
+    on (accepted p) e = written-compiles _ buffer
     on (refused n k) e = let r = refuses-9 text n k (J.refuses text n k .0 e) in D.refuses n k (r .0) (omega (arith, r .1))
 
 -- an image
