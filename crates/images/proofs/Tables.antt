@@ -18,7 +18,7 @@ use Rattle.semantics.specs.Evaluation.{evaluate}
 use Rattle.semantics.specs.Equations.{Memory, Run, Result, passed, reached, refused, perform, log}
 use Rattle.semantics.specs.Values.{ofType, Values}
 use Rattle.semantics.proofs.Basic.{none-some, fine-injective, bind-fine, eqb-true, and-left, and-right}
-use Rattle.semantics.proofs.Values.{values-set, value-typed}
+use Rattle.semantics.proofs.WellTyped.{perform-typed}
 use Rattle.format.specs.Lines.{Line, waits, acts, branches, line, reach, reachOf}
 use Rattle.format.specs.Walk.{walk}
 use Rattle.format.specs.Signature.{Signature, types}
@@ -79,38 +79,10 @@ module _ (t : Table) (g : GoodTable t) where
 
 -- Types.
 
--- a target that fits has the expression's type
-target-type : (is vs : List Ty) (e : Expr) (o : Option Ty) → fits is vs e (plainly o) ≡ true → (t : Ty) × (typeOf is vs e ≡ some (plain t)) × (o ≡ some t)
-target-type is vs e o h = let u = fits-type is vs e (plainly o) h in go o (u .0) (u .1) (u .2)
-  where
-    go : (o : Option Ty) (u : ExprTy) → typeOf is vs e ≡ some u → plainly o ≡ some u → (t : Ty) × (typeOf is vs e ≡ some (plain t)) × (o ≡ some t)
-    go none u p q = unfold plainly in none-some u q
-    go (some t) u p q = unfold plainly in (t, p ∙ sym q, refl)
-
 module _ (σ : Signature) (i : List ℤ) (hi : Values (σ .inputs) i) where
-  stored : (m : Memory) → Typed σ m → (e : Expr) (o : Option Ty) (z : ℤ) → fits (σ .inputs) (types (σ .variables)) e (plainly o) ≡ true
-      → evaluate e i (m .variables) ≡ fine z → (t : Ty) × (o ≡ some t) × (inType t z ≡ true)
-  unfolding ofType
-  stored m w e o z h q =
-      let t = target-type _ _ e o h in
-      (t .0, t .2, value-typed (σ .inputs) (types (σ .variables)) i (m .variables) hi (w .variables) e (plain (t .0)) z (t .1) q)
-
-  perform-typed : (a : Act) → typedAct (σ .inputs) (types (σ .outputs)) (types (σ .variables)) a ≡ true → (m m′ : Memory) → Typed σ m
-      → perform a i m ≡ fine m′ → Typed σ m′
-  unfolding typedAct perform
-  perform-typed (output k e) h m m′ w q =
-      let r = bind-fine _ _ m′ q in
-      let t = stored m w e _ (r .0) h (r .1) in
-      rw (← fine-injective _ m′ (r .2)) (record { outputs = values-set _ _ k (t .0) (r .0) (w .outputs) (t .1) (t .2); variables = w .variables })
-  perform-typed (variable k e) h m m′ w q =
-      let r = bind-fine _ _ m′ q in
-      let t = stored m w e _ (r .0) h (r .1) in
-      rw (← fine-injective _ m′ (r .2)) (record { outputs = w .outputs; variables = values-set _ _ k (t .0) (r .0) (w .variables) (t .1) (t .2) })
-  perform-typed null h m m′ w q = rw (← fine-injective m m′ q) w
-
   next-typed : (l : Line) → fitsLine σ l ≡ true → (m m′ : Memory) (z : ℕ) → Next l i m m′ z → Typed σ m → Typed σ m′
   next-typed (waits f) h m m′ z n w = absurd n
-  next-typed (acts a f) h m m′ z n w = perform-typed a h m m′ w (n .0)
+  next-typed (acts a f) h m m′ z n w = perform-typed _ _ _ i hi a h m m′ w (n .0)
   next-typed (branches e f g) h m m′ z n w = rw (n .0) at w
 
 -- the memory of a walk that ends at a wait

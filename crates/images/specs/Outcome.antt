@@ -8,7 +8,7 @@ use lib.IntN.{ℤ}
 use Rattle.answers.specs.declared.State.{State}
 use Rattle.semantics.specs.Equations.{Memory, Run, reached, refused}
 use Rattle.semantics.specs.InputRow.{Wrong}
-use Rattle.semantics.specs.Values.{Values}
+use Rattle.semantics.specs.Values.{Typed as TypedBy}
 use Rattle.format.specs.Walk.{from, tableCycle}
 use Rattle.format.specs.Signature.{Signature, types}
 use Rattle.format.specs.Image.{Table}
@@ -25,9 +25,8 @@ unfoldable pub Meets14 : Signature → List ℤ → ℕ → ℕ → Type 0
 Meets14 σ i n k = ((Fitting σ i n → ⊥) × (k ≡ 0)) ⊎ (Fitting σ i n × Wrong (σ .inputs) i k × ((y : ℕ) → y < k → Wrong (σ .inputs) i y → ⊥))
 
 -- outputs and variables have the signature's numbers and types
-pub record Typed (σ : Signature) (m : Memory) : Type 0 where
-  pub outputs : Values (types (σ .outputs)) (m .outputs)
-  pub variables : Values (types (σ .variables)) (m .variables)
+abbrev pub Typed : Signature → Memory → Type 0
+Typed σ m = TypedBy (types (σ .outputs)) (types (σ .variables)) m
 
 -- a state that is not refused by 15: "A place (512 for the beginning, else a wait's line)", and the slots of values of their types, "unused ones 0"
 pub record GoodState (t : Table) (s : State) : Type 0 where

@@ -12,7 +12,7 @@ use Rattle.design.specs.Statement.{Act, output, variable, null, Stmt, act, wait
 use Rattle.design.specs.Process.{Slot, Process, sourceTypes, slotTypes, initials, isType, fits, typedAct, typed, typedProcess, Initialised}
 use Rattle.semantics.specs.Evaluation.{evaluate}
 use Rattle.semantics.specs.Equations.{Memory, Run, Result, passed, reached, refused, perform, log, then, acted, tested, pick, start, resume, Place, beginning, at, enter, cycle}
-use Rattle.semantics.specs.Values.{ofType, Values, WellTyped}
+use Rattle.semantics.specs.Values.{ofType, Values, Typed, WellTyped}
 use Rattle.semantics.proofs.Basic.{false-true, fine-injective, bind-fine, and-left, and-right}
 use Rattle.semantics.proofs.Values.{values-set, value-typed}
 
@@ -69,34 +69,35 @@ module _ (Q : Memory → Type 0) where
   keeps-pick true x y hx hy = hx
   keeps-pick false x y hx hy = hy
 
-module _ (p : Process) (i : List ℤ) (hi : Values (sourceTypes (p .inputs)) i) where
-  abbrev typedIn : Stmt → Bool
-  typedIn s = typed (sourceTypes (p .inputs)) (slotTypes (p .outputs)) (slotTypes (p .variables)) s
-
+-- An assignment, of a process or of a table's line.
+module _ (is os vs : List Ty) (i : List ℤ) (hi : Values is i) where
   -- a value for a target that fits
-  stored : (m : Memory) → WellTyped p m → (e : Expr) (o : Option Ty) (z : ℤ) → fits (sourceTypes (p .inputs)) (slotTypes (p .variables)) e (plainly o) ≡ true
+  stored : (m : Memory) → Typed os vs m → (e : Expr) (o : Option Ty) (z : ℤ) → fits is vs e (plainly o) ≡ true
       → evaluate e i (m .variables) ≡ fine z → (t : Ty) × (o ≡ some t) × (inType t z ≡ true)
   unfolding ofType
   stored m w e o z h q =
       let t = fits-target _ _ e o h in
-      (t .0, t .2, value-typed (sourceTypes (p .inputs)) (slotTypes (p .variables)) i (m .variables) hi (w .variables) e (plain (t .0)) z (t .1) q)
+      (t .0, t .2, value-typed is vs i (m .variables) hi (w .variables) e (plain (t .0)) z (t .1) q)
 
-  perform-well-typed : (a : Act) → typedAct (sourceTypes (p .inputs)) (slotTypes (p .outputs)) (slotTypes (p .variables)) a ≡ true
-      → (m m′ : Memory) → WellTyped p m → perform a i m ≡ fine m′ → WellTyped p m′
+  pub perform-typed : (a : Act) → typedAct is os vs a ≡ true → (m m′ : Memory) → Typed os vs m → perform a i m ≡ fine m′ → Typed os vs m′
   unfolding typedAct perform
-  perform-well-typed (output k e) h m m′ w q =
+  perform-typed (output k e) h m m′ w q =
       let r = bind-fine _ _ m′ q in
       let t = stored m w e _ (r .0) h (r .1) in
       rw (← fine-injective _ m′ (r .2)) (record { outputs = values-set _ _ k (t .0) (r .0) (w .outputs) (t .1) (t .2); variables = w .variables })
-  perform-well-typed (variable k e) h m m′ w q =
+  perform-typed (variable k e) h m m′ w q =
       let r = bind-fine _ _ m′ q in
       let t = stored m w e _ (r .0) h (r .1) in
       rw (← fine-injective _ m′ (r .2)) (record { outputs = w .outputs; variables = values-set _ _ k (t .0) (r .0) (w .variables) (t .1) (t .2) })
-  perform-well-typed null h m m′ w q = rw (← fine-injective m m′ q) w
+  perform-typed null h m m′ w q = rw (← fine-injective m m′ q) w
+
+module _ (p : Process) (i : List ℤ) (hi : Values (sourceTypes (p .inputs)) i) where
+  abbrev typedIn : Stmt → Bool
+  typedIn s = typed (sourceTypes (p .inputs)) (slotTypes (p .outputs)) (slotTypes (p .variables)) s
 
   start-well-typed : (s : Stmt) → typedIn s ≡ true → (n : ℕ) (σ : Run) → WellTyped p (σ .memory) → Keeps (WellTyped p) (start s n i σ)
   unfolding start typed log
-  start-well-typed (act a) h n σ w = keeps-acted (WellTyped p) _ n σ (λ m q. perform-well-typed a h (σ .memory) m w q)
+  start-well-typed (act a) h n σ w = keeps-acted (WellTyped p) _ n σ (λ m q. perform-typed _ _ _ i hi a h (σ .memory) m w q)
   start-well-typed wait h n σ w = w
   start-well-typed (if-then e a) h n σ w = keeps-tested (WellTyped p) _ n σ _ _ (start-well-typed a (and-right (fits _ _ e _) _ h) (suc n) (log n σ) w) w
   start-well-typed (if-else e a b) h n σ w =

@@ -19,7 +19,11 @@ Values [] (z ∷ l) = ⊥
 Values (t ∷ ts) [] = ⊥
 Values (t ∷ ts) (z ∷ l) = (inType t z ≡ true) × Values ts l
 
--- outputs and variables have the declared numbers and types
-pub record WellTyped (p : Process) (m : Memory) : Type 0 where
-  pub outputs : Values (slotTypes (p .outputs)) (m .outputs)
-  pub variables : Values (slotTypes (p .variables)) (m .variables)
+-- outputs and variables have these numbers and types
+pub record Typed (os vs : List Ty) (m : Memory) : Type 0 where
+  pub outputs : Values os (m .outputs)
+  pub variables : Values vs (m .variables)
+
+-- the declared ones of a process
+abbrev pub WellTyped : Process → Memory → Type 0
+WellTyped p m = Typed (slotTypes (p .outputs)) (slotTypes (p .variables)) m
