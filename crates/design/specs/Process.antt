@@ -1,15 +1,15 @@
 -- A process, and what holds of the process that an accepted text means. Assumes nothing.
 use mathlib.Core.Path.{_≡_}
-use mathlib.Core.Bool.{Bool, true, false, cond, _&&_}
+use mathlib.Core.Bool.{Bool, true, false, _&&_}
 use mathlib.Core.Option.{Option, none, some}
 use mathlib.Core.List.{List, [], _∷_, map}
 use Prim.Native.Nat.{ℕ, _≤_}
 use lib.ListN.{length}
 use lib.IntN.{ℤ}
 use lib.Dec.{leb}
-use Rattle.design.specs.Types.{Ty, ExprTy, plain, boolean, sameType, inType}
+use Rattle.design.specs.Types.{Ty, ExprTy, boolean, sameType, inType}
 use Rattle.design.specs.Expression.{Expr, items, nth, plainly, typeOf}
-use Rattle.design.specs.Statement.{Act, output, variable, null, Stmt, act, wait, if-then, if-else, while, seq, size, Class, C, classOf, LoopsC}
+use Rattle.design.specs.Statement.{Act, output, variable, null, Stmt, act, wait, if-then, if-else, while, seq, size, C, classOf, LoopsC}
 
 -- a data input ("all but the clock"): its folded name and its type
 pub record Source : Type 0 where

@@ -1,6 +1,5 @@
 -- The types of document 01 and their values. A value of any type is an integer of ℤ. Assumes nothing.
 use mathlib.Core.Bool.{Bool, true, false, _&&_, _||_}
-use mathlib.Core.Option.{Option, none, some}
 use lib.IntN.{ℤ, pos, negsuc}
 use lib.Signed.{leZ}
 use lib.Dec.{eqb}

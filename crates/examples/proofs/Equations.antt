@@ -1,7 +1,7 @@
 -- Whole texts followed through the equations: P1 (the trace of tally), P8, and document 000's GCD. Each is computed from the text's bytes. Assumes nothing.
 use mathlib.Core.Path.{_≡_, refl}
 use mathlib.Core.Option.{Option, none, some}
-use mathlib.Core.List.{List, [], _∷_, _++_}
+use mathlib.Core.List.{List, [], _∷_}
 use Prim.Native.Nat.{ℕ, suc}
 use lib.ListN.{replicate}
 use lib.IntN.{ℤ, pos, negsuc}

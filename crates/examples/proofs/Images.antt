@@ -1,7 +1,6 @@
 -- Whole texts followed to their images and back: P1 on the table, P2, P3, P7, refusal 10, and damaged images. Each is computed from the text's bytes.
 -- Assumes nothing.
 use mathlib.Core.Path.{_≡_, refl}
-use mathlib.Core.Bool.{cond}
 use mathlib.Core.Option.{bind as andThen}
 use mathlib.Core.List.{List, [], _∷_, _++_}
 use Prim.Native.Nat.{ℕ, suc, _+_}
@@ -14,7 +13,6 @@ use Rattle.design.specs.Statement as Statement
 use Rattle.design.specs.Process as Process
 use Rattle.language.specs.Bytes.{bytes}
 use Rattle.language.proofs.Computing.{computed}
-use Rattle.language.proofs.Examples.{stmts}
 use Rattle.language.proofs.ExamplesReadings.{tallyText}
 use Rattle.semantics.specs.Evaluation as Evaluation
 use Rattle.semantics.specs.Equations as Equations

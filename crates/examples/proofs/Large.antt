@@ -1,6 +1,5 @@
 -- Large texts: 16,384 bytes and 16,385; 512 statements and 513. One table, tested by computing, as in the crate language. Assumes nothing.
 use mathlib.Core.List.{List, [], _∷_, _++_}
-use Prim.Native.Nat.{ℕ}
 use lib.Dec.{T}
 use lib.ListN.{replicate}
 use Rattle.grammar.specs.Limits.{Each}

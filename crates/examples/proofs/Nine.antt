@@ -1,7 +1,6 @@
 -- Document 01's nine examples, P1 to P9, as one table of claims on whole texts, and the theorem that each holds, by computation. Assumes nothing.
 use mathlib.Core.Path.{_≡_, refl}
-use mathlib.Core.Option.{Option, none, some}
-use mathlib.Core.List.{List, [], _∷_, _++_, map}
+use mathlib.Core.List.{List, [], _∷_, map}
 use Prim.Native.Nat.{ℕ}
 use lib.ListN.{length, replicate}
 use lib.IntN.{ℤ, pos, negsuc}
@@ -16,8 +15,7 @@ use Rattle.format.specs.Words.{word2At, word4At}
 use Rattle.format.specs.Encode.{encode}
 use Rattle.format.specs.State.{Started, fresh, not-started, freshOf}
 use Rattle.format.specs.Cycle.{Call, Called, performed, not-performed, callsOf}
-use Rattle.theorems.specs.Compile.{compileOf}
-use Rattle.examples.proofs.Images.{opened, tallyImage, stateAt, did, rowOf, twoBits}
+use Rattle.examples.proofs.Images.{opened, stateAt, did, rowOf, twoBits}
 
 -- the image of a text that is accepted
 abbrev onVerdict : Verdict → List ℕ

@@ -1,10 +1,10 @@
 -- A cycle of a table: its lines followed by next and other, for at most as many lines as the first line's reach and one more. Assumes nothing.
 use mathlib.Core.Bool.{cond}
-use mathlib.Core.List.{List, [], _∷_}
+use mathlib.Core.List.{List}
 use Prim.Native.Nat.{ℕ, zero, suc}
 use lib.Dec.{eqb}
 use lib.IntN.{ℤ}
-use Rattle.semantics.specs.Equations.{Run, Result, passed, reached, refused, perform, holds, log, then, acted, tested}
+use Rattle.semantics.specs.Equations.{Run, Result, passed, reached, perform, holds, log, then, acted, tested}
 use Rattle.format.specs.Lines.{Line, waits, acts, branches, line, next, reach}
 
 -- the line l, with the number x, performed; go is what is done at a follower

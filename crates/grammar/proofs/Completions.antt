@@ -1,13 +1,12 @@
 -- Each nonterminal has a text: one is computed. So each list of symbols has one. Assumes nothing.
-use mathlib.Core.Path.{_≡_, refl}
+use mathlib.Core.Path.{refl}
 use mathlib.Core.Option.{Option, none, some}
 use mathlib.Core.Bool.{Bool, true, false}
-use mathlib.Core.List.{List, [], _∷_, _++_}
+use mathlib.Core.List.{List, [], _∷_}
 use Prim.Native.Nat.{ℕ, zero, suc}
 use lib.Dec.{T}
-use Rattle.grammar.specs.Token.{Token}
 use Rattle.grammar.specs.Grammar.{NonTerminal, text, ports, morePorts, port, names, moreNames, mode, type, init, value, vars, body, more, statement, target, else-part}
-use Rattle.grammar.specs.Grammar.{expression, chain, ands, ors, xors, relation, compared, simple, terms, factor, primary, Says, Mark, Sym, tk, nt, Fun, Production, productions, textProduction}
+use Rattle.grammar.specs.Grammar.{expression, chain, ands, ors, xors, relation, compared, simple, terms, factor, primary, Sym, tk, nt, Production, productions, textProduction}
 use Rattle.grammar.specs.Derivation.{_∈_, here, there, Tree, by, Trees, empty, token, child}
 
 andAlso : {A B : Type 0} → Option A → (A → Option B) → Option B

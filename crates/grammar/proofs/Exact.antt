@@ -1,28 +1,26 @@
 -- The reader's answer is exactly what is promised, and nothing else is: a text is read exactly where the grammar allows it, in the one way that it allows;
 -- 3 stands at the first token that cannot go on, 4 at the first that passes a limit. Assumes nothing.
 use mathlib.Core.Path.{_≡_, refl, sym, _∙_, subst, ap}
-use mathlib.Core.Bool.{Bool, true, false}
-use mathlib.Core.Logic.{_⊎_, inl, inr, _↔_}
+use mathlib.Core.Bool.{Bool, false}
+use mathlib.Core.Logic.{_↔_}
 use mathlib.Core.List.{List, [], _∷_, _++_, append-assoc, append-nil}
 use Prim.Native.Nat.{ℕ, suc, _+_, _-_, _≤_, _<_}
 use native.Mathlib.Omega.{arith}
-use native.Mathlib.Numerals.{add-one}
 use native.Mathlib.Decide.{decLt}
-use lib.Dec.{T}
 use lib.ListN.{length, take, drop, length-append, take-append-drop}
 use lib.Seq.{take-at, take-append-le, take-append-add, take-take, take-length, append-snoc}
 use Rattle.grammar.specs.Token.{Token}
 use Rattle.grammar.specs.Tree.{Text}
-use Rattle.grammar.specs.Grammar.{NonTerminal, text, Says, Mark, Sym, tk, nt, Fun, Production, productions, textProduction}
-use Rattle.grammar.specs.Meter.{Meter, zeroes, over, gauge}
-use Rattle.grammar.specs.Derivation.{_∈_, here, there, Tree, by, Trees, empty, token, child, span, spans, mark, marks, says, saysAll, Reads}
+use Rattle.grammar.specs.Grammar.{text, Mark, Production, productions, textProduction}
+use Rattle.grammar.specs.Meter.{Meter, zeroes, over}
+use Rattle.grammar.specs.Derivation.{_∈_, here, there, Tree, by, span, mark, marks, says, Reads}
 use Rattle.grammar.specs.Reader.{elem, first, firsts, follow, nullable, nullables, Outcome, read, refused, limited, run, readText}
 use Rattle.grammar.specs.Acceptance.{Begins, Passes, Within, Stops, Answer, accepted, no-sentence, past-limit, Exactly}
 use Rattle.grammar.specs.Reader.{placed, answer}
-use Rattle.grammar.proofs.Sets.{subset, within}
+use Rattle.grammar.proofs.Sets.{subset}
 use Rattle.grammar.proofs.Trees.{Has}
 use Rattle.grammar.proofs.Steps.{Ok, okSyms, tested}
-use Rattle.grammar.proofs.Runs.{Starts, Over, Clear, Refused, Limited, Accepted, Cannot, Right, run-right}
+use Rattle.grammar.proofs.Runs.{Starts, Over, Clear, Cannot, Right, run-right}
 
 pub ok-text : Ok (textProduction .rhs)
 unfolding okSyms textProduction firsts first nullables nullable follow subset elem

@@ -2,10 +2,10 @@
 use mathlib.Core.Path.{_≡_, refl}
 use mathlib.Core.List.{List, [], _∷_, _++_}
 use Prim.Native.Nat.{ℕ, zero, suc}
-use Rattle.grammar.specs.Token.{Token, NAME, NUMBER, ZERO, ONE, LP, RP, SEMI, COLON, COMMA, BECOMES, PLUS, MINUS, EQ, NE, LT, LE, GT, GE, AND, OR, XOR, NOT}
-use Rattle.grammar.specs.Token.{ENTITY, IS, PORT, END, ARCHITECTURE, OF, BEGIN, PROCESS, IN, OUT, VARIABLE, NULL, WAIT, UNTIL, IF, THEN, ELSE, WHILE, LOOP, STD-LOGIC, INTEGER}
+use Rattle.grammar.specs.Token.{Token, NAME, NUMBER, LP, RP, SEMI, COLON, COMMA, BECOMES, PLUS, MINUS, EQ, AND, OR, NOT}
+use Rattle.grammar.specs.Token.{ENTITY, IS, PORT, END, ARCHITECTURE, OF, BEGIN, PROCESS, IN, VARIABLE, NULL, IF, THEN, STD-LOGIC, INTEGER}
 use Rattle.grammar.specs.Grammar.{textProduction, productions}
-use Rattle.grammar.specs.Tree.{Text, Expr, number, bit, name, sign, negate, binary, parens, output, assign, null, wait, if-then, while, only, andThen, without, minus, input}
+use Rattle.grammar.specs.Tree.{Text, Expr, name, sign, negate, binary, parens, assign, only, without, input}
 use Rattle.grammar.specs.Meter.{tick, over}
 use Rattle.grammar.specs.Reader.{nullable, first, follow, elem, nullables, firsts, chosen, pick, compose, onSkip, shift, through, byRule, enter, advance, atEnd, keep, after, run, readText}
 use Rattle.grammar.specs.Acceptance.{Answer, accepted, no-sentence, past-limit}

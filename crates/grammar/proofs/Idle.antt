@@ -1,9 +1,7 @@
 -- A machine that goes by the marks, where those of an expression, of statements or of declarations do not move it: then these do not. By induction over the tree. Assumes nothing.
 use mathlib.Core.Path.{_≡_, refl, _∙_}
-use mathlib.Core.Bool.{Bool, true, false, cond}
 use mathlib.Core.List.{List, [], _∷_}
-use lib.Dec.{eqb}
-use Rattle.grammar.specs.Token.{Token, NUMBER}
+use Rattle.grammar.specs.Token.{Token}
 use Rattle.grammar.specs.Tree.{Expr, number, bit, name, sign, negate, binary, parens, Stmt, output, assign, null, wait, if-then, if-else, while, Body, only, andThen, Init, without, integer-literal, logic-literal, minus, Mode, input, output-port, variable-mode, Group, Text}
 use Rattle.grammar.specs.Grammar.{Mark, plain, item, opens, closes, fresh, stmt, stmt-fresh, deeper, shallower, declares, ins, outs, variables}
 use Rattle.grammar.proofs.Walk.{portMark, onExpr, onStmt, onBody, onMoreNames, onNames, onMode, onInit, onPort, onMorePorts, onPorts, onVars, onText}

@@ -11,8 +11,8 @@ use Rattle.grammar.specs.Token.{Token}
 use Rattle.grammar.specs.Grammar.{NonTerminal, Says, Mark, Sym, tk, nt, Fun, Production, productions, _↠_}
 use Rattle.grammar.specs.Meter.{Meter, tick}
 use Rattle.grammar.specs.Derivation.{_∈_}
-use Rattle.grammar.specs.Reader.{nullable, first, follow, rank, elem, choose, nullables, firsts, chosen, compose, Pick, take, no-rule, pick, Step, stuck, skip, to, onSkip, shift, through, byRule, enter, advance, Outcome, read, refused, limited, atEnd, keep, after, run}
-use Rattle.grammar.proofs.Sets.{and-left, and-right, elem-cases, elem-choose, choose-elem, elem-right}
+use Rattle.grammar.specs.Reader.{nullable, first, follow, rank, elem, choose, nullables, firsts, chosen, compose, Pick, take, no-rule, pick, Step, stuck, skip, to, onSkip, shift, through, byRule, enter, advance, refused, atEnd, keep, after, run}
+use Rattle.grammar.proofs.Sets.{and-left, and-right, elem-cases, elem-choose}
 use Rattle.grammar.proofs.Tables.{lead, lead-ok, vanishes, begins, pick-rule, pick-finds, take-same, no-rule-take, rank-ok, if-so}
 use Rattle.grammar.proofs.Trees.{starts, Has}
 use Rattle.grammar.proofs.Steps.{Ok, Spec, advance-spec}

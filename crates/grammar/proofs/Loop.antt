@@ -2,7 +2,7 @@
 -- The reader of a factor is a parameter, known by its contract alone, as a callee is in the code's proof. Assumes nothing.
 use mathlib.Core.Path.{_≡_, refl, sym, _∙_, subst, ap}
 use mathlib.Core.Bool.{Bool, true, false, _||_}
-use mathlib.Core.List.{List, [], _∷_, _++_}
+use mathlib.Core.List.{List, [], _∷_}
 use Prim.Native.Nat.{ℕ, zero, suc, _<_}
 use native.Mathlib.Omega.{arith}
 use lib.Dec.{T, eqb, eqb→eq}
@@ -10,10 +10,10 @@ use lib.ListN.{length}
 use Rattle.grammar.specs.Token.{Token, PLUS, MINUS}
 use Rattle.grammar.specs.Tree.{Expr, binary}
 use Rattle.grammar.specs.Grammar.{NonTerminal, terms, factor, Says, Mark, item, Sym, tk, nt, Fun, Production, productions, _↠_}
-use Rattle.grammar.specs.Meter.{Meter, tick}
-use Rattle.grammar.specs.Derivation.{_∈_, here, there}
-use Rattle.grammar.specs.Reader.{choose, compose, elem, first, follow, firsts, nullables, nullable, chosen, pick, take, Outcome, run}
-use Rattle.grammar.specs.Descent.{Got, got, not-got, past, next, one}
+use Rattle.grammar.specs.Meter.{Meter}
+use Rattle.grammar.specs.Derivation.{_∈_, here}
+use Rattle.grammar.specs.Reader.{choose, compose, elem, first, follow, firsts, nullables, nullable, chosen, pick, take, run}
+use Rattle.grammar.specs.Descent.{Got, got, next, one}
 use Rattle.grammar.proofs.Steps.{Ok, ok-rule}
 use Rattle.grammar.proofs.Tables.{inside-ok, pick-rule}
 use Rattle.grammar.proofs.Trees.{nil-cons, cons-head}

@@ -1,6 +1,6 @@
 -- A text has at least one token for each statement and for each literal, name and operator of its expressions: a machine counts these tokens, and each
 -- is one of the text's. Later the size of an image is bounded by it. Assumes nothing.
-use mathlib.Core.Path.{_≡_, refl, sym, _∙_, ap, subst}
+use mathlib.Core.Path.{_≡_, refl}
 use mathlib.Core.Bool.{Bool, true, false, cond}
 use mathlib.Core.List.{List, [], _∷_}
 use Prim.Native.Nat.{ℕ, suc, _+_, _≤_}

@@ -1,9 +1,8 @@
 -- The reader is right about every list of symbols that it can be at. Assumes nothing.
-use mathlib.Core.Path.{_≡_, refl, sym, _∙_, subst, ap}
+use mathlib.Core.Path.{_≡_, refl, sym, subst, ap}
 use mathlib.Core.Bool.{Bool, true, false}
 use mathlib.Core.List.{List, [], _∷_, _++_}
 use Prim.Native.Nat.{ℕ, zero, suc, _<_}
-use native.Mathlib.Omega.{arith}
 use native.Mathlib.Nat.{le-of-suc-le-suc, not-suc-le-zero}
 use lib.Dec.{T}
 use lib.ListN.{length, take}
@@ -11,8 +10,8 @@ use Rattle.grammar.specs.Token.{Token}
 use Rattle.grammar.specs.Grammar.{NonTerminal, Says, Mark, Sym, tk, nt, Fun}
 use Rattle.grammar.specs.Meter.{Meter, tick, gauge}
 use Rattle.grammar.specs.Derivation.{Trees, empty, token, child, span, spans, marks, saysAll}
-use Rattle.grammar.specs.Reader.{nullables, Step, stuck, skip, to, advance, Outcome, read, refused, limited, atEnd, keep, after, run}
-use Rattle.grammar.proofs.Trees.{cons-head, cons-tail, nil-cons, Has, nulls, empty-right}
+use Rattle.grammar.specs.Reader.{Step, stuck, skip, to, advance, Outcome, read, refused, limited, atEnd, keep, after, run}
+use Rattle.grammar.proofs.Trees.{nil-cons, Has, nulls, empty-right}
 use Rattle.grammar.proofs.Steps.{Ok, Spec, Onto, Off, Past, Never, advance-spec}
 use Rattle.grammar.proofs.Completions.{fill}
 

@@ -1,18 +1,18 @@
 -- What one token does to the symbols that are still to come, in terms of what they derive. Assumes nothing.
 use mathlib.Core.Path.{_≡_, refl, sym, _∙_, subst, ap}
 use mathlib.Core.Logic.{_⊎_, inl, inr}
-use mathlib.Core.Bool.{Bool, true, false, _&&_, _||_, not}
+use mathlib.Core.Bool.{Bool, true, false, _&&_, not}
 use mathlib.Core.List.{List, [], _∷_, _++_}
-use Prim.Native.Nat.{ℕ, zero, suc, _<_, _≤_}
+use Prim.Native.Nat.{ℕ, zero, suc, _<_}
 use native.Mathlib.Omega.{arith}
-use lib.Dec.{T, eqb, ltb, eqb-refl, eqb→eq, ltb→lt, lt→ltb}
+use lib.Dec.{T, eqb, ltb, eqb-refl, eqb→eq, ltb→lt}
 use Rattle.grammar.specs.Token.{Token}
 use Rattle.grammar.specs.Grammar.{NonTerminal, Says, Mark, Sym, tk, nt, Fun, Production, productions}
-use Rattle.grammar.specs.Derivation.{_∈_, here, there, Tree, by, Trees, empty, token, child, span, spans, mark, marks, says, saysAll}
+use Rattle.grammar.specs.Derivation.{_∈_, Trees, token, spans, marks, says, saysAll}
 use Rattle.grammar.specs.Reader.{nullable, first, follow, rank, elem, choose, nullables, firsts, chosen, compose, Pick, take, no-rule, pick, Step, stuck, skip, to, onSkip, shift, through, byRule, enter, advance}
-use Rattle.grammar.proofs.Sets.{and-left, and-right, elem-left, elem-right, elem-cases, elem-choose, choose-elem, or-left, subset, within, not-T}
+use Rattle.grammar.proofs.Sets.{and-left, and-right, elem-left, elem-right, elem-cases, elem-choose, choose-elem, subset, within, not-T}
 use Rattle.grammar.proofs.Tables.{inside, lead, inside-ok, lead-ok, vanishes, pick-finds, pick-rule, take-same, no-rule-take, rank-ok, if-so}
-use Rattle.grammar.proofs.Trees.{cons-head, cons-tail, nil-cons, Has, By, down, up, starts}
+use Rattle.grammar.proofs.Trees.{cons-head, cons-tail, Has, By, down, up, starts}
 
 -- What can come after each nonterminal that is still to come is in that nonterminal's table, and something must come.
 abbrev pub Ok : List Sym → Type 0

@@ -1,17 +1,15 @@
 -- The tables fit the grammar: one test, computed for each nonterminal, and what it means. Assumes nothing.
-use mathlib.Core.Path.{_≡_, refl, sym, _∙_, subst, ap}
-use mathlib.Core.Logic.{_⊎_, inl, inr}
-use mathlib.Core.Bool.{Bool, true, false, _&&_, _||_, not}
-use mathlib.Core.List.{List, [], _∷_, _++_}
+use mathlib.Core.Path.{_≡_, refl, sym, _∙_, subst}
+use mathlib.Core.Bool.{Bool, true, false, _&&_}
+use mathlib.Core.List.{List, [], _∷_}
 use Prim.Native.Nat.{ℕ}
 use native.Mathlib.Omega.{arith}
-use lib.Dec.{T, eqb, ltb}
-use Rattle.grammar.specs.Token.{Token}
+use lib.Dec.{T, ltb}
 use Rattle.grammar.specs.Grammar.{NonTerminal, text, ports, morePorts, port, names, moreNames, mode, type, init, value, vars, body, more, statement, target, else-part}
-use Rattle.grammar.specs.Grammar.{expression, chain, ands, ors, xors, relation, compared, simple, terms, factor, primary, Says, Mark, Sym, tk, nt, Fun, Production, productions, textProduction}
+use Rattle.grammar.specs.Grammar.{expression, chain, ands, ors, xors, relation, compared, simple, terms, factor, primary, Sym, tk, nt, Production, productions, textProduction}
 use Rattle.grammar.specs.Derivation.{_∈_, here, there}
 use Rattle.grammar.specs.Reader.{nullable, first, follow, rank, elem, choose, nullables, firsts, chosen, Pick, take, no-rule, pick}
-use Rattle.grammar.proofs.Sets.{and-left, and-right, subset, within, disjoint, apart, T-true, elem-left, elem-right, elem-cases, elem-choose, choose-elem}
+use Rattle.grammar.proofs.Sets.{and-left, and-right, subset, within, disjoint, apart}
 
 -- in a right-hand side of M, what can come after each nonterminal is in that nonterminal's table
 unfoldable pub inside : NonTerminal → List Sym → Bool

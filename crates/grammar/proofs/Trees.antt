@@ -1,16 +1,15 @@
 -- Derivation trees: laid end to end and cut again, and what they can begin with. Assumes nothing.
 use mathlib.Core.Path.{_≡_, refl, sym, _∙_, subst, ap}
-use mathlib.Core.Logic.{_⊎_, inl, inr}
-use mathlib.Core.Bool.{Bool, true, false, _&&_, _||_, not}
+use mathlib.Core.Bool.{Bool, true, false, _&&_}
 use mathlib.Core.List.{List, [], _∷_, _++_, append-assoc}
 use Prim.Native.Nat.{ℕ}
 use native.Mathlib.Omega.{arith}
-use lib.Dec.{T, eqb, ltb, eqb-refl}
+use lib.Dec.{T, eqb, eqb-refl}
 use Rattle.grammar.specs.Token.{Token}
 use Rattle.grammar.specs.Grammar.{NonTerminal, Says, Mark, Sym, tk, nt, Fun, Production, productions}
-use Rattle.grammar.specs.Derivation.{_∈_, here, there, Tree, by, Trees, empty, token, child, span, spans, mark, marks, says, saysAll}
-use Rattle.grammar.specs.Reader.{nullable, first, follow, elem, choose, nullables, firsts, chosen, compose}
-use Rattle.grammar.proofs.Sets.{and-left, and-right, elem-left, elem-right, elem-cases, elem-choose, choose-elem, or-left}
+use Rattle.grammar.specs.Derivation.{_∈_, Tree, by, Trees, empty, token, child, span, spans, mark, marks, says, saysAll}
+use Rattle.grammar.specs.Reader.{nullable, first, elem, choose, nullables, firsts, compose}
+use Rattle.grammar.proofs.Sets.{elem-left, elem-right, choose-elem, or-left}
 use Rattle.grammar.proofs.Tables.{begins, vanishes}
 
 -- Lists of tokens.

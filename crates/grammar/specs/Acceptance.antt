@@ -1,7 +1,7 @@
 -- What refusals 3 and 4 mean for a list of tokens, in terms of the texts that begin with them; nothing here goes by a way of reading.
 -- A place is the index of a token, or the count of the tokens for the text's end. Assumes nothing.
 use mathlib.Core.Path.{_≡_}
-use mathlib.Core.List.{List, [], _∷_, _++_}
+use mathlib.Core.List.{List, _++_}
 use Prim.Native.Nat.{ℕ, suc, _≤_, _<_}
 use lib.Dec.{T}
 use lib.ListN.{length, take}

@@ -1,14 +1,14 @@
 -- The same reader as functions that call each other, nonterminal by nonterminal, as the code does: each takes the counts and the tokens, and gives what was said, the counts and the tokens left.
 -- Assumes nothing.
-use mathlib.Core.Bool.{Bool, true, false}
+use mathlib.Core.Bool.{Bool}
 use mathlib.Core.Option.{Option, none, some}
-use mathlib.Core.List.{List, [], _∷_, _++_}
+use mathlib.Core.List.{List, [], _∷_}
 use Prim.Native.Nat.{ℕ, zero, suc}
 use lib.Dec.{eqb}
 use Rattle.grammar.specs.Token.{Token}
 use Rattle.grammar.specs.Grammar.{NonTerminal, Says, Mark, Sym, tk, nt, Fun, Production, productions}
 use Rattle.grammar.specs.Meter.{Meter, tick}
-use Rattle.grammar.specs.Reader.{choose, Pick, take, no-rule, pick, Outcome, read, refused, limited}
+use Rattle.grammar.specs.Reader.{choose, Pick, take, no-rule, pick}
 
 pub data Got (A : Type 0) : Type 0 where
   got : A → Meter → List Token → Got A

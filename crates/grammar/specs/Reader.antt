@@ -1,13 +1,12 @@
 -- The executable reader, LL(1): at each token it goes by the token's kind alone, and takes the production that can begin with it, down to the token.
 -- Not to be believed: proofs/Exact.antt shows that it answers what Acceptance.antt says. Assumes nothing.
-use mathlib.Core.Path.{_≡_}
 use mathlib.Core.Bool.{Bool, true, false, _&&_, _||_}
 use mathlib.Core.List.{List, [], _∷_, _++_}
 use Prim.Native.Nat.{ℕ, zero, suc, _-_}
-use lib.Dec.{eqb, ltb}
+use lib.Dec.{eqb}
 use lib.ListN.{length}
 use Rattle.grammar.specs.Token.{Token, NAME, NUMBER, ZERO, ONE, LP, RP, SEMI, COLON, COMMA, BECOMES, PLUS, MINUS, EQ, NE, LT, LE, GT, GE, AND, OR, XOR, NOT}
-use Rattle.grammar.specs.Token.{ENTITY, IS, PORT, END, ARCHITECTURE, OF, BEGIN, PROCESS, IN, OUT, VARIABLE, NULL, WAIT, UNTIL, IF, THEN, ELSE, WHILE, LOOP, STD-LOGIC, INTEGER}
+use Rattle.grammar.specs.Token.{ENTITY, END, BEGIN, IN, OUT, VARIABLE, NULL, WAIT, IF, THEN, ELSE, WHILE, LOOP, STD-LOGIC, INTEGER}
 use Rattle.grammar.specs.Grammar.{NonTerminal, text, ports, morePorts, port, names, moreNames, mode, type, init, value, vars, body, more, statement, target, else-part}
 use Rattle.grammar.specs.Grammar.{expression, chain, ands, ors, xors, relation, compared, simple, terms, factor, primary, Says, Mark, Sym, tk, nt, Fun, Production, productions, textProduction}
 use Rattle.grammar.specs.Tree.{Text}

@@ -1,5 +1,5 @@
 -- The syntax tree of a text. Names, literals and operators stand in it as their tokens, which have their places; so do `if`, `while` and `process`. Assumes nothing.
-use mathlib.Core.List.{List, [], _∷_}
+use mathlib.Core.List.{List}
 use Rattle.grammar.specs.Token.{Token}
 
 -- a number; '0' or '1'; a name; a sign; not; two operands, the left one first; ( e )

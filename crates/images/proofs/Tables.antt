@@ -2,29 +2,22 @@
 -- Assumes nothing.
 use Prim.Native.Nat.{ℕ, zero, suc, _<_}
 use native.Mathlib.Omega.{arith}
-use mathlib.Core.Path.{_≡_, refl, sym, ap, _∙_}
+use mathlib.Core.Path.{_≡_, refl, ap}
 use mathlib.Core.Bool.{true}
-use mathlib.Core.Option.{Option, none, some}
 use mathlib.Core.List.{List, [], _∷_}
 use lib.ListN.{length, getD}
 use lib.IntN.{ℤ}
 use lib.Dec.{ltb, eqb}
 use borrow.Author.Tests.{ltb-true}
-use Rattle.design.specs.Types.{Ty, ExprTy, plain, inType}
-use Rattle.design.specs.Expression.{Expr, fine, plainly, typeOf}
-use Rattle.design.specs.Statement.{Act, output, variable, null}
-use Rattle.design.specs.Process.{fits, typedAct}
-use Rattle.semantics.specs.Evaluation.{evaluate}
-use Rattle.semantics.specs.Equations.{Memory, Run, Result, passed, reached, refused, perform, log}
-use Rattle.semantics.specs.Values.{ofType, Values}
-use Rattle.semantics.proofs.Basic.{none-some, fine-injective, bind-fine, eqb-true, and-left, and-right}
+use Rattle.semantics.specs.Equations.{Memory, Run, Result, passed, reached, refused, log}
+use Rattle.semantics.specs.Values.{Values}
+use Rattle.semantics.proofs.Basic.{eqb-true, and-left, and-right}
 use Rattle.semantics.proofs.WellTyped.{perform-typed}
 use Rattle.format.specs.Lines.{Line, waits, acts, branches, line, reach, reachOf}
 use Rattle.format.specs.Walk.{walk}
-use Rattle.format.specs.Signature.{Signature, types}
+use Rattle.format.specs.Signature.{Signature}
 use Rattle.format.specs.Image.{Table}
 use Rattle.format.specs.Good.{fitsLine, within, goodLine, GoodLines, GoodTable}
-use Rattle.format.proofs.Lines.{fits-type}
 use Rattle.simulation.specs.Ranked.{Followers, Ranked}
 use Rattle.simulation.proofs.Steps.{Next, next-inside, step-holds}
 use Rattle.images.specs.Outcome.{Typed}

@@ -6,7 +6,6 @@ use Rattle.grammar.specs.Grammar as Grammar
 use Rattle.grammar.specs.Meter as Meter
 use Rattle.grammar.specs.Acceptance as Acceptance
 use Rattle.grammar.specs.Reader as Reader
-use Rattle.grammar.specs.Token.{Token}
 use Rattle.design.specs.Types as Types
 use Rattle.design.specs.Expression as Expression
 use Rattle.design.specs.Statement as Statement

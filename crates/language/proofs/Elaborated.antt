@@ -1,26 +1,26 @@
 -- A tree without offences elaborates to one process, the computed one, whose body is well classed. Assumes nothing.
-use mathlib.Core.Path.{_≡_, refl, sym, _∙_, ap, subst}
-use mathlib.Core.Bool.{Bool, true, false, cond, not, _&&_}
+use mathlib.Core.Path.{_≡_, refl, sym, subst}
+use mathlib.Core.Bool.{Bool, true, false, cond}
 use mathlib.Core.Logic.{_↔_}
 use mathlib.Core.Option.{Option, none, some}
 use mathlib.Core.List.{List, [], _∷_, _++_, map}
-use Prim.Native.Nat.{ℕ, zero, suc, _≤_, min}
+use Prim.Native.Nat.{ℕ}
 use lib.IntN.{ℤ}
 use Rattle.grammar.specs.Token.{Token}
 use Rattle.grammar.specs.Tree as T
-use Rattle.grammar.specs.Tree.{Init, Group, Text, Mode, Body}
+use Rattle.grammar.specs.Tree.{Init, Group, Text, Mode}
 use Rattle.language.specs.Lists.{unless, each, filter}
 use Rattle.design.specs.Statement.{Class, A, B, C, classOf, LoopsC}
 use Rattle.design.specs.Process.{Slot, Process}
-use Rattle.language.specs.Declarations.{Decl, Scope, scopeFor, scopeOf, clockOf, declare, spread, groups, declared, typeNamed, find, isA, isInput, isOutput, isVariable, clockLike, statements}
+use Rattle.language.specs.Declarations.{Decl, scopeFor, scopeOf, clockOf, declare, spread, groups, declared, find, isA, isInput, isOutput, isVariable, clockLike, statements}
 use Rattle.language.specs.Names.{names, differs, doubled, namesOf}
 use Rattle.language.specs.Typing.{types, typesOf, initialsOf}
 use Rattle.language.specs.Values.{values, firstAt, missing, valuesOf}
 use Rattle.language.specs.Clock.{clock, readsOf, strays, clockFor}
 use Rattle.language.specs.Classes.{loops, loopsOf, orWhole, isC, classes}
-use Rattle.language.specs.Elaboration.{Elaborates, Slots, nil, cons, Holds, Begins, negative, initial, slot, processFor, elaborate, stmts}
-use Rattle.language.proofs.Facts.{clash, no-cons, both-nil, each-nil, unless-nil}
-use Rattle.language.proofs.Statements.{Unreads, Fair, doesAll, all-only, Classed, classed-all}
+use Rattle.language.specs.Elaboration.{Elaborates, Slots, nil, cons, Holds, Begins, negative, initial, slot, processFor, elaborate}
+use Rattle.language.proofs.Facts.{clash, no-cons, both-nil, unless-nil}
+use Rattle.language.proofs.Statements.{Unreads, Fair, doesAll, all-only, classed-all}
 
 -- no offence of 5 to 9
 pub record Clean (t : Text) : Type 0 where

@@ -1,6 +1,6 @@
 -- Worked examples as whole texts: the form of an example, one test that the checker computes, and the theorem that the test gives.
 -- A refused text is written with a caret ^ before the refusal's place; the caret is no part of the text. Assumes nothing.
-use mathlib.Core.Path.{_≡_, refl, sym, ap}
+use mathlib.Core.Path.{_≡_, refl, sym}
 use mathlib.Core.Bool.{Bool, true, false, cond, _&&_}
 use mathlib.Core.List.{List, [], _∷_, _++_}
 use Prim.Native.Nat.{ℕ, zero, suc}

@@ -1,8 +1,7 @@
 -- Examples of refusal 3: each "never", "at most" and "only" of the grammar. Each refused text has its nearest accepted neighbour. Assumes nothing.
 use mathlib.Core.List.{List, [], _∷_, _++_}
-use Prim.Native.Nat.{ℕ}
 use Rattle.language.specs.Bytes.{bytes}
-use Rattle.language.proofs.Examples.{Example, accepts, refused-at, whole, stdPorts, stdVars, body, stmts, ports, vars}
+use Rattle.language.proofs.Examples.{Example, accepts, refused-at, body, stmts, ports, vars}
 
 abbrev pub examples : List Example
 examples =

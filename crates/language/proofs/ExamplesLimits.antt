@@ -3,7 +3,7 @@ use mathlib.Core.List.{List, [], _∷_, _++_}
 use Prim.Native.Nat.{ℕ, zero, suc}
 use Prim.Native.String.{String}
 use Rattle.language.specs.Bytes.{bytes}
-use Rattle.language.proofs.Examples.{Example, accepts, refuses, refused-at, whole, stdPorts, stdVars, body, stmts, ports, vars}
+use Rattle.language.proofs.Examples.{Example, accepts, refused-at, whole, stdPorts, stdVars, stmts, ports, vars}
 
 -- n copies
 abbrev pub times : ℕ → String → List ℕ

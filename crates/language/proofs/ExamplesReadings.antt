@@ -10,7 +10,7 @@ use native.Mathlib.Omega.{arith}
 use lib.IntN.{pos}
 use Rattle.grammar.specs.Token.{PLUS, MINUS, LT, NE}
 use Rattle.grammar.specs.Tree.{input, output-port, variable-mode}
-use Rattle.design.specs.Types.{Ty, std-logic, integer, ExprTy, plain, boolean}
+use Rattle.design.specs.Types.{Ty, std-logic, integer, plain}
 use Rattle.design.specs.Expression.{Expr, leaf, int, bit, binary, plus, minus, unequal, less}
 use Rattle.design.specs.Expression as E
 use Rattle.design.specs.Statement.{Stmt, act, wait, if-else, while, seq}
@@ -20,7 +20,7 @@ use Rattle.language.specs.Bytes.{bytes}
 use Rattle.language.specs.Words.{folded}
 use Rattle.language.specs.Reading.{Reading, ExprReading, StmtReading, BodyReading, DeclReading, only, andThen}
 use Rattle.language.specs.Reading as R
-use Rattle.language.specs.Verdict.{Verdict, accepted, refused, verdict}
+use Rattle.language.specs.Verdict.{accepted, verdict}
 use Rattle.language.proofs.Computing.{computed, onAnswer, onLexed, readingOf}
 use Rattle.language.proofs.Examples.{stmts}
 

@@ -1,6 +1,5 @@
 -- Examples of refusals 5 to 9, clause by clause. Each refused text has its nearest accepted neighbour. Assumes nothing.
 use mathlib.Core.List.{List, [], _∷_, _++_}
-use Prim.Native.Nat.{ℕ}
 use Prim.Native.String.{String}
 use Rattle.language.specs.Bytes.{bytes}
 use Rattle.language.proofs.Examples.{Example, accepts, refuses, refused-at, whole, stdPorts, stdVars, body, stmts, ports, vars}

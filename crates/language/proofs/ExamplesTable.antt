@@ -1,6 +1,6 @@
 -- Document 01's examples and their neighbours, stage by stage, as one table; one test of it, computed; and the theorem that every one of them holds.
 -- Assumes nothing.
-use mathlib.Core.List.{List, [], _∷_, _++_}
+use mathlib.Core.List.{List, _++_}
 use lib.Dec.{T}
 use Rattle.grammar.specs.Limits.{Each}
 use Rattle.language.proofs.Examples.{Example, Holds, passes, all-pass}

@@ -1,23 +1,22 @@
 -- An expression without offences has one type and one meaning, and these are the computed ones: by induction on the expression. Assumes nothing.
 use mathlib.Core.Path.{_≡_, refl, sym, _∙_, ap, subst}
-use mathlib.Core.Bool.{Bool, true, false, cond, not, _&&_}
+use mathlib.Core.Bool.{Bool, true, false, not}
 use mathlib.Core.Option.{Option, none, some}
-use mathlib.Core.List.{List, [], _∷_, _++_}
-use Prim.Native.Nat.{ℕ, zero, suc}
+use mathlib.Core.List.{List, [], _++_}
+use Prim.Native.Nat.{ℕ}
 use lib.Dec.{eqb}
 use Rattle.grammar.specs.Token.{Token}
 use Rattle.grammar.specs.Tree as T
 use Rattle.grammar.specs.Tree.{Mode}
-use Rattle.design.specs.Types.{Ty, std-logic, integer, ExprTy, plain, boolean, sameType}
+use Rattle.design.specs.Types.{Ty, std-logic, integer, ExprTy, plain, sameType}
 use Rattle.design.specs.Expression as E
 use Rattle.design.specs.Expression.{Expr, leaf, Binary, sumType, logicalType, binaryType}
 use Rattle.design.proofs.Types.{sameType-eq, sameType-refl}
-use Rattle.language.specs.Lists.{unless, filter}
-use Rattle.language.specs.Declarations.{Decl, Scope, scopeFor, find, isA, isInput, isOutput, isVariable, isClock, isData, typeIn}
+use Rattle.language.specs.Declarations.{Decl, scopeFor, find, isA, isInput, isOutput, isVariable, isClock, isData, typeIn}
 use Rattle.language.specs.Names.{doubled, readable, namesIn}
 use Rattle.language.specs.Typing.{operatorOf, onOne, resultOf, onTwo, typeOf, wrong1, wrong2, typesIn}
 use Rattle.language.specs.Clock.{readsIn}
-use Rattle.language.specs.Elaboration.{Kth, Means, number, bit, input, variable, sign, invert, binary, parens, position, nameCode, named, orBoolean, orPlus, code}
+use Rattle.language.specs.Elaboration.{Means, number, bit, input, variable, sign, invert, binary, parens, position, nameCode, named, orBoolean, orPlus, code}
 use Rattle.language.proofs.Facts.{clash, no-cons, no-some, both-nil, unless-nil, not-true, find-name, kth-found, Found, found-kth}
 
 -- the clock, where there is one, is not read

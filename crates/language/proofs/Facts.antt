@@ -1,15 +1,15 @@
 -- Small facts on lists of offences, tests and declarations. Assumes nothing.
 use mathlib.Core.Path.{_≡_, refl, sym, _∙_, ap, subst}
-use mathlib.Core.Bool.{Bool, true, false, cond, not, _&&_}
+use mathlib.Core.Bool.{Bool, true, false, not, _&&_}
 use mathlib.Core.Logic.{_⊎_, inl, inr}
-use mathlib.Core.Option.{Option, none, some}
+use mathlib.Core.Option.{none, some}
 use mathlib.Core.List.{List, [], _∷_, _++_, append-assoc}
 use Prim.Native.Nat.{ℕ, zero, suc}
 use native.Mathlib.Omega.{arith}
 use lib.Dec.{T, eqb, eqb→eq, eqb-refl}
 use Rattle.language.specs.Lists.{unless, each, filter}
 use Rattle.design.specs.Types.{Ty}
-use Rattle.language.specs.Declarations.{Decl, find, isA}
+use Rattle.language.specs.Declarations.{Decl, find}
 use Rattle.language.specs.Names.{again, doubled}
 use Rattle.language.specs.Elaboration.{Kth, here, there, position}
 

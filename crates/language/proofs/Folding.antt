@@ -1,12 +1,12 @@
 -- Two words have one folded number exactly when they are the same without regard to case. Assumes nothing.
-use mathlib.Core.Path.{_≡_, refl, sym, _∙_, ap, subst}
-use mathlib.Core.Bool.{Bool, true, false, cond, not, _&&_, _||_}
+use mathlib.Core.Path.{_≡_, refl, sym, _∙_, ap}
+use mathlib.Core.Bool.{Bool, true, false, cond, _||_}
 use mathlib.Core.Logic.{_↔_}
-use mathlib.Core.List.{List, [], _∷_, _++_, map, reverseAux, reverse, reverse-reverse}
-use Prim.Native.Nat.{ℕ, zero, suc, _+_, _*_, _≤_, _<_}
+use mathlib.Core.List.{List, [], _∷_, map, reverseAux, reverse, reverse-reverse}
+use Prim.Native.Nat.{ℕ, _+_, _*_, _≤_, _<_}
 use native.Mathlib.Omega.{arith}
-use lib.Dec.{T, eqb, leb, leb→le}
-use Rattle.language.specs.Bytes.{bytes, between, elem, ByteKind, letter, digit, underscore, blank, quote, mark, none, byteKind, kindCode, is, isDigit, isUnder, inWord, lower}
+use lib.Dec.{eqb, leb, leb→le}
+use Rattle.language.specs.Bytes.{bytes, between, elem, blank, quote, mark, none, byteKind, kindCode, is, inWord, lower}
 use Rattle.language.specs.Words.{folded}
 use Rattle.language.specs.Lexing.{all}
 use Rattle.language.proofs.Facts.{clash, and-true-both, eqb-eq, is-T}

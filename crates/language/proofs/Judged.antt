@@ -1,19 +1,18 @@
 -- The verdict is exactly what is promised. Assumes nothing.
 use mathlib.Core.Path.{_≡_, refl, sym, _∙_, ap, subst}
-use mathlib.Core.Bool.{Bool, true, false, cond}
+use mathlib.Core.Bool.{Bool, true, false}
 use mathlib.Core.Logic.{_↔_}
 use mathlib.Core.Option.{Option, none, some}
 use mathlib.Core.List.{List, [], _∷_}
-use Prim.Native.Nat.{ℕ, zero, suc, _≤_, _<_, min}
+use Prim.Native.Nat.{ℕ, _≤_, _<_, min}
 use native.Mathlib.Omega.{arith}
 use native.Mathlib.Decide.{decLe}
-use lib.Dec.{T, leb, leb→le, le→leb}
+use lib.Dec.{leb, leb→le, le→leb}
 use lib.ListN.{length}
 use Rattle.grammar.specs.Token.{Token}
 use Rattle.grammar.specs.Tree.{Text}
-use Rattle.grammar.specs.Grammar.{text}
 use Rattle.grammar.specs.Acceptance as P
-use Rattle.grammar.specs.Acceptance.{Answer, Exactly, Within}
+use Rattle.grammar.specs.Acceptance.{Answer}
 use Rattle.grammar.specs.Reader.{answer}
 use Rattle.grammar.proofs.Exact.{answers}
 use Rattle.grammar.proofs.Limits.{exactly-limits}
@@ -24,10 +23,9 @@ use Rattle.language.specs.Lexer as L
 use Rattle.language.specs.Rules.{Rule, table}
 use Rattle.language.specs.Elaboration.{Elaborates, elaborate}
 use Rattle.language.specs.Verdict.{Verdict, accepted, refused, judged, ruled, parsed, lexed, verdict}
-use Rattle.language.specs.Validity.{placeOf}
 use Rattle.language.specs.Validity.{In, Lowest, Free, First, Parses, Valid, Refuses}
 use Rattle.language.specs.Validity as Q
-use Rattle.language.proofs.Facts.{clash, no-cons, no-some, T-is, is-T}
+use Rattle.language.proofs.Facts.{clash, no-some, T-is, is-T}
 use Rattle.language.proofs.Elaborated.{Clean, elaborated, elaborated-only}
 use Rattle.language.proofs.LexExact.{lex-tokens, lex-stops}
 

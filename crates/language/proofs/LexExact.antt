@@ -2,17 +2,15 @@
 use mathlib.Core.Path.{_≡_, refl, sym, _∙_, ap, subst}
 use mathlib.Core.Logic.{_↔_}
 use mathlib.Core.List.{List, [], _∷_, _++_}
-use Prim.Native.Nat.{ℕ, zero, suc, pred, _+_, _≤_, _<_}
+use Prim.Native.Nat.{ℕ, zero, suc, _+_, _≤_}
 use native.Mathlib.Omega.{arith}
-use native.Mathlib.Numerals.{add-one}
 use lib.ListN.{length, length-append}
 use Rattle.grammar.specs.Token.{Token}
 use Rattle.language.specs.Lexer.{Start, lexeme, unknown, startOf, Lexed, tokens, _▸_, onStart, lexFrom, lex}
 use Rattle.language.specs.Lexer as L
 use Rattle.language.specs.Lexing.{Meaning, nothing, meaning, Piece, Lexes, Stops}
 use Rattle.language.specs.Lexing as S
-use Rattle.language.proofs.Facts.{no-cons}
-use Rattle.language.proofs.Lexing.{Here, gap, token, bad, none, starts, Same, one-piece, Something}
+use Rattle.language.proofs.Lexing.{Here, gap, token, bad, none, starts, one-piece, Something}
 
 -- the bytes passed over
 passed : (w rest : List ℕ) (n : ℕ) → lexFrom (w ++ rest) (length w) n ≡ lexFrom rest 0 (n + length w)

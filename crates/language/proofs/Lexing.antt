@@ -1,19 +1,18 @@
 -- The computed tokens are the text's tokens, and there are no others. Assumes nothing.
 use mathlib.Core.Path.{_≡_, refl, sym, _∙_, ap, subst}
-use mathlib.Core.Bool.{Bool, true, false, cond, not, _&&_, _||_}
-use mathlib.Core.Logic.{_⊎_, inl, inr, _↔_}
+use mathlib.Core.Bool.{Bool, true, false, cond, _&&_}
 use mathlib.Core.List.{List, [], _∷_, _++_, append-assoc, append-nil}
-use Prim.Native.Nat.{ℕ, zero, suc, pred, _+_, _≤_, _<_}
+use Prim.Native.Nat.{ℕ, _+_, _≤_, _<_}
 use native.Mathlib.Omega.{arith}
-use lib.Dec.{T, eqb, leb, leb→le}
-use lib.ListN.{length, drop, length-append}
-use Rattle.grammar.specs.Token.{Token, NUMBER}
+use lib.Dec.{eqb, leb, leb→le}
+use lib.ListN.{length, length-append}
+use Rattle.grammar.specs.Token.{NUMBER}
 use Rattle.language.specs.Bytes.{bytes, ByteKind, letter, digit, underscore, blank, quote, mark, byteKind, isDigit, inWord, notLF}
 use Rattle.language.specs.Bytes as B
-use Rattle.language.specs.Lexer.{run, begins, Start, lexeme, unknown, wordStart, numberStart, fixedStart, startFrom, startOf, Lexed, tokens, _▸_, onStart, lexFrom, lex}
+use Rattle.language.specs.Lexer.{run, begins, Start, lexeme, unknown, wordStart, numberStart, fixedStart, startFrom, startOf}
 use Rattle.language.specs.Words.{wellMade, folded, value, reserved, wordKind, Fixed, fixed, peek, isDashes}
 use Rattle.language.specs.Lexer as L
-use Rattle.language.specs.Lexing.{Meaning, nothing, all, equal, alone, wordMeaning, fixedMeaning, meaningFrom, meaning, Piece, Lexes, Stops}
+use Rattle.language.specs.Lexing.{Meaning, nothing, all, equal, alone, wordMeaning, fixedMeaning, meaningFrom, meaning, Piece}
 use Rattle.language.specs.Lexing as S
 use Rattle.language.proofs.Facts.{clash, no-cons, and-true-both, eqb-eq, eq-eqb, is-T}
 

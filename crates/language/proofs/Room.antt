@@ -1,7 +1,7 @@
 -- An accepted text has at least one byte for each statement of its process and for each literal, name and operator of its expressions: each is a token
 -- of its own, and a token has a byte. The size of an image is bounded by it. Assumes nothing.
-use mathlib.Core.Path.{_≡_, refl, sym, _∙_, ap}
-use mathlib.Core.List.{List, [], _∷_, _++_}
+use mathlib.Core.Path.{_≡_, refl, ap}
+use mathlib.Core.List.{List, [], _∷_}
 use Prim.Native.Nat.{ℕ, suc, _+_, _≤_}
 use native.Mathlib.Omega.{arith}
 use lib.ListN.{length, length-append}
@@ -13,10 +13,10 @@ use Rattle.design.specs.Statement.{Stmt, size, totalItems}
 use Rattle.design.specs.Process.{Process}
 use Rattle.language.specs.Lexing.{Meaning, Piece, Lexes}
 use Rattle.language.specs.Lexing as S
-use Rattle.language.specs.Declarations.{Scope, scopeOf, declared}
-use Rattle.language.specs.Elaboration.{Means, Does, DoesAll, elaborate}
+use Rattle.language.specs.Declarations.{Scope, scopeOf}
+use Rattle.language.specs.Elaboration.{Does, DoesAll}
 use Rattle.language.specs.Elaboration as L
-use Rattle.language.specs.Validity.{Parses, Valid}
+use Rattle.language.specs.Validity.{Valid}
 use Rattle.language.proofs.LexExact.{token-something, piece-some}
 use Rattle.language.proofs.WellTyped.{items-means}
 

@@ -1,13 +1,12 @@
 -- Statements without offences mean the computed statement and nothing else, and its classes are the tree's. Assumes nothing.
 use mathlib.Core.Path.{_≡_, refl, sym, _∙_, ap, subst}
-use mathlib.Core.Bool.{Bool, true, false, cond, not, _&&_}
+use mathlib.Core.Bool.{Bool, true}
 use mathlib.Core.Option.{Option, none, some}
 use mathlib.Core.List.{List, [], _∷_, _++_}
-use Prim.Native.Nat.{ℕ, zero, suc}
-use lib.Dec.{eqb}
+use Prim.Native.Nat.{ℕ}
 use Rattle.grammar.specs.Token.{Token}
 use Rattle.grammar.specs.Tree as T
-use Rattle.grammar.specs.Tree.{Expr, Body, Mode}
+use Rattle.grammar.specs.Tree.{Expr, Body}
 use Rattle.design.specs.Types.{Ty, ExprTy, plain, boolean, sameType}
 use Rattle.design.specs.Statement as D
 use Rattle.design.specs.Statement.{Class, A, B, C, seqClass, ifClass, classOf, LoopsC}
@@ -19,8 +18,8 @@ use Rattle.language.specs.Typing.{typeOf, typesIn, wants, typesOf}
 use Rattle.language.specs.Clock.{readsIn, readsOf}
 use Rattle.language.specs.Classes.{pair, looped, class, classes}
 use Rattle.language.specs.Elaboration.{Kth, Means, Does, DoesAll, output, assign, null, wait, if-then, if-else, while, only, andThen, position, code, stmt, stmts}
-use Rattle.language.proofs.Facts.{clash, no-cons, no-some, both-nil, each-nil, unless-nil, kth-found, Found, found-kth}
-use Rattle.language.proofs.Expressions.{Unread, Typed, typed}
+use Rattle.language.proofs.Facts.{clash, no-some, both-nil, each-nil, unless-nil, kth-found, found-kth}
+use Rattle.language.proofs.Expressions.{Unread, typed}
 use Rattle.language.proofs.Expressions as E
 
 abbrev pub Unreads : Option Token → List T.Stmt → Type 0

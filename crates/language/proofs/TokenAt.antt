@@ -1,20 +1,20 @@
 -- tokenAt hands out exactly the token that starts at the place, and the empty part where none does. Assumes nothing.
 use mathlib.Core.Path.{_≡_, refl, sym, _∙_, ap, subst}
 use mathlib.Core.Bool.{Bool, true, false, cond}
-use mathlib.Core.Logic.{_⊎_, inl, inr, _↔_}
+use mathlib.Core.Logic.{_⊎_, inl, inr}
 use mathlib.Core.List.{List, [], _∷_, _++_}
-use Prim.Native.Nat.{ℕ, zero, suc, pred, _+_, _≤_, _<_}
+use Prim.Native.Nat.{ℕ, zero, suc, _+_, _≤_, _<_}
 use native.Mathlib.Omega.{arith}
 use lib.Dec.{eqb}
-use lib.ListN.{length, take, length-append}
+use lib.ListN.{length}
 use lib.Seq.{take-at}
-use Rattle.language.specs.Lexer.{Start, lexeme, unknown, startOf, onToken, tokenFrom, tokenAt}
+use Rattle.language.specs.Lexer.{Start, startOf, onToken, tokenFrom, tokenAt}
 use Rattle.language.specs.Lexer as L
-use Rattle.language.specs.Lexing.{Meaning, nothing, meaning, Piece, Starts}
+use Rattle.language.specs.Lexing.{Meaning, Piece, Starts}
 use Rattle.language.specs.Lexing as S
-use Rattle.language.proofs.Facts.{clash, eqb-eq, eq-eqb}
+use Rattle.language.proofs.Facts.{eqb-eq, eq-eqb}
 use Rattle.language.proofs.Lexing.{Here, gap, token, bad, none, starts}
-use Rattle.language.proofs.LexExact.{gap-something, token-something, bad-something, step-gap, step-token, step-bad, step-none, empty-nothing, shorter, piece-some}
+use Rattle.language.proofs.LexExact.{gap-something, token-something, step-gap, step-token, empty-nothing, shorter, piece-some}
 
 passed : (w rest : List ℕ) (n p : ℕ) → tokenFrom (w ++ rest) (length w) n p ≡ tokenFrom rest 0 (n + length w) p
 unfolding tokenFrom

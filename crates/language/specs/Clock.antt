@@ -1,8 +1,8 @@
 -- Refusal 8: "the first wait's name is no std_logic input, another wait differs, clock (if that input exists) read", at that name.
 -- All offences of a tree. Assumes nothing.
-use mathlib.Core.Bool.{Bool, true, false, cond, not}
+use mathlib.Core.Bool.{cond, not}
 use mathlib.Core.Option.{Option, none, some}
-use mathlib.Core.List.{List, [], _∷_, _++_}
+use mathlib.Core.List.{List, [], _++_}
 use Prim.Native.Nat.{ℕ}
 use lib.Dec.{eqb}
 use Rattle.grammar.specs.Token.{Token}

@@ -1,6 +1,5 @@
 -- Refusal 5: "name unknown, declared twice, end or of name differing, wrong kind as target, output read", at that name. All offences of a tree. Assumes nothing.
-use mathlib.Core.Bool.{Bool, true, false, not}
-use mathlib.Core.Option.{Option, none, some}
+use mathlib.Core.Bool.{Bool, true, not}
 use mathlib.Core.List.{List, [], _∷_, _++_}
 use Prim.Native.Nat.{ℕ}
 use lib.Dec.{eqb}

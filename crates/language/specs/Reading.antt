@@ -1,10 +1,8 @@
 -- What a text says, free of places, of case, of parentheses and of how declarations are grouped: "it has one reading". Assumes nothing.
-use mathlib.Core.Bool.{Bool, true, false, cond}
 use mathlib.Core.Option.{Option, none, some}
-use mathlib.Core.List.{List, [], _∷_, map}
+use mathlib.Core.List.{List, map}
 use Prim.Native.Nat.{ℕ}
-use lib.IntN.{ℤ, pos}
-use Rattle.grammar.specs.Token.{Token}
+use lib.IntN.{ℤ}
 use Rattle.grammar.specs.Tree as T
 use Rattle.grammar.specs.Tree.{Init, Mode, input, output-port, variable-mode, Text}
 use Rattle.design.specs.Types.{Ty}

@@ -1,11 +1,11 @@
 -- Refusal 6: "operator's operands, target, condition, initial value of wrong type; what holds a wrong operator is untyped and not itself judged",
 -- at "operator, target, if or while, value's first token". All offences of a tree. Assumes nothing.
-use mathlib.Core.Bool.{Bool, true, false, cond}
+use mathlib.Core.Bool.{cond}
 use mathlib.Core.Option.{Option, none, some}
 use mathlib.Core.List.{List, [], _∷_, _++_}
 use Prim.Native.Nat.{ℕ}
 use lib.Dec.{eqb}
-use Rattle.grammar.specs.Token.{Token, PLUS, MINUS, EQ, NE, LT, LE, GT, GE, AND, OR, XOR}
+use Rattle.grammar.specs.Token.{PLUS, MINUS, EQ, NE, LT, LE, GT, GE, AND, OR, XOR}
 use Rattle.grammar.specs.Tree as T
 use Rattle.grammar.specs.Tree.{Expr, number, bit, name, sign, negate, binary, parens, Stmt, output, assign, null, wait, if-then, if-else, while, Init, without, integer-literal, logic-literal, Group, Text}
 use Rattle.design.specs.Types.{Ty, std-logic, integer, ExprTy, plain, boolean, sameTy, sameType}

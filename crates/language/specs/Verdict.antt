@@ -1,6 +1,6 @@
 -- The verdict on a text, computed: the stages in the table's order. Not to be believed: proofs/Judged.antt shows that it is what Validity.antt says.
 -- Assumes nothing.
-use mathlib.Core.Bool.{Bool, true, false, cond}
+use mathlib.Core.Bool.{cond}
 use mathlib.Core.Option.{Option, none, some}
 use mathlib.Core.List.{List, [], _∷_}
 use Prim.Native.Nat.{ℕ}

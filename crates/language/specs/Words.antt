@@ -1,5 +1,5 @@
 -- Words, numbers, and the fixed tokens of document 01. Assumes nothing.
-use mathlib.Core.Bool.{Bool, true, false, cond, not, _&&_}
+use mathlib.Core.Bool.{Bool, cond, not, _&&_}
 use mathlib.Core.List.{List, [], _∷_}
 use Prim.Native.Nat.{ℕ, _+_, _*_, _-_, min}
 use Prim.Native.String.{String}

@@ -1,11 +1,11 @@
 -- Laws of the integer range: what a test of the range tells, that sums and differences of two integers fit 64 bits, and equality by the bits.
 -- By cases on the signs. Assumes nothing.
-use Prim.Native.Nat.{ℕ, zero, suc, _+_, _-_, _≤_, _<_}
+use Prim.Native.Nat.{ℕ, zero, suc, _+_, _-_, _≤_}
 use mathlib.Core.Path.{_≡_, refl, sym, ap, _∙_}
-use mathlib.Core.Bool.{Bool, true, false, cond, _&&_}
+use mathlib.Core.Bool.{Bool, true, false, cond}
 use native.Mathlib.Omega.{arith}
 use lib.IntN.{ℤ, pos, negsuc, negℤ, _+ℤ_, _-ℤ_, subℕ, natAbs, +ℤ-idl}
-use lib.Signed.{ltZ, leZ, mag, nonNeg}
+use lib.Signed.{ltZ, mag, nonNeg}
 use lib.Dec.{T, ltb, eqb}
 use mir.Syntax.{w32, w64}
 use mir.Val.{SFits, toZ, ofZ}

@@ -1,17 +1,16 @@
 -- Demand 1: by cases on the verdict, on the opened image and on a row's outcome. Assumes nothing.
-use mathlib.Core.Path.{_≡_, refl, sym, ap}
+use mathlib.Core.Path.{_≡_, refl}
 use mathlib.Core.Bool.{Bool, true, false, cond}
-use mathlib.Core.List.{List, [], _∷_, _++_}
+use mathlib.Core.List.{List, _++_}
 use Prim.Native.Nat.{ℕ, _≤_}
 use native.Mathlib.Omega.{arith}
 use lib.ListN.{length, drop}
-use lib.IntN.{ℤ}
 use lib.Dec.{leb}
 use borrow.Author.Tests.{leb-true}
 use Rattle.answers.specs.declared.State.{State}
-use Rattle.design.specs.Process.{Process, WellFormed}
-use Rattle.language.specs.Rules.{Rule, table}
-use Rattle.language.specs.Validity.{Valid, First, here, there, Refuses, too-long, no-token, no-sentence, past-limit, offends}
+use Rattle.design.specs.Process.{WellFormed}
+use Rattle.language.specs.Rules.{table}
+use Rattle.language.specs.Validity.{Valid, here, there, Refuses, too-long, no-token, no-sentence, past-limit, offends}
 use Rattle.language.specs.Verdict.{Verdict, accepted, refused, verdict}
 use Rattle.language.proofs.Judged as J
 use Rattle.language.proofs.WellFormed.{valid-well-formed}
@@ -20,14 +19,14 @@ use Rattle.format.specs.Image.{Table}
 use Rattle.format.specs.Opening.{Opened, opened, not-opened, openOf}
 use Rattle.format.specs.Refusals.{Refusal, sections-refused, signature-refused, line-refused}
 use Rattle.format.specs.State.{freshFrom, freshOf}
-use Rattle.format.specs.Cycle.{Called, Call, unlessClosed, rowOf, cycleOf}
+use Rattle.format.specs.Cycle.{Called, Call, cycleOf}
 use Rattle.format.specs.Encode.{tableOf}
 use Rattle.format.proofs.Refusals.{refused-exactly}
 use Rattle.images.specs.Outcome as O
 use Rattle.images.proofs.Outcomes.{row-outcome, image-outcome}
 use Rattle.images.proofs.Processes.{process-good}
-use Rattle.theorems.specs.Compile.{Compile, written, not-compiled, written-into, onVerdict, compileOf}
-use Rattle.theorems.specs.Direct.{unlessRefused, directRow, directOf}
+use Rattle.theorems.specs.Compile.{written, not-compiled, written-into, onVerdict, compileOf}
+use Rattle.theorems.specs.Direct.{unlessRefused, directOf}
 use Rattle.theorems.specs.Demand1.{Compiles, writes, Opens, opens, Starts, starts, Runs, performs, Demand1}
 use Rattle.theorems.specs.Demand1 as D
 use Rattle.theorems.proofs.Size.{valid-fits}

@@ -1,32 +1,28 @@
 -- Demand 3. Every call on the image is a call of the equations (`one-row`), and what the equations keep stays as `Invariant` says; so, by induction on
 -- the list of calls, all calls are. Assumes nothing.
-use mathlib.Core.Path.{_≡_, refl, sym, _∙_, ap, subst}
-use mathlib.Core.Bool.{Bool, true, false, cond}
-use mathlib.Core.Logic.{_⊎_, inl, inr}
+use mathlib.Core.Path.{_≡_, refl, sym, _∙_, ap}
+use mathlib.Core.Bool.{Bool, true, false}
 use mathlib.Core.List.{List, [], _∷_, _++_}
-use Prim.Native.Nat.{ℕ, suc, _≤_}
+use Prim.Native.Nat.{ℕ}
 use native.Mathlib.Omega.{arith}
 use lib.ListN.{length, take, drop}
 use lib.Seq.{take-at}
-use lib.IntN.{ℤ}
 use lib.Dec.{leb}
 use Rattle.answers.specs.declared.State.{State}
-use Rattle.design.specs.Statement.{size}
 use Rattle.design.specs.Process.{Process, WellFormed}
 use Rattle.language.specs.Validity.{Valid}
 use Rattle.language.specs.Verdict.{Verdict, accepted, refused, verdict}
 use Rattle.language.proofs.Judged.{accepts}
 use Rattle.language.proofs.WellFormed.{valid-well-formed}
-use Rattle.semantics.specs.Equations.{Run, reached}
-use Rattle.semantics.specs.Rows.{Kept, Outcome, performed, row-refused, operator-refused, row, atFirst}
+use Rattle.semantics.specs.Rows.{Kept, Outcome, row, atFirst}
 use Rattle.semantics.specs.Answer.{Invariant, Answers, by-14, by-16, performs, fresh}
 use Rattle.semantics.proofs.Rows.{first-invariant, row-answers, row-invariant}
-use Rattle.format.specs.Opening.{Opened, opened, openOf}
-use Rattle.format.specs.State.{Started, freshFrom, freshOf, freshTable}
+use Rattle.format.specs.Opening.{opened, openOf}
+use Rattle.format.specs.State.{freshFrom, freshOf}
 use Rattle.format.specs.State as S
-use Rattle.format.specs.Cycle.{Called, Call, unlessClosed, cycleOf, rowOf, callsOf}
+use Rattle.format.specs.Cycle.{Called, Call, cycleOf, callsOf}
 use Rattle.format.specs.Encode.{tableOf, encode}
-use Rattle.theorems.specs.Compile.{Compiled, written, not-compiled, Compile, written-into, onVerdict, compileOf}
+use Rattle.theorems.specs.Compile.{written, not-compiled, Compile, written-into, onVerdict, compileOf}
 use Rattle.theorems.specs.Comparison.{fed, laid, told, seen, equationCalls}
 use Rattle.theorems.specs.Direct.{directRow, unlessRefused, directOf, freshText, directFresh}
 use Rattle.theorems.specs.Demand3.{Short, AllShort, Demand3}

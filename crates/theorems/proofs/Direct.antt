@@ -3,8 +3,7 @@
 use mathlib.Core.Path.{_≡_, refl, sym, _∙_, ap, subst}
 use mathlib.Core.Bool.{Bool, true, false, cond, _&&_, _||_}
 use mathlib.Core.Logic.{_⊎_, inl, inr, ⊎-elim}
-use mathlib.Core.Option.{Option, none, some}
-use mathlib.Core.List.{List, [], _∷_, _++_}
+use mathlib.Core.List.{List, [], _∷_}
 use Prim.Native.Nat.{ℕ, zero, suc, _+_, _≤_, _<_}
 use native.Mathlib.Omega.{arith}
 use lib.ListN.{length, take, length-map}
@@ -15,19 +14,18 @@ use Rattle.answers.specs.declared.State.{State}
 use Rattle.design.specs.Types.{Ty, eqZ, inType}
 use Rattle.design.specs.Statement.{Stmt, act, wait, if-then, if-else, while, seq, size, has}
 use Rattle.design.specs.Process.{Process, Slot, slotTypes, WellFormed}
-use Rattle.semantics.specs.Equations.{Place, beginning, at}
-use Rattle.semantics.specs.Rows.{Kept, rowRefusal, row, judged}
+use Rattle.semantics.specs.Equations.{beginning, at}
+use Rattle.semantics.specs.Rows.{rowRefusal, judged}
 use Rattle.semantics.specs.Values.{Values}
 use Rattle.semantics.specs.Answer.{Placed, Invariant}
 use Rattle.semantics.proofs.Basic.{false-true, eqb-true, eqb-same, and-left, and-right, or-left, or-right, or-other}
 use Rattle.semantics.proofs.Results.{has-below}
-use Rattle.format.specs.Lines.{Line, waits, acts, branches, line, linesOf}
+use Rattle.format.specs.Lines.{Line, line, linesOf}
 use Rattle.format.specs.State.{zeros, slotsOk, isWait, placeOk, stateOk, pad, stateFor}
-use Rattle.format.specs.Opening.{opened, openOf}
-use Rattle.format.specs.Cycle.{Called, turnedBack, unless14, tableRow, rowOf, cycleOf, Call}
-use Rattle.format.specs.Encode.{tableOf, encode, signatureFor}
+use Rattle.format.specs.Cycle.{Called, turnedBack, unless14, tableRow, rowOf, Call}
+use Rattle.format.specs.Encode.{tableOf, signatureFor}
 use Rattle.simulation.specs.Places.{number}
-use Rattle.theorems.specs.Comparison.{fed, laid, seen}
+use Rattle.theorems.specs.Comparison.{fed, laid}
 use Rattle.theorems.specs.Direct.{fitsText, placeFor, keptOf, cycled, directRow}
 use Rattle.images.proofs.Processes.{cells-types, row-refusal}
 use Rattle.simulation.proofs.Lines.{Each, linesOf-each, linesOf-length, below-or}

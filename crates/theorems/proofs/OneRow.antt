@@ -1,21 +1,21 @@
 -- One call on the table of a process is one call of its equations: 14 from the signature is 14 from the declarations, the state laid out is not refused
 -- by 15, its slots are what the equations keep, and the cycle is the same (`one-cycle`). Assumes nothing.
-use mathlib.Core.Path.{_≡_, refl, sym, _∙_, ap}
-use mathlib.Core.Bool.{Bool, true, false, cond, _&&_, _||_}
+use mathlib.Core.Path.{_≡_, refl, _∙_, ap}
+use mathlib.Core.Bool.{Bool, true, false, _&&_, _||_}
 use mathlib.Core.Option.{Option, none, some}
-use mathlib.Core.List.{List, [], _∷_, map}
+use mathlib.Core.List.{List, [], _∷_}
 use Prim.Native.Nat.{ℕ, zero, suc, _+_, _≤_, _<_}
 use native.Mathlib.Omega.{arith}
 use lib.ListN.{length, take, length-map}
-use lib.IntN.{ℤ, pos}
+use lib.IntN.{ℤ}
 use lib.Dec.{eqb, ltb}
-use borrow.Author.Tests.{lt-ltb, eq-eqb}
-use Rattle.design.specs.Types.{Ty, inType}
+use borrow.Author.Tests.{lt-ltb}
+use Rattle.design.specs.Types.{Ty}
 use Rattle.design.specs.Statement.{Stmt, act, wait, if-then, if-else, while, seq, size, has}
-use Rattle.design.specs.Process.{Source, Slot, Process, sourceTypes, slotTypes, WellFormed}
+use Rattle.design.specs.Process.{Slot, Process, slotTypes, WellFormed}
 use Rattle.design.specs.Process as D
-use Rattle.semantics.specs.Equations.{Memory, Result, reached, refused, Place, beginning, at, cycle}
-use Rattle.semantics.specs.Rows.{Kept, Outcome, performed, row-refused, operator-refused, rowRefusal, concluded, judged, row, atFirst}
+use Rattle.semantics.specs.Equations.{Memory, Result, Place, beginning, at, cycle}
+use Rattle.semantics.specs.Rows.{Kept, rowRefusal, concluded, judged, row, atFirst}
 use Rattle.semantics.specs.Values.{Values}
 use Rattle.semantics.specs.Way.{Ended, at-wait, at-operator}
 use Rattle.semantics.specs.Answer.{Placed, Invariant}
@@ -23,12 +23,11 @@ use Rattle.semantics.proofs.Basic.{false-true, eqb-true}
 use Rattle.semantics.proofs.Values.{values-length}
 use Rattle.semantics.proofs.Results.{or-case, has-below}
 use Rattle.semantics.proofs.Ends.{cycle-ends}
-use Rattle.format.specs.Lines.{Line, waits, acts, branches, line, linesOf}
+use Rattle.format.specs.Lines.{Line, line, linesOf}
 use Rattle.format.specs.Walk.{tableCycle}
-use Rattle.format.specs.Signature.{Cell, Signature, types, initials}
-use Rattle.format.specs.Image.{Table}
+use Rattle.format.specs.Signature.{initials}
 use Rattle.format.specs.State.{zeros, slotsOk, isWait, placeOk, stateOk, pad, stateFor, memoryOf, freshTable}
-use Rattle.format.specs.Cycle.{rowPlace, Called, turnedBack, ended, tableRow, unless14, rowOf, Call}
+use Rattle.format.specs.Cycle.{ended, tableRow, unless14, rowOf, Call}
 use Rattle.format.specs.Encode.{cells, signatureFor, tableOf}
 use Rattle.simulation.specs.Places.{number}
 use Rattle.theorems.specs.Comparison.{fed, laid, seen}

@@ -1,21 +1,19 @@
 -- The image of an accepted text has at most 65,535 bytes. An expression's code has at most 3 bytes for each of its literals, names and operators, and 2
 -- more; each of these and each statement is a token of the text. Assumes nothing.
 use mathlib.Core.Path.{_≡_, refl, sym, _∙_, ap}
-use mathlib.Core.Bool.{Bool, true, false}
 use mathlib.Core.List.{List, [], _∷_, _++_, map}
 use Prim.Native.Nat.{ℕ, suc, _+_, _*_, _≤_}
 use native.Mathlib.Omega.{arith}
 use lib.ListN.{length, length-append}
-use lib.IntN.{ℤ}
 use Rattle.design.specs.Types.{Ty}
 use Rattle.design.specs.Expression.{Leaf, int, bit, input, variable, Unary, Binary, Expr, leaf, unary, binary, items}
 use Rattle.design.specs.Statement.{Act, null, Stmt, act, wait, if-then, if-else, while, seq, size, totalItems}
 use Rattle.design.specs.Statement as D
 use Rattle.design.specs.Process.{Source, Slot, Process, sourceTypes, WellFormed}
-use Rattle.format.specs.Code.{Operation, push, apply1, apply2, post, first, others, operationBytes, code}
-use Rattle.format.specs.Lines.{Line, waits, acts, branches, lines, linesOf, reaches, reachesOf, entry}
-use Rattle.format.specs.Signature.{Cell, Signature, typeBytes, cellBytes, signatureBytes}
-use Rattle.format.specs.Image.{RawLine, rawBytes, rawsBytes, rawOf, rawsOf, lineCode, linesCode, pairs, joined, image, Sections, form1, sectionsFor, encodeTable}
+use Rattle.format.specs.Code.{Operation, push, apply1, apply2, post, others, operationBytes, code}
+use Rattle.format.specs.Lines.{Line, waits, acts, branches, lines, linesOf, reachesOf}
+use Rattle.format.specs.Signature.{Cell, typeBytes, cellBytes, signatureBytes}
+use Rattle.format.specs.Image.{rawsBytes, rawsOf, lineCode, linesCode, pairs, joined, image, Sections, form1, sectionsFor, encodeTable}
 use Rattle.format.specs.Encode.{cells, signatureFor, tableOf, encode}
 use Rattle.language.specs.Validity.{Valid}
 use Rattle.language.proofs.WellFormed.{valid-well-formed}

@@ -1,12 +1,11 @@
 -- The equations' answers, put as the calls of a cycle on an image put theirs: what is compared after every call (document 01, "Before delivery is
 -- taken"). Assumes nothing.
-use mathlib.Core.List.{List, [], _∷_, map}
-use Prim.Native.Nat.{ℕ}
+use mathlib.Core.List.{List, [], _∷_}
 use lib.ListN.{length}
 use lib.IntN.{ℤ}
 use Rattle.answers.specs.declared.State.{State}
 use Rattle.design.specs.Process.{Process}
-use Rattle.semantics.specs.Rows.{Kept, Outcome, performed, row-refused, operator-refused, row, atFirst}
+use Rattle.semantics.specs.Rows.{Kept, Outcome, performed, row-refused, operator-refused, row}
 use Rattle.semantics.specs.Rows as R
 use Rattle.format.specs.State.{stateFor}
 use Rattle.format.specs.Cycle.{Answer, Called, Call}

@@ -1,10 +1,9 @@
 -- A compile: the image of an accepted text in a lent buffer, or a refusal (document 01, "Turned back", 1 to 10). Assumes nothing.
-use mathlib.Core.Bool.{Bool, true, false, cond}
-use mathlib.Core.List.{List, [], _∷_, _++_}
+use mathlib.Core.Bool.{cond}
+use mathlib.Core.List.{List, _++_}
 use Prim.Native.Nat.{ℕ}
 use lib.ListN.{length, drop}
 use lib.Dec.{leb}
-use Rattle.design.specs.Process.{Process}
 use Rattle.language.specs.Verdict.{Verdict, accepted, refused, verdict}
 use Rattle.format.specs.Encode.{encode}
 

@@ -3,7 +3,6 @@ use mathlib.Core.Path.{_≡_}
 use mathlib.Core.List.{List, [], _∷_}
 use Prim.Native.Nat.{ℕ, suc, _≤_}
 use lib.ListN.{length, take}
-use lib.IntN.{ℤ}
 use Rattle.answers.specs.declared.State.{State}
 use Rattle.design.specs.Statement.{size}
 use Rattle.design.specs.Process.{Process}

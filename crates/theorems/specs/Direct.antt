@@ -1,10 +1,8 @@
 -- The direct run: a cycle from the text, without an image, on any state record (document 01, "The product", "Classes and cycles"). Assumes nothing.
-use mathlib.Core.Bool.{Bool, true, false, cond, _&&_, _||_}
-use mathlib.Core.Option.{Option, none, some}
-use mathlib.Core.List.{List, [], _∷_}
+use mathlib.Core.Bool.{Bool, cond, _&&_, _||_}
+use mathlib.Core.List.{List, []}
 use Prim.Native.Nat.{ℕ}
 use lib.ListN.{length, take}
-use lib.IntN.{ℤ}
 use lib.Dec.{eqb}
 use Rattle.answers.specs.declared.State.{State}
 use Rattle.design.specs.Statement.{has}

@@ -1,5 +1,4 @@
 -- `signed::add` meets its contract: 64 bits hold the result. Assumes nothing.
-use mathlib.Core.Path.{_≡_, sym, _∙_}
 use mir.Facts.{toZ-ofZ}
 use Rattle.signed.proofs.Range.{wide, add-wide}
 use borrow.Author.Needs.{needs}

@@ -1,7 +1,6 @@
 -- `signed::in_type` meets its contract: the tests are those of the definition, and every 32-bit number is an integer. Assumes nothing.
-use mathlib.Core.Path.{_≡_, sym, _∙_}
+use mathlib.Core.Path.{sym, _∙_}
 use borrow.Author.Needs.{needs}
-use borrow.Author.Tests.{ne-eqb}
 use mir.Facts.{toZ-ofZ}
 use Rattle.signed.proofs.Types.{zero-logic, one-logic, not-logic}
 use Rattle.signed.proofs.in_type.Statement.{statement}

@@ -1,13 +1,12 @@
 -- `signed::to_bits` meets its contract: a number below zero is -1 minus its magnitude. Assumes nothing.
-use Prim.Native.Nat.{ℕ, _-_, _<_}
-use mathlib.Core.Path.{_≡_, ap}
+use Prim.Native.Nat.{_-_}
+use mathlib.Core.Path.{_≡_}
 use native.Mathlib.Omega.{arith}
 use lib.IntN.{pos, negsuc, _-ℤ_}
 use lib.Signed.{mag}
 use mir.Syntax.{w32}
 use mir.Val.{SFits}
 use mir.Facts.{toZ-ofZ, fits-natAbs}
-use Rattle.format.specs.Words.{unsigned32}
 use Rattle.signed.proofs.Range.{minus-one-minus, unsigned-negative, not-negative}
 use Rattle.signed.proofs.to_bits.Statement.{statement}
 use Rattle.signed.proofs.to_bits.Tie as tie

@@ -1,5 +1,5 @@
 -- `words::byte` meets its contract: past the end the default is 0. Assumes nothing.
-use mathlib.Core.Path.{_≡_, sym}
+use mathlib.Core.Path.{sym}
 use borrow.Author.Needs.{needs}
 use lib.ListN.{List·getD-eq-default}
 use Rattle.words.proofs.byte.Statement.{statement}
