@@ -40,7 +40,7 @@ module _ (t : Table) (g : GoodTable t) (s : State) (i o : List ℤ) where
   place-inside (inr w) = inr (w .inside)
 
   memory-typed : GoodState t s → Typed (t .signature) (memoryOf (t .signature) s)
-  memory-typed k = rw (ap (memoryOf (t .signature)) (k .slots) ∙ memory-back t g (s .place) (k .memory) (k .typed)) (k .typed)
+  memory-typed k = rw (ap (memoryOf (t .signature)) (k .slots) ∙ memory-back (t .signature) (g .signature) (s .place) (k .memory) (k .typed)) (k .typed)
 
   result-typed : GoodState t s → Values (t .signature .inputs) i → TypedResult (t .signature) result
   unfolding tableCycle

@@ -17,7 +17,7 @@ use Rattle.semantics.specs.Values.{Values}
 use Rattle.semantics.proofs.Basic.{false-true, eqb-true, and-left, and-right, or-left, or-right}
 use Rattle.semantics.proofs.Results.{or-case}
 use Rattle.format.specs.Lines.{Line, waits, acts, branches, line}
-use Rattle.format.specs.Signature.{Cell, types, initials, Initialised}
+use Rattle.format.specs.Signature.{Signature, Cell, types, initials, Initialised, GoodSignature}
 use Rattle.format.specs.Image.{Table}
 use Rattle.format.specs.Good.{GoodTable}
 use Rattle.format.specs.State.{zeros, slotsOk, isWait, placeOk, stateOk, pad, stateFor, memoryOf, freshTable}
@@ -28,7 +28,7 @@ use Rattle.images.specs.Outcome.{Typed, GoodState}
 
 -- Slots.
 
-pad-length : (n : ℕ) (l : List ℤ) → length (pad n l) ≡ n
+pub pad-length : (n : ℕ) (l : List ℤ) → length (pad n l) ≡ n
 unfolding pad
 pad-length zero l = refl
 pad-length (suc n) [] = ap suc (pad-length n [])
@@ -48,7 +48,7 @@ pad-zeros (suc n) (z ∷ l) e h =
     ap (λ y. y ∷ l) (eqZ-true z 0 (and-left (eqZ z (pos 0)) _ h)) ∙ ap (λ r. pos 0 ∷ r) (pad-zeros n l (omega arith) (and-right (eqZ z (pos 0)) _ h))
 
 -- values of their types, padded, are accepted ..
-slots-ok : (n : ℕ) (ts : List Ty) (l : List ℤ) → Values ts l → length ts ≤ n → slotsOk ts (pad n l) ≡ true
+pub slots-ok : (n : ℕ) (ts : List Ty) (l : List ℤ) → Values ts l → length ts ≤ n → slotsOk ts (pad n l) ≡ true
 unfolding pad slotsOk Values
 slots-ok n [] [] h b = zeros-pad n
 slots-ok n [] (z ∷ l) h b = absurd h
@@ -66,7 +66,7 @@ ok-slots (suc n) (t ∷ ts) (z ∷ l) e h =
     let r = ok-slots n ts l (omega arith) (and-right (inType t z) _ h) in
     ((and-left (inType t z) _ h, r .0), ap (λ q. z ∷ q) (r .1))
 
-counted-slots : (n : ℕ) (ts : List Ty) (l : List ℤ) → (eqb (length l) n && slotsOk ts l) ≡ true → Values ts (take (length ts) l) × (l ≡ pad n (take (length ts) l))
+pub counted-slots : (n : ℕ) (ts : List Ty) (l : List ℤ) → (eqb (length l) n && slotsOk ts l) ≡ true → Values ts (take (length ts) l) × (l ≡ pad n (take (length ts) l))
 counted-slots n ts l h = ok-slots n ts l (eqb-true (length l) n (and-left (eqb (length l) n) _ h)) (and-right (eqb (length l) n) _ h)
 
 -- values of their types are read back from the slots
@@ -104,13 +104,24 @@ place-exactly t p = (to, back)
 
 -- State records.
 
+module _ (σ : Signature) (g : GoodSignature σ) where
+  outputs-few : length (types (σ .outputs)) ≤ 16
+  outputs-few = omega (arith, types-length (σ .outputs), g .outputs)
+
+  variables-few : length (types (σ .variables)) ≤ 32
+  variables-few = omega (arith, types-length (σ .variables), g .variables)
+
+  -- the outputs and variables of a state are read back from its layout
+  pub memory-back : (p : ℕ) (m : Memory) → Typed σ m → memoryOf σ (stateFor p m) ≡ m
+  unfolding memoryOf stateFor
+  memory-back p m w =
+      let a : take (length (σ .outputs)) (pad 16 (m .outputs)) ≡ m .outputs =
+      ap (λ n. take n (pad 16 (m .outputs))) (sym (types-length (σ .outputs))) ∙ pad-take 16 (types (σ .outputs)) (m .outputs) (w .outputs) outputs-few in
+      let b : take (length (σ .variables)) (pad 32 (m .variables)) ≡ m .variables =
+      ap (λ n. take n (pad 32 (m .variables))) (sym (types-length (σ .variables))) ∙ pad-take 32 (types (σ .variables)) (m .variables) (w .variables) variables-few in
+      λ j. record { outputs = a j; variables = b j }
+
 module _ (t : Table) (g : GoodTable t) where
-  outputs-few : length (types (t .signature .outputs)) ≤ 16
-  outputs-few = omega (arith, types-length (t .signature .outputs), g .signature .outputs)
-
-  variables-few : length (types (t .signature .variables)) ≤ 32
-  variables-few = omega (arith, types-length (t .signature .variables), g .signature .variables)
-
   state-good : (s : State) → stateOk t s ≡ true → GoodState t s
   unfolding stateOk stateFor
   state-good s h =
@@ -139,25 +150,13 @@ module _ (t : Table) (g : GoodTable t) where
             place-exactly (t .lines) p .1 q,
             pad-length 16 (m .outputs),
             pad-length 32 (m .variables),
-            slots-ok 16 (types (t .signature .outputs)) (m .outputs) (w .outputs) outputs-few,
-            slots-ok 32 (types (t .signature .variables)) (m .variables) (w .variables) variables-few,
+            slots-ok 16 (types (t .signature .outputs)) (m .outputs) (w .outputs) (outputs-few (t .signature) (g .signature)),
+            slots-ok 32 (types (t .signature .variables)) (m .variables) (w .variables) (variables-few (t .signature) (g .signature)),
           )
 
   -- 15 exactly when the state is none that the State section describes.
   pub state-exactly : (s : State) → (stateOk t s ≡ true) ↔ GoodState t s
   state-exactly s = (state-good s, good-state s)
-
-  -- the outputs and variables of a state are read back from its layout
-  pub memory-back : (p : ℕ) (m : Memory) → Typed (t .signature) m → memoryOf (t .signature) (stateFor p m) ≡ m
-  unfolding memoryOf stateFor
-  memory-back p m w =
-      let a : take (length (t .signature .outputs)) (pad 16 (m .outputs)) ≡ m .outputs =
-      ap (λ n. take n (pad 16 (m .outputs))) (sym (types-length (t .signature .outputs)))
-      ∙ pad-take 16 (types (t .signature .outputs)) (m .outputs) (w .outputs) outputs-few in
-      let b : take (length (t .signature .variables)) (pad 32 (m .variables)) ≡ m .variables =
-      ap (λ n. take n (pad 32 (m .variables))) (sym (types-length (t .signature .variables)))
-      ∙ pad-take 32 (types (t .signature .variables)) (m .variables) (w .variables) variables-few in
-      λ j. record { outputs = a j; variables = b j }
 
   initials-typed : (l : List Cell) → Initialised l → Values (types l) (initials l)
   unfolding Initialised Values

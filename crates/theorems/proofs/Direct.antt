@@ -3,15 +3,13 @@
 use mathlib.Core.Path.{_≡_, refl, sym, _∙_, ap, subst}
 use mathlib.Core.Bool.{Bool, true, false, cond, _&&_, _||_}
 use mathlib.Core.Logic.{_⊎_, inl, inr, ⊎-elim}
-use mathlib.Core.List.{List, [], _∷_}
-use Prim.Native.Nat.{ℕ, zero, suc, _+_, _≤_, _<_}
+use mathlib.Core.List.{List}
+use Prim.Native.Nat.{ℕ, suc, _+_, _≤_, _<_}
 use native.Mathlib.Omega.{arith}
 use lib.ListN.{length, take, length-map}
-use lib.IntN.{ℤ, pos, negsuc}
 use lib.Dec.{eqb, ltb}
 use borrow.Author.Tests.{ltb-true, lt-ltb}
 use Rattle.answers.specs.declared.State.{State}
-use Rattle.design.specs.Types.{Ty, eqZ, inType}
 use Rattle.design.specs.Statement.{Stmt, act, wait, if-then, if-else, while, seq, size, has}
 use Rattle.design.specs.Process.{Process, Slot, slotTypes, WellFormed}
 use Rattle.semantics.specs.Equations.{beginning, at}
@@ -21,12 +19,13 @@ use Rattle.semantics.specs.Answer.{Placed, Invariant}
 use Rattle.semantics.proofs.Basic.{false-true, eqb-true, eqb-same, and-left, and-right, or-left, or-right, or-other}
 use Rattle.semantics.proofs.Results.{has-below}
 use Rattle.format.specs.Lines.{Line, line, linesOf}
-use Rattle.format.specs.State.{zeros, slotsOk, isWait, placeOk, stateOk, pad, stateFor}
+use Rattle.format.specs.State.{slotsOk, isWait, placeOk, stateOk, pad, stateFor}
 use Rattle.format.specs.Cycle.{Called, turnedBack, unless14, tableRow, rowOf, Call}
 use Rattle.format.specs.Encode.{tableOf, signatureFor}
 use Rattle.simulation.specs.Places.{number}
 use Rattle.theorems.specs.Comparison.{fed, laid}
 use Rattle.theorems.specs.Direct.{fitsText, placeFor, keptOf, cycled, directRow}
+use Rattle.images.proofs.States.{counted-slots}
 use Rattle.images.proofs.Processes.{cells-types, row-refusal}
 use Rattle.simulation.proofs.Lines.{Each, linesOf-each, linesOf-length, below-or}
 use Rattle.theorems.proofs.OneRow.{wait-line, same-cycle}
@@ -78,35 +77,6 @@ same-15 : (p : Process) (s : State) → stateOk (tableOf p) s ≡ fitsText p s
 unfolding stateOk fitsText placeOk tableOf signatureFor
 same-15 p s = rw (same-place (p .body) (s .place), cells-types (p .outputs), cells-types (p .variables))
 
--- a slot that is 0
-zero-slot : (z : ℤ) → eqZ z (pos 0) ≡ true → z ≡ pos 0
-zero-slot (pos a) e = ap pos (eqb-true a 0 e)
-zero-slot (negsuc a) e = false-true e
-
-zeros-pad : (n : ℕ) (l : List ℤ) → length l ≡ n → zeros l ≡ true → pad n [] ≡ l
-unfolding zeros pad
-zeros-pad zero [] h e = refl
-zeros-pad zero (z ∷ l) h e = absurd (omega arith)
-zeros-pad (suc n) [] h e = absurd (omega arith)
-zeros-pad (suc n) (z ∷ l) h e =
-    let a = zero-slot z (and-left (eqZ z (pos 0)) (zeros l) e) in
-    let b = zeros-pad n l (omega arith) (and-right (eqZ z (pos 0)) (zeros l) e) in
-    cc
-
--- slots that are as they should be: the used ones are of their types, and with 0 after them they are all slots
-slots-values : (ts : List Ty) (l : List ℤ) → slotsOk ts l ≡ true → Values ts (take (length ts) l)
-unfolding slotsOk Values
-slots-values [] l e = tt
-slots-values (t ∷ ts) [] e = false-true e
-slots-values (t ∷ ts) (z ∷ l) e = (and-left (inType t z) (slotsOk ts l) e, slots-values ts l (and-right (inType t z) (slotsOk ts l) e))
-
-slots-pad : (n : ℕ) (ts : List Ty) (l : List ℤ) → length l ≡ n → slotsOk ts l ≡ true → pad n (take (length ts) l) ≡ l
-unfolding slotsOk pad
-slots-pad n [] l h e = zeros-pad n l h e
-slots-pad n (t ∷ ts) [] h e = false-true e
-slots-pad zero (t ∷ ts) (z ∷ l) h e = absurd (omega arith)
-slots-pad (suc n) (t ∷ ts) (z ∷ l) h e = ap (λ (k : List ℤ). z ∷ k) (slots-pad n ts l (omega arith) (and-right (inType t z) (slotsOk ts l) e))
-
 number-back : (n : ℕ) → number (placeFor n) ≡ n
 unfolding placeFor
 number-back n = go (eqb n 512) refl
@@ -139,30 +109,24 @@ module _ (p : Process) (s : State) (f : fitsText p s ≡ true) where
       let r = and-right place-fits (outputs-fit && variables-fit) f in
       (and-left place-fits (outputs-fit && variables-fit) f, and-left outputs-fit variables-fit r, and-right outputs-fit variables-fit r)
 
+  -- the used slots, in number and type as declared; with 0 after them they are all slots
+  used-outputs : Values (slotTypes (p .outputs)) (take (length (p .outputs)) (s .outputs)) × (s .outputs ≡ pad 16 (take (length (p .outputs)) (s .outputs)))
+  used-outputs = rw (length-map (p .outputs) (λ (x : Slot). x .type)) at (counted-slots 16 (slotTypes (p .outputs)) (s .outputs) (parts .1))
+
+  used-variables : Values (slotTypes (p .variables)) (take (length (p .variables)) (s .variables)) × (s .variables ≡ pad 32 (take (length (p .variables)) (s .variables)))
+  used-variables = rw (length-map (p .variables) (λ (x : Slot). x .type)) at (counted-slots 32 (slotTypes (p .variables)) (s .variables) (parts .2))
+
   kept-invariant : Invariant p (keptOf p s)
   unfolding keptOf
-  kept-invariant =
-      let o = slots-values (slotTypes (p .outputs)) (s .outputs) (and-right (eqb (length (s .outputs)) 16) (slotsOk (slotTypes (p .outputs)) (s .outputs)) (parts .1)) in
-      let v = slots-values (slotTypes (p .variables)) (s .variables) (and-right (eqb (length (s .variables)) 32) (slotsOk (slotTypes (p .variables)) (s .variables)) (parts .2)) in
-      record {
-        place = placed-for (p .body) (s .place) (parts .0);
-        well-typed = record {
-          outputs = subst (λ (n : ℕ). Values (slotTypes (p .outputs)) (take n (s .outputs))) (length-map (p .outputs) (λ (x : Slot). x .type)) o;
-          variables = subst (λ (n : ℕ). Values (slotTypes (p .variables)) (take n (s .variables))) (length-map (p .variables) (λ (x : Slot). x .type)) v;
-        };
-      }
+  kept-invariant = record { place = placed-for (p .body) (s .place) (parts .0); well-typed = record { outputs = used-outputs .0; variables = used-variables .0 } }
 
   -- it is the layout of what the equations keep of it
   kept-laid : laid (keptOf p s) ≡ s
   unfolding keptOf stateFor
   kept-laid =
       let a = number-back (s .place) in
-      let o : pad 16 (take (length (p .outputs)) (s .outputs)) ≡ s .outputs = subst (λ (n : ℕ). pad 16 (take n (s .outputs)) ≡ s .outputs) (length-map (p .outputs) (λ (x : Slot). x .type))
-      (slots-pad 16 (slotTypes (p .outputs)) (s .outputs) (eqb-true (length (s .outputs)) 16 (and-left (eqb (length (s .outputs)) 16) (slotsOk (slotTypes (p .outputs)) (s .outputs)) (parts .1)))
-      (and-right (eqb (length (s .outputs)) 16) (slotsOk (slotTypes (p .outputs)) (s .outputs)) (parts .1))) in
-      let v : pad 32 (take (length (p .variables)) (s .variables)) ≡ s .variables = subst (λ (n : ℕ). pad 32 (take n (s .variables)) ≡ s .variables) (length-map (p .variables) (λ (x : Slot). x .type))
-      (slots-pad 32 (slotTypes (p .variables)) (s .variables) (eqb-true (length (s .variables)) 32 (and-left (eqb (length (s .variables)) 32) (slotsOk (slotTypes (p .variables)) (s .variables)) (parts .2)))
-      (and-right (eqb (length (s .variables)) 32) (slotsOk (slotTypes (p .variables)) (s .variables)) (parts .2))) in
+      let o = sym (used-outputs .1) in
+      let v = sym (used-variables .1) in
       λ i. record { place = a i; outputs = o i; variables = v i }
 
 -- One call on the table is one call of the direct run, for every state record.

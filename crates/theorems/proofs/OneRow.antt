@@ -4,34 +4,32 @@ use mathlib.Core.Path.{_≡_, refl, _∙_, ap}
 use mathlib.Core.Bool.{Bool, true, false, _&&_, _||_}
 use mathlib.Core.Option.{Option, none, some}
 use mathlib.Core.List.{List, [], _∷_}
-use Prim.Native.Nat.{ℕ, zero, suc, _+_, _≤_, _<_}
+use Prim.Native.Nat.{ℕ, suc, _+_, _≤_, _<_}
 use native.Mathlib.Omega.{arith}
-use lib.ListN.{length, take, length-map}
+use lib.ListN.{length, length-map}
 use lib.IntN.{ℤ}
 use lib.Dec.{eqb, ltb}
 use borrow.Author.Tests.{lt-ltb}
-use Rattle.design.specs.Types.{Ty}
 use Rattle.design.specs.Statement.{Stmt, act, wait, if-then, if-else, while, seq, size, has}
 use Rattle.design.specs.Process.{Slot, Process, slotTypes, WellFormed}
 use Rattle.design.specs.Process as D
 use Rattle.semantics.specs.Equations.{Memory, Result, Place, beginning, at, cycle}
 use Rattle.semantics.specs.Rows.{Kept, rowRefusal, concluded, judged, row, atFirst}
-use Rattle.semantics.specs.Values.{Values}
 use Rattle.semantics.specs.Way.{Ended, at-wait, at-operator}
 use Rattle.semantics.specs.Answer.{Placed, Invariant}
 use Rattle.semantics.proofs.Basic.{false-true, eqb-true}
-use Rattle.semantics.proofs.Values.{values-length}
 use Rattle.semantics.proofs.Results.{or-case, has-below}
 use Rattle.semantics.proofs.Ends.{cycle-ends}
 use Rattle.format.specs.Lines.{Line, line, linesOf}
 use Rattle.format.specs.Walk.{tableCycle}
 use Rattle.format.specs.Signature.{initials}
-use Rattle.format.specs.State.{zeros, slotsOk, isWait, placeOk, stateOk, pad, stateFor, memoryOf, freshTable}
+use Rattle.format.specs.State.{isWait, placeOk, stateOk, stateFor, memoryOf, freshTable}
 use Rattle.format.specs.Cycle.{ended, tableRow, unless14, rowOf, Call}
 use Rattle.format.specs.Encode.{cells, signatureFor, tableOf}
 use Rattle.simulation.specs.Places.{number}
 use Rattle.theorems.specs.Comparison.{fed, laid, seen}
-use Rattle.images.proofs.Processes.{cells-types, cells-length, row-refusal}
+use Rattle.images.proofs.States.{pad-length, slots-ok, memory-back}
+use Rattle.images.proofs.Processes.{cells-types, signature-good, row-refusal}
 use Rattle.simulation.proofs.Lines.{Each, linesOf-each, linesOf-length}
 use Rattle.simulation.proofs.Cycle.{one-cycle}
 
@@ -40,34 +38,6 @@ use Rattle.simulation.proofs.Cycle.{one-cycle}
 cells-initials : (l : List Slot) → initials (cells l) ≡ D.initials l
 cells-initials [] = refl
 cells-initials (s ∷ l) = ap (λ (k : List ℤ). s .initial ∷ k) (cells-initials l)
-
--- padding
-pad-length : (n : ℕ) (l : List ℤ) → length (pad n l) ≡ n
-unfolding pad
-pad-length zero l = refl
-pad-length (suc n) [] = ap suc (pad-length n [])
-pad-length (suc n) (z ∷ l) = ap suc (pad-length n l)
-
-pad-zeros : (n : ℕ) → zeros (pad n []) ≡ true
-unfolding pad zeros
-pad-zeros zero = refl
-pad-zeros (suc n) = pad-zeros n
-
-pad-slots : (n : ℕ) (ts : List Ty) (l : List ℤ) → Values ts l → length ts ≤ n → slotsOk ts (pad n l) ≡ true
-unfolding pad slotsOk Values
-pad-slots n [] [] v h = pad-zeros n
-pad-slots n [] (z ∷ l) v h = absurd v
-pad-slots n (t ∷ ts) [] v h = absurd v
-pad-slots zero (t ∷ ts) (z ∷ l) v h = absurd (omega arith)
-pad-slots (suc n) (t ∷ ts) (z ∷ l) v h = rw (v .0) (pad-slots n ts l (v .1) (omega arith))
-
-pad-take : (n k : ℕ) (l : List ℤ) → length l ≡ k → k ≤ n → take k (pad n l) ≡ l
-unfolding pad
-pad-take n zero [] e h = refl
-pad-take n zero (z ∷ l) e h = absurd (omega arith)
-pad-take n (suc k) [] e h = absurd (omega arith)
-pad-take zero (suc k) (z ∷ l) e h = absurd (omega arith)
-pad-take (suc n) (suc k) (z ∷ l) e h = ap (λ (m : List ℤ). z ∷ m) (pad-take n k l (omega arith) (omega arith))
 
 -- a wait's number is a wait's line
 pub wait-line : (t : List Line) (s : Stmt) (n f : ℕ) → Each (λ x l. line t x ≡ l) s n f → (p : ℕ) → has s n p ≡ true → isWait (line t p) ≡ true
@@ -94,12 +64,6 @@ unfolding freshTable tableOf signatureFor atFirst
 fresh-laid p = rw (cells-initials (p .outputs), cells-initials (p .variables))
 
 module _ (p : Process) (w : WellFormed p) (k : Kept) (v : Invariant p k) where
-  outputs-length : length (k .memory .outputs) ≡ length (p .outputs)
-  outputs-length = values-length (slotTypes (p .outputs)) (k .memory .outputs) (v .well-typed .outputs) ∙ length-map (p .outputs) (λ (s : Slot). s .type)
-
-  variables-length : length (k .memory .variables) ≡ length (p .variables)
-  variables-length = values-length (slotTypes (p .variables)) (k .memory .variables) (v .well-typed .variables) ∙ length-map (p .variables) (λ (s : Slot). s .type)
-
   -- it is not refused by 15
   state-ok : stateOk (tableOf p) (laid k) ≡ true
   unfolding stateOk tableOf signatureFor stateFor
@@ -112,19 +76,14 @@ module _ (p : Process) (w : WellFormed p) (k : Kept) (v : Invariant p k) where
         pad-length 32 (k .memory .variables),
         cells-types (p .outputs),
         cells-types (p .variables),
-        pad-slots 16 (slotTypes (p .outputs)) (k .memory .outputs) (v .well-typed .outputs) o,
-        pad-slots 32 (slotTypes (p .variables)) (k .memory .variables) (v .well-typed .variables) n,
+        slots-ok 16 (slotTypes (p .outputs)) (k .memory .outputs) (v .well-typed .outputs) o,
+        slots-ok 32 (slotTypes (p .variables)) (k .memory .variables) (v .well-typed .variables) n,
       )
 
   -- its used slots are what is kept
-  memory-back : memoryOf (signatureFor p) (laid k) ≡ k .memory
-  unfolding memoryOf signatureFor stateFor
-  memory-back = rw (
-    cells-length (p .outputs),
-    cells-length (p .variables),
-    pad-take 16 (length (p .outputs)) (k .memory .outputs) outputs-length (w .outputs),
-    pad-take 32 (length (p .variables)) (k .memory .variables) variables-length (w .variables),
-  )
+  kept-back : memoryOf (signatureFor p) (laid k) ≡ k .memory
+  unfolding signatureFor
+  kept-back = memory-back (signatureFor p) (signature-good p w) (number (k .place)) (k .memory) (rw (cells-types (p .outputs), cells-types (p .variables)) (v .well-typed))
 
   -- a cycle's result, told by the table and by the equations
   same-result : (c : Call) (r : Result) → Ended (p .body) r → ended r (laid k) (c .outputs) ≡ seen (concluded r k) c
@@ -135,7 +94,7 @@ module _ (p : Process) (w : WellFormed p) (k : Kept) (v : Invariant p k) where
   pub same-cycle : (c : Call) → tableRow (tableOf p) (laid k) (c .inputs) (c .outputs) ≡ seen (judged none p k (fed c)) c
   unfolding tableRow judged stateFor tableOf signatureFor
   same-cycle c =
-      ap (λ (m : Memory). ended (tableCycle (tableOf p .lines) (tableOf p .reaches) (number (k .place)) (c .inputs) (record { way = []; memory = m })) (laid k) (c .outputs)) memory-back
+      ap (λ (m : Memory). ended (tableCycle (tableOf p .lines) (tableOf p .reaches) (number (k .place)) (c .inputs) (record { way = []; memory = m })) (laid k) (c .outputs)) kept-back
       ∙ (ap (λ (r : Result). ended r (laid k) (c .outputs)) (one-cycle (p .body) (w .class) (w .loops) (w .statements) (k .place) (v .place) (c .inputs) (record { way = []; memory = k .memory }))
       ∙ same-result c (cycle (p .body) (k .place) (c .inputs) (record { way = []; memory = k .memory })) (cycle-ends (p .body) (w .class) (k .place) (c .inputs) (record { way = []; memory = k .memory })))
 
