@@ -1,5 +1,4 @@
 -- `signed::to_bits` meets its contract: a number below zero is -1 minus its magnitude. Assumes nothing.
-use Prim.Native.Nat.{_-_}
 use mathlib.Core.Path.{_≡_}
 use native.Mathlib.Omega.{arith}
 use lib.IntN.{pos, negsuc, _-ℤ_}

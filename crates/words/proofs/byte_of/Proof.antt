@@ -37,8 +37,9 @@ returns-4 c = rw (c .before .if4 .taken) (c .low4 .ensures)
 
 returns-5 : tie.Need-returns-5
 returns-5 c =
-    let k = c .before .before .before .before .args .k in
-    sym (List·getD-eq-default (bytes4 (c .before .before .before .before .args .n)) 0 (above k (c .before .before .before .if1 .left) (c .before .before .if2 .left) (c .before .if3 .left) (c .if4 .left)))
+    let s = c .before .before .before .before .args in
+    sym (List·getD-eq-default (bytes4 (s .n)) 0
+    (above (s .k) (c .before .before .before .if1 .left) (c .before .before .if2 .left) (c .before .if3 .left) (c .if4 .left)))
 
 pub byte-of-spec : {M : Type 1} → statement M
 byte-of-spec =

@@ -1,0 +1,9 @@
+pub mod OperatorLaws
+pub mod OperandLaws
+pub mod StackLaws
+pub mod LoopLaws
+pub mod Fetch
+pub mod Position
+pub mod Exact
+pub mod Evaluation
+pub mod Slots

@@ -1,0 +1,58 @@
+-- `evaluator::evaluate` meets its contract: the part of the code is within the section, and its value is that of the run. Assumes nothing.
+use native.Mathlib.Omega.{arith}
+use borrow.Author.Needs.{needs}
+use Rattle.evaluator.specs.Value.{machineFor}
+use Rattle.evaluator.proofs.LoopLaws.{part-outside, part-within}
+use Rattle.evaluator.proofs.evaluate.Statement.{statement}
+use Rattle.evaluator.proofs.evaluate.Tie as tie
+
+returns : tie.Need-returns
+returns c =
+    let s = c .before .before .before .before .args in
+    let M = machineFor (s .input-types .now) (s .variable-types .now) (s .inputs .now) (s .variables .now) in
+    part-outside M (s .code .now) (s .start) (s .size) (let h = c .if1 .taken in omega arith)
+
+sub-if2 : tie.Need-sub-if2
+sub-if2 c = search needs
+
+returns-2 : tie.Need-returns-2
+returns-2 c =
+    let s = c .before .before .before .before .before .args in
+    let M = machineFor (s .input-types .now) (s .variable-types .now) (s .inputs .now) (s .variables .now) in
+    part-outside M (s .code .now) (s .start) (s .size) (let h = c .if2 .taken in omega arith)
+
+add-end : tie.Need-add-end
+add-end c = search needs
+
+sub-run : tie.Need-sub-run
+sub-run c = search needs
+
+part-run-start : tie.Need-part-run-start
+part-run-start c = search needs
+
+part-run-end : tie.Need-part-run-end
+part-run-end c = search needs
+
+run-requires : tie.Need-run-requires
+run-requires c κs = search needs
+
+returns-3 : tie.Need-returns-3
+returns-3 c =
+    let s = c .before .before .before .before .before .before .before .before .before .args in
+    let M = machineFor (s .input-types .now) (s .variable-types .now) (s .inputs .now) (s .variables .now) in
+    part-within M (s .code .now) (s .start) (s .size)
+    (let h = c .before .before .before .before .if2 .left in omega arith) (c .run .ensures)
+
+pub evaluate-spec : {M : Type 1} → statement M
+evaluate-spec =
+    tie.close
+    (tie.spec
+    returns
+    sub-if2
+    returns-2
+    add-end
+    sub-run
+    part-run-start
+    part-run-end
+    run-requires
+    returns-3)

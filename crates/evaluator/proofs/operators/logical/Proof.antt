@@ -1,0 +1,106 @@
+-- `evaluator::operators::logical` meets its contract: each byte has its operator. Assumes nothing.
+use mathlib.Core.Path.{_≡_, ap, _∙_}
+use mathlib.Core.Bool.{Bool, _&&_, _||_}
+use mir.Facts.{toZ-ofZ}
+use Rattle.semantics.specs.Evaluation.{bitOf, isOne, differ, binaryResult, applyBinary}
+use Rattle.design.specs.Types.{sameTy, sameType}
+use Rattle.design.specs.Expression.{and, or, xor}
+use Rattle.design.specs.Expression.{bind, sumType, orderType, equalityType, logicalType, binaryType}
+use Rattle.format.specs.Code.{withType}
+use borrow.Author.Needs.{needs}
+use Rattle.evaluator.specs.declared.Evaluated.the-variants.{Value}
+use Rattle.evaluator.proofs.OperatorLaws.{logical-arm, logical-other}
+use Rattle.evaluator.proofs.operators.logical.Statement.{statement}
+use Rattle.evaluator.proofs.operators.logical.Tie as tie
+
+is-one-requires : tie.Need-is-one-requires
+is-one-requires c κs = search needs
+
+is-one-requires-2 : tie.Need-is-one-requires-2
+is-one-requires-2 c κs = search needs
+
+both-requires : tie.Need-both-requires
+both-requires c κs = search needs
+
+logic-requires : tie.Need-logic-requires
+logic-requires c κs = search needs
+
+is-one-requires-3 : tie.Need-is-one-requires-3
+is-one-requires-3 c κs = search needs
+
+is-one-requires-4 : tie.Need-is-one-requires-4
+is-one-requires-4 c κs = search needs
+
+either-requires : tie.Need-either-requires
+either-requires c κs = search needs
+
+logic-requires-2 : tie.Need-logic-requires-2
+logic-requires-2 c κs = search needs
+
+is-one-requires-5 : tie.Need-is-one-requires-5
+is-one-requires-5 c κs = search needs
+
+is-one-requires-6 : tie.Need-is-one-requires-6
+is-one-requires-6 c κs = search needs
+
+differs-requires : tie.Need-differs-requires
+differs-requires c κs = search needs
+
+logic-requires-3 : tie.Need-logic-requires-3
+logic-requires-3 c κs = search needs
+
+returns : tie.Need-returns
+unfolding sameType sameTy withType bind binaryType sumType orderType equalityType logicalType applyBinary binaryResult
+returns c =
+    let s = c .before .before .before .before .before in
+    let p = rw (toZ-ofZ (s .fits .x)) at (c .before .before .before .is-one .ensures) in
+    let q = rw (toZ-ofZ (s .fits .y)) at (c .before .before .is-one2 .ensures) in
+    let e : c .before .both .result ≡ (isOne (s .args .x) && isOne (s .args .y)) = rw (p, q) at (c .before .both .ensures) in
+    logical-arm and (s .args .op) (s .args .t) (s .args .x) (s .args .y) (c .before .before .before .before .match .keys1)
+    (c .logic .ensures ∙ ap (λ (b : Bool). Value (s .args .t) (bitOf b)) e)
+
+returns-2 : tie.Need-returns-2
+unfolding sameType sameTy withType bind binaryType sumType orderType equalityType logicalType applyBinary binaryResult
+returns-2 c =
+    let s = c .before .before .before .before .before in
+    let p = rw (toZ-ofZ (s .fits .x)) at (c .before .before .before .is-one3 .ensures) in
+    let q = rw (toZ-ofZ (s .fits .y)) at (c .before .before .is-one4 .ensures) in
+    let e : c .before .either .result ≡ (isOne (s .args .x) || isOne (s .args .y)) = rw (p, q) at (c .before .either .ensures) in
+    logical-arm or (s .args .op) (s .args .t) (s .args .x) (s .args .y) (c .before .before .before .before .match .keys2)
+    (c .logic2 .ensures ∙ ap (λ (b : Bool). Value (s .args .t) (bitOf b)) e)
+
+returns-3 : tie.Need-returns-3
+unfolding sameType sameTy withType bind binaryType sumType orderType equalityType logicalType applyBinary binaryResult
+returns-3 c =
+    let s = c .before .before .before .before .before in
+    let p = rw (toZ-ofZ (s .fits .x)) at (c .before .before .before .is-one5 .ensures) in
+    let q = rw (toZ-ofZ (s .fits .y)) at (c .before .before .is-one6 .ensures) in
+    let e : c .before .differs .result ≡ differ (isOne (s .args .x)) (isOne (s .args .y)) = rw (p, q) at (c .before .differs .ensures) in
+    logical-arm xor (s .args .op) (s .args .t) (s .args .x) (s .args .y) (c .before .before .before .before .match .keys3)
+    (c .logic3 .ensures ∙ ap (λ (b : Bool). Value (s .args .t) (bitOf b)) e)
+
+returns-4 : tie.Need-returns-4
+returns-4 c =
+    logical-other (c .before .args .op) (c .before .args .t) (c .before .args .x) (c .before .args .y)
+    (c .match .rest .0 .0 .1) (c .match .rest .0 .1) (c .match .rest .1)
+
+pub logical-spec : {M : Type 1} → statement M
+logical-spec =
+    tie.close
+    (tie.spec
+    is-one-requires
+    is-one-requires-2
+    both-requires
+    logic-requires
+    is-one-requires-3
+    is-one-requires-4
+    either-requires
+    logic-requires-2
+    is-one-requires-5
+    is-one-requires-6
+    differs-requires
+    logic-requires-3
+    returns
+    returns-2
+    returns-3
+    returns-4)

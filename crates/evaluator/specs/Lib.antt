@@ -1,0 +1,4 @@
+pub mod Position
+pub mod Value
+pub mod Operators
+pub mod Stack
