@@ -11,7 +11,7 @@ use Rattle.language.specs.Words.{folded}
 use Rattle.language.specs.Lexing.{all}
 use Rattle.language.proofs.Facts.{clash, and-true-both, eqb-eq, is-T}
 
-between-le : (lo hi b : ℕ) → between lo hi b ≡ true → (lo ≤ b) × (b ≤ hi)
+pub between-le : (lo hi b : ℕ) → between lo hi b ≡ true → (lo ≤ b) × (b ≤ hi)
 unfolding between
 between-le lo hi b e = let s = and-true-both (leb lo b) (leb b hi) e in (leb→le lo b (is-T (s .0)), leb→le b hi (is-T (s .1)))
 

@@ -30,7 +30,7 @@ pub record Run (p : ℕ → Bool) (l : List ℕ) : Type 0 where
   pub passes : all p (run p l) ≡ true
   pub ends : (c : ℕ) (v : List ℕ) → rest ≡ c ∷ v → p c ≡ false
 
-run-is : (p : ℕ → Bool) (l : List ℕ) → Run p l
+pub run-is : (p : ℕ → Bool) (l : List ℕ) → Run p l
 unfolding run all
 run-is p [] = record { rest = []; split = refl; passes = refl; ends = λ c v e. absurd (nil-cons e) }
   where
@@ -64,7 +64,7 @@ two-cons : {b c : ℕ} {l v : List ℕ} → b ≡ c → l ≡ v → b ∷ l ≡ 
 two-cons e f = cc
 
 -- the fixed ones
-equal-refl : (w : List ℕ) → equal w w ≡ true
+pub equal-refl : (w : List ℕ) → equal w w ≡ true
 unfolding equal
 equal-refl [] = refl
 equal-refl (b ∷ w) = rw (eq-eqb b b refl) (equal-refl w)

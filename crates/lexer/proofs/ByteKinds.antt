@@ -1,0 +1,36 @@
+-- The tests on a byte's kind, by its number. Assumes nothing.
+use mathlib.Core.Path.{_≡_, refl, sym, _∙_, ap}
+use mathlib.Core.Bool.{Bool, true, false, _||_}
+use Prim.Native.Nat.{ℕ}
+use lib.Dec.{eqb, leb}
+use borrow.Author.Tests.{eqb-true, eqb-false, eq-eqb, ne-eqb}
+use Rattle.language.specs.Bytes.{ByteKind, letter, digit, underscore, blank, quote, mark, none, byteKind, kindCode, is, isDigit, isUnder, inWord}
+
+-- what a call computes, told by a test on its answer
+pub flag : {x q r : Bool} → r ≡ x → r ≡ q → x ≡ q
+flag e t = sym e ∙ t
+
+pub eqb-comm : (a b : ℕ) → eqb a b ≡ eqb b a
+eqb-comm a b = go (eqb a b) refl
+  where
+    go : (q : Bool) → eqb a b ≡ q → q ≡ eqb b a
+    go true e = sym (eq-eqb b a (sym (eqb-true a b e)))
+    go false e = sym (ne-eqb b a (λ f. eqb-false a b e (sym f)))
+
+word-code : (k : ByteKind) → leb (kindCode k) 2 ≡ (eqb 0 (kindCode k) || (eqb 1 (kindCode k) || eqb 2 (kindCode k)))
+word-code letter = refl
+word-code digit = refl
+word-code underscore = refl
+word-code blank = refl
+word-code quote = refl
+word-code mark = refl
+word-code none = refl
+
+-- "letters, digits and underscores" are the first three kinds
+pub word-kind : (b r : ℕ) → r ≡ kindCode (byteKind b) → leb r 2 ≡ inWord b
+unfolding inWord is
+word-kind b r e = rw e (word-code (byteKind b))
+
+pub kind-is : (k : ByteKind) (b r : ℕ) → r ≡ kindCode (byteKind b) → eqb r (kindCode k) ≡ is k b
+unfolding is
+kind-is k b r e = rw e (eqb-comm (kindCode (byteKind b)) (kindCode k))

@@ -1,0 +1,10 @@
+pub mod ByteKinds
+pub mod RunLaws
+pub mod WordLaws
+pub mod MarkLaws
+pub mod PieceLaws
+pub mod Advance
+pub mod Filling
+pub mod PartLaws
+pub mod TokenValues
+pub mod LexAnswer

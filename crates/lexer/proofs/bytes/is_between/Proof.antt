@@ -1,0 +1,18 @@
+-- `lexer::bytes::is_between` meets its contract: by its two tests. Assumes nothing.
+use mathlib.Core.Path.{_≡_, refl, sym, _∙_, ap}
+use borrow.Author.Needs.{needs}
+use borrow.Author.Tests.{lt-leb, le-leb, eq-eqb, ne-eqb}
+use Rattle.language.specs.Bytes.{bytes, elem, between}
+use Rattle.lexer.proofs.bytes.is_between.Statement.{statement}
+use Rattle.lexer.proofs.bytes.is_between.Tie as tie
+
+returns : tie.Need-returns
+unfolding between
+returns c = simp (lt-leb _ _ (c .if1 .taken))
+
+returns-2 : tie.Need-returns-2
+unfolding between
+returns-2 c = simp (le-leb _ _ (c .if1 .left))
+
+pub is-between-spec : {M : Type 1} → statement M
+is-between-spec = tie.close (tie.spec returns returns-2)

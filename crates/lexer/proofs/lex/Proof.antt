@@ -1,0 +1,109 @@
+-- `lexer::lex` meets its contract. The invariant: the tokens so far stand in the arrays, and with those of the rest they are the text's; the measure is
+-- what is left of the text. Assumes nothing.
+use Prim.Native.Nat.{_≤_, _<_, _-_}
+use native.Mathlib.Omega.{arith}
+use lib.ListN.{length}
+use Rattle.lexer.proofs.Advance.{gapped, tokened, stopped}
+use Rattle.lexer.proofs.Filling.{Filled, fill-first, fill-gap, fill-token, fill-end, fill-stop, too-long}
+use borrow.Author.Needs.{needs}
+use Rattle.lexer.proofs.lex.Statement.{statement}
+use Rattle.lexer.proofs.lex.Tie as tie
+
+abbrev Inv-loop : tie.InvT-loop
+Inv-loop text kinds₀ starts₀ sizes₀ i₀ n₀ kinds starts sizes i n = Filled text kinds₀ starts₀ sizes₀ kinds starts sizes i n
+
+abbrev μ-loop : tie.MeasureT-loop
+μ-loop text kinds₀ starts₀ sizes₀ i₀ n₀ kinds starts sizes i n = length text - i
+
+returns : tie.Need-returns Inv-loop μ-loop
+returns c = too-long _ _ _ _ (c .if1 .taken)
+
+loop-holds : tie.Need-loop-holds Inv-loop μ-loop
+loop-holds c = fill-first _ _ _ _
+
+piece-at-requires : tie.Need-piece-at-requires Inv-loop μ-loop
+piece-at-requires c κs = search needs
+
+enum-known-end : tie.Need-enum-known-end Inv-loop μ-loop
+enum-known-end c = search needs
+
+loop-less : tie.Need-loop-less Inv-loop μ-loop
+loop-less c = let g = gapped _ _ _ (c .before .before .before .before .loop-test .taken) (c .before .before .before .piece-at .ensures) _ (c .before .end .given .1) in omega arith
+
+loop-again : tie.Need-loop-again Inv-loop μ-loop
+loop-again c = fill-gap _ _ _ _ _ _ _ _ _ (c .before .before .before .before .before .loop .inv) _ (gapped _ _ _ (c .before .before .before .before .loop-test .taken) (c .before .before .before .piece-at .ensures) _ (c .before .end .given .1))
+
+enum-known-kind : tie.Need-enum-known-kind Inv-loop μ-loop
+enum-known-kind c = search needs
+
+element-write-kinds : tie.Need-element-write-kinds Inv-loop μ-loop
+element-write-kinds c = search needs
+
+cast-starts : tie.Need-cast-starts Inv-loop μ-loop
+cast-starts c = search needs
+
+mul-starts : tie.Need-mul-starts Inv-loop μ-loop
+mul-starts c = search needs
+
+element-write-starts : tie.Need-element-write-starts Inv-loop μ-loop
+element-write-starts c = search needs
+
+sub-sizes : tie.Need-sub-sizes Inv-loop μ-loop
+sub-sizes c = let g = tokened _ _ _ (c .before .before .before .before .loop-test .taken) (c .before .before .before .piece-at .ensures) _ _ (c .before .kind .given .1) in omega arith
+
+cast-sizes : tie.Need-cast-sizes Inv-loop μ-loop
+cast-sizes c = let g = tokened _ _ _ (c .before .before .before .before .loop-test .taken) (c .before .before .before .piece-at .ensures) _ _ (c .before .kind .given .1) in omega arith
+
+mul-sizes : tie.Need-mul-sizes Inv-loop μ-loop
+mul-sizes c = search needs
+
+element-write-sizes : tie.Need-element-write-sizes Inv-loop μ-loop
+element-write-sizes c = search needs
+
+add-n : tie.Need-add-n Inv-loop μ-loop
+add-n c = search needs
+
+loop-less-2 : tie.Need-loop-less-2 Inv-loop μ-loop
+loop-less-2 c = let g = tokened _ _ _ (c .before .before .before .before .loop-test .taken) (c .before .before .before .piece-at .ensures) _ _ (c .before .kind .given .1) in omega arith
+
+loop-again-2 : tie.Need-loop-again-2 Inv-loop μ-loop
+loop-again-2 c =
+    fill-token _ _ _ _ _ _ _ _ _ (c .before .before .before .before .before .loop .inv) _ _
+    (tokened _ _ _ (c .before .before .before .before .loop-test .taken) (c .before .before .before .piece-at .ensures) _ _ (c .before .kind .given .1))
+
+enum-told : tie.Need-enum-told Inv-loop μ-loop
+enum-told c = search needs
+
+returns-2 : tie.Need-returns-2 Inv-loop μ-loop
+returns-2 c = fill-stop _ _ _ _ _ _ _ _ _ (c .before .before .before .before .loop .inv) (c .before .before .before .before .before .if1 .left) (stopped _ _ _ (c .before .before .before .loop-test .taken) (c .before .before .piece-at .ensures) (c .enum-told .given .1))
+
+returns-3 : tie.Need-returns-3 Inv-loop μ-loop
+returns-3 c = fill-end _ _ _ _ _ _ _ _ _ (c .before .loop .inv) (c .before .before .if1 .left) (c .loop-test .left)
+
+pub lex-spec : {M : Type 1} → statement M
+lex-spec =
+    tie.close
+    (tie.spec
+    Inv-loop
+    μ-loop
+    returns
+    loop-holds
+    piece-at-requires
+    enum-known-end
+    loop-less
+    loop-again
+    enum-known-kind
+    element-write-kinds
+    cast-starts
+    mul-starts
+    element-write-starts
+    sub-sizes
+    cast-sizes
+    mul-sizes
+    element-write-sizes
+    add-n
+    loop-less-2
+    loop-again-2
+    enum-told
+    returns-2
+    returns-3)

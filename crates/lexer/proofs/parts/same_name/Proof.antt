@@ -1,0 +1,26 @@
+-- `lexer::parts::same_name` meets its contract. Assumes nothing.
+use mathlib.Core.Path.{_≡_, _∙_, ap}
+use mathlib.Core.List.{List, map}
+use Prim.Native.Nat.{ℕ}
+use Rattle.language.specs.Bytes.{lower}
+use Rattle.language.specs.Lexing.{equal}
+use borrow.Author.Needs.{needs}
+use Rattle.lexer.proofs.parts.same_name.Statement.{statement}
+use Rattle.lexer.proofs.parts.same_name.Tie as tie
+
+part-of-requires : tie.Need-part-of-requires
+part-of-requires c κs = search needs
+
+part-of-requires-2 : tie.Need-part-of-requires-2
+part-of-requires-2 c κs = search needs
+
+same-folded-requires : tie.Need-same-folded-requires
+same-folded-requires c κs = search needs
+
+returns : tie.Need-returns
+returns c =
+    (c .same-folded .ensures) ∙ rw (c .before .before .part-of .ensures, c .before .part-of2 .ensures)
+
+pub same-name-spec : {M : Type 1} → statement M
+same-name-spec =
+    tie.close (tie.spec part-of-requires part-of-requires-2 same-folded-requires returns)

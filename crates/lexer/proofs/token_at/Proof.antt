@@ -1,0 +1,101 @@
+-- `lexer::token_at` meets its contract. The invariant: the rest from here hands out what the whole text hands out. Assumes nothing.
+use mathlib.Core.Path.{_≡_, refl, sym, _∙_}
+use Prim.Native.Nat.{_≤_, _-_}
+use native.Mathlib.Omega.{arith}
+use lib.ListN.{length, drop}
+use borrow.Author.Tests.{eq-eqb, ne-eqb}
+use Rattle.language.specs.Lexer.{tokenFrom, tokenAt}
+use Rattle.lexer.proofs.Advance.{gapped, tokened, stopped, nothing-left, token-past}
+use borrow.Author.Needs.{needs}
+use Rattle.lexer.proofs.token_at.Statement.{statement}
+use Rattle.lexer.proofs.token_at.Tie as tie
+
+abbrev Inv-loop : tie.InvT-loop
+Inv-loop text place i₀ i = (i ≤ length text) × (tokenFrom (drop i text) 0 i place ≡ tokenAt text place)
+
+abbrev μ-loop : tie.MeasureT-loop
+μ-loop text place i₀ i = length text - i
+
+loop-holds : tie.Need-loop-holds Inv-loop μ-loop
+unfolding tokenAt
+loop-holds c = (search needs, refl)
+
+empty-requires : tie.Need-empty-requires Inv-loop μ-loop
+empty-requires c κs = search needs
+
+returns : tie.Need-returns Inv-loop μ-loop
+returns c = (c .empty .ensures) ∙ (sym (token-past _ 0 _ _ (c .before .if1 .taken)) ∙ c .before .before .before .loop .inv .1)
+
+piece-at-requires : tie.Need-piece-at-requires Inv-loop μ-loop
+piece-at-requires c κs = search needs
+
+enum-known-end : tie.Need-enum-known-end Inv-loop μ-loop
+enum-known-end c = search needs
+
+loop-less : tie.Need-loop-less Inv-loop μ-loop
+loop-less c = let g = gapped _ _ _ (c .before .before .before .before .before .loop-test .taken) (c .before .before .before .piece-at .ensures) _ (c .before .end .given .1) in omega arith
+
+loop-again : tie.Need-loop-again Inv-loop μ-loop
+loop-again c = let g = gapped _ _ _ (c .before .before .before .before .before .loop-test .taken) (c .before .before .before .piece-at .ensures) _ (c .before .end .given .1) in (g .within, sym (g .hands _) ∙ c .before .before .before .before .before .before .loop .inv .1)
+
+enum-known-end-2 : tie.Need-enum-known-end-2 Inv-loop μ-loop
+enum-known-end-2 c = search needs
+
+sub-result : tie.Need-sub-result Inv-loop μ-loop
+sub-result c = let g = tokened _ _ _ (c .before .before .before .before .before .before .loop-test .taken) (c .before .before .before .before .piece-at .ensures) _ _ (c .before .before .end2 .given .1) in omega arith
+
+part-result-start : tie.Need-part-result-start Inv-loop μ-loop
+part-result-start c = let g = tokened _ _ _ (c .before .before .before .before .before .before .loop-test .taken) (c .before .before .before .before .piece-at .ensures) _ _ (c .before .before .end2 .given .1) in omega arith
+
+part-result-end : tie.Need-part-result-end Inv-loop μ-loop
+part-result-end c = let g = tokened _ _ _ (c .before .before .before .before .before .before .loop-test .taken) (c .before .before .before .before .piece-at .ensures) _ _ (c .before .before .end2 .given .1) in omega arith
+
+returns-2 : tie.Need-returns-2 Inv-loop μ-loop
+returns-2 c = let g = tokened _ _ _ (c .before .before .before .before .before .before .before .loop-test .taken) (c .before .before .before .before .before .piece-at .ensures) _ _ (c .before .before .before .end2 .given .1) in sym (g .hands _ ∙ rw (eq-eqb _ _ (c .before .if2 .taken))) ∙ c .before .before .before .before .before .before .before .before .loop .inv .1
+
+loop-less-2 : tie.Need-loop-less-2 Inv-loop μ-loop
+loop-less-2 c = let g = tokened _ _ _ (c .before .before .before .before .before .before .loop-test .taken) (c .before .before .before .before .piece-at .ensures) _ _ (c .before .before .end2 .given .1) in omega arith
+
+loop-again-2 : tie.Need-loop-again-2 Inv-loop μ-loop
+loop-again-2 c = let g = tokened _ _ _ (c .before .before .before .before .before .before .loop-test .taken) (c .before .before .before .before .piece-at .ensures) _ _ (c .before .before .end2 .given .1) in (g .within, sym (g .hands _ ∙ rw (ne-eqb _ _ (c .if2 .left))) ∙ c .before .before .before .before .before .before .before .loop .inv .1)
+
+enum-told : tie.Need-enum-told Inv-loop μ-loop
+enum-told c = search needs
+
+empty-requires-2 : tie.Need-empty-requires-2 Inv-loop μ-loop
+empty-requires-2 c κs = search needs
+
+returns-3 : tie.Need-returns-3 Inv-loop μ-loop
+returns-3 c = let g = stopped _ _ _ (c .before .before .before .before .before .loop-test .taken) (c .before .before .before .piece-at .ensures) (c .before .enum-told .given .1) in (c .empty2 .ensures) ∙ (sym (g .hands _) ∙ c .before .before .before .before .before .before .loop .inv .1)
+
+empty-requires-3 : tie.Need-empty-requires-3 Inv-loop μ-loop
+empty-requires-3 c κs = search needs
+
+returns-4 : tie.Need-returns-4 Inv-loop μ-loop
+returns-4 c = (c .empty3 .ensures) ∙ (sym (nothing-left _ _ (c .before .loop-test .left) .2 _) ∙ c .before .before .loop .inv .1)
+
+pub token-at-spec : {M : Type 1} → statement M
+token-at-spec =
+    tie.close
+    (tie.spec
+    Inv-loop
+    μ-loop
+    loop-holds
+    empty-requires
+    returns
+    piece-at-requires
+    enum-known-end
+    loop-less
+    loop-again
+    enum-known-end-2
+    sub-result
+    part-result-start
+    part-result-end
+    returns-2
+    loop-less-2
+    loop-again-2
+    enum-told
+    empty-requires-2
+    returns-3
+    empty-requires-3
+    returns-4)

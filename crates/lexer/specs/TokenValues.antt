@@ -1,0 +1,23 @@
+-- What holds of each token of a text: it lies in the text, and its kind and value are those of its bytes. Assumes nothing.
+use mathlib.Core.Path.{_≡_}
+use mathlib.Core.Bool.{true, cond}
+use mathlib.Core.List.{List}
+use Prim.Native.Nat.{ℕ, _+_, _≤_, _<_}
+use lib.Dec.{eqb}
+use lib.ListN.{length}
+use Rattle.grammar.specs.Token.{Token, NAME, NUMBER, ZERO, ONE, GE}
+use Rattle.language.specs.Bytes.{between, inWord}
+use Rattle.language.specs.Words.{folded, value}
+use Rattle.language.specs.Lexing.{Meaning, all, meaning}
+use Rattle.lexer.specs.Places.{part}
+
+-- the value of a token of the kind k that has the bytes w: a number's value, 1 for '1', 0 for '0' and the marks, a word's folded number
+unfoldable pub tokenValue : ℕ → List ℕ → ℕ
+tokenValue k w = cond (eqb k NUMBER) (value 0 w) (cond (between ZERO GE k) (cond (eqb k ONE) 1 0) (folded 0 w))
+
+pub record Valued (text : List ℕ) (t : Token) : Type 0 where
+  pub some : 0 < t .size
+  pub inside : t .place + t .size ≤ length text
+  pub means : meaning (part text (t .place) (t .size)) ≡ Meaning.token (t .kind) (t .value)
+  pub value : t .value ≡ tokenValue (t .kind) (part text (t .place) (t .size))
+  pub word : t .kind ≡ NAME → all inWord (part text (t .place) (t .size)) ≡ true

@@ -1,0 +1,90 @@
+// The lexer: the tokens of a text into lent arrays, and the token at a place.
+ghost use mathlib.Core.Path.{_≡_};
+ghost use mathlib.Core.List.{[]};
+ghost use Rattle.language.specs.Lexer.{tokenAt};
+ghost use Rattle.lexer.specs.Tokens.{Lexing};
+
+mod bytes;
+mod marks;
+pub mod parts;
+mod pieces;
+mod runs;
+pub mod token;
+mod words;
+
+use answers::Refusal;
+use pieces::Piece;
+
+// The number of tokens, or refusal 1 or 2.
+pub enum Lexed {
+    Tokens(usize),
+    NotLexed(Refusal),
+}
+
+// Writes the kind, the place and the size of each token, in order. Each turn of the loop passes a gap or a token.
+pub fn lex(
+    text: &[u8],
+    kinds: &mut [u8; 16384],
+    starts: &mut [u16; 16384],
+    sizes: &mut [u16; 16384],
+) -> Lexed
+    ensures { λ r. ⌜ Lexing (now (text .entry)) r (now (kinds .entry)) (now (kinds .exit)) (now (starts .entry)) (now (starts .exit)) (now (sizes .entry)) (now (sizes .exit)) ⌝ }
+{
+    if text.len() > 16384 {
+        return Lexed::NotLexed(Refusal::TextTooLong);
+    }
+    let mut i = 0;
+    let mut n = 0;
+    while i < text.len() {
+        match pieces::piece_at(text, i) {
+            Piece::Gap(end) => {
+                i = end;
+            }
+            Piece::Token(kind, end) => {
+                kinds[n] = kind;
+                starts[n] = i as u16;
+                sizes[n] = (end - i) as u16;
+                n += 1;
+                i = end;
+            }
+            Piece::Nothing => {
+                return Lexed::NotLexed(Refusal::NoToken(i));
+            }
+        }
+    }
+    Lexed::Tokens(n)
+}
+
+// The empty part of a text.
+fn empty<'a>(text: &'a [u8]) -> &'a [u8]
+    ensures { λ r. ⌜ now r ≡ [] ⌝ }
+{
+    &text[0..0]
+}
+
+// The token that starts at a place, as that part of the text, or an empty part. Pieces after the place are not read.
+pub fn token_at<'a>(text: &'a [u8], place: usize) -> &'a [u8]
+    ensures { λ r. ⌜ now r ≡ tokenAt (now (text .entry)) place ⌝ }
+{
+    let mut i = 0;
+    while i < text.len() {
+        if place < i {
+            return empty(text);
+        }
+        match pieces::piece_at(text, i) {
+            Piece::Gap(end) => {
+                i = end;
+            }
+            Piece::Token(_, end) => {
+                if i == place {
+                    return &text[i..end];
+                }
+                i = end;
+            }
+            Piece::Nothing => {
+                return empty(text);
+            }
+        }
+    }
+    empty(text)
+}

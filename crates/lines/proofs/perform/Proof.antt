@@ -1,0 +1,135 @@
+use borrow.Author.Needs.{needs}
+use denote.Ref.{now}
+use mir.Syntax.{w32}
+use mir.Val.{SFits}
+use mir.Facts.{toZ-ofZ}
+use Rattle.lines.specs.Moves.{valueAt}
+use Rattle.lines.proofs.Steps.{wait-at, null-at, fault-at, branch-at, store-at}
+use Rattle.lines.proofs.perform.Statement.{statement}
+use Rattle.lines.proofs.perform.Tie as tie
+use Rattle.lines.proofs.perform.Reads as reads
+use Rattle.lines.proofs.perform.Lts as lts
+use Rattle.lines.proofs.branch.Reads as branch-reads
+use Rattle.lines.proofs.field.Reads as field-reads
+use Rattle.lines.proofs.kind.Reads as kind-reads
+use Rattle.lines.proofs.store.Reads as store-reads
+use Rattle.lines.proofs.target.Reads as target-reads
+use Rattle.lines.proofs.value.Reads as value-reads
+
+-- src/lib.rt:89:9
+kind-requires : tie.Need-kind-requires
+kind-requires c κs = search needs
+
+-- src/lib.rt:91:9
+returns : tie.Need-returns
+returns c =
+    wait-at (now (c .before .before .before .before .before .before .args .lines)) (c .before .before .before .before .before .before .args .x) (valueAt (now (c .before .before .before .before .before .before .args .lines)) (now (c .before .before .before .before .before .before .args .code)) (c .before .before .before .before .before .before .args .x) (now (c .before .before .before .before .before .before .args .input-types)) (now (c .before .before .before .before .before .before .args .variable-types)) (now (c .before .before .before .before .before .before .args .inputs)) (now (c .before .before .before .before .before .before .args .variables))) (now (c .before .before .before .before .before .before .args .outputs)) (now (c .before .before .before .before .before .before .args .variables)) _
+    (c .before .kind .ensures) (c .if1 .taken)
+
+-- src/lib.rt:94:27
+field-requires : tie.Need-field-requires
+field-requires c κs = search needs
+
+-- src/lib.rt:94:9
+returns-2 : tie.Need-returns-2
+returns-2 c =
+    null-at (now (c .before .before .before .before .before .before .before .before .args .lines)) (c .before .before .before .before .before .before .before .before .args .x) (valueAt (now (c .before .before .before .before .before .before .before .before .args .lines)) (now (c .before .before .before .before .before .before .before .before .args .code)) (c .before .before .before .before .before .before .before .before .args .x) (now (c .before .before .before .before .before .before .before .before .args .input-types)) (now (c .before .before .before .before .before .before .before .before .args .variable-types)) (now (c .before .before .before .before .before .before .before .before .args .inputs)) (now (c .before .before .before .before .before .before .before .before .args .variables))) (now (c .before .before .before .before .before .before .before .before .args .outputs)) (now (c .before .before .before .before .before .before .before .before .args .variables)) _ _
+    (c .before .before .before .kind .ensures) (c .before .if2 .taken) (c .field .ensures .0)
+
+-- src/lib.rt:96:9
+value-requires : tie.Need-value-requires
+value-requires c κs = search needs
+
+-- src/lib.rt:98:26
+enum-known-e : tie.Need-enum-known-e
+enum-known-e c = search needs
+
+-- src/lib.rt:99:29
+enum-known-e-2 : tie.Need-enum-known-e-2
+enum-known-e-2 c = search needs
+
+-- src/lib.rt:101:35
+branch-requires : tie.Need-branch-requires
+branch-requires c κs = search needs
+
+-- src/lib.rt:101:17
+same-length : tie.Need-same-length
+same-length c = search needs
+
+-- src/lib.rt:101:17
+returns-3 : tie.Need-returns-3
+returns-3 c =
+    let h : SFits w32 (c .before .before .before .e2 .given .0 .1 .0) = search needs in
+    branch-at (now (c .before .before .before .before .before .before .before .before .before .before .before .before .before .before .args .lines)) (c .before .before .before .before .before .before .before .before .before .before .before .before .before .before .args .x) (valueAt (now (c .before .before .before .before .before .before .before .before .before .before .before .before .before .before .args .lines)) (now (c .before .before .before .before .before .before .before .before .before .before .before .before .before .before .args .code)) (c .before .before .before .before .before .before .before .before .before .before .before .before .before .before .args .x) (now (c .before .before .before .before .before .before .before .before .before .before .before .before .before .before .args .input-types)) (now (c .before .before .before .before .before .before .before .before .before .before .before .before .before .before .args .variable-types)) (now (c .before .before .before .before .before .before .before .before .before .before .before .before .before .before .args .inputs)) (now (c .before .before .before .before .before .before .before .before .before .before .before .before .before .before .args .variables))) (now (c .before .before .before .before .before .before .before .before .before .before .before .before .before .before .args .outputs)) (now (c .before .before .before .before .before .before .before .before .before .before .before .before .before .before .args .variables)) _ _ _ _ _
+    (c .before .before .before .before .before .before .before .before .before .kind .ensures) (c .before .if3 .taken) (c .before .before .before .before .before .value .ensures) (c .before .before .before .e2 .given .1) (rw (toZ-ofZ h) at (c .branch .ensures))
+
+-- src/lib.rt:103:21
+target-requires : tie.Need-target-requires
+target-requires c κs = search needs
+
+-- src/lib.rt:103:21
+cast-n : tie.Need-cast-n
+cast-n c = search needs
+
+-- src/lib.rt:104:13
+store-requires : tie.Need-store-requires
+store-requires c κs = search needs
+
+-- src/lib.rt:105:13
+store-requires-2 : tie.Need-store-requires-2
+store-requires-2 c κs = search needs
+
+-- src/lib.rt:106:24
+field-requires-2 : tie.Need-field-requires-2
+field-requires-2 c κs = search needs
+
+-- src/lib.rt:75:1
+same-length-2 : tie.Need-same-length-2
+same-length-2 c = search needs
+
+-- src/lib.rt:75:1
+returns-4 : tie.Need-returns-4
+returns-4 c =
+    fault-at (now (c .before .before .before .before .before .before .before .before .before .before .before .before .args .lines)) (c .before .before .before .before .before .before .before .before .before .before .before .before .args .x) (valueAt (now (c .before .before .before .before .before .before .before .before .before .before .before .before .args .lines)) (now (c .before .before .before .before .before .before .before .before .before .before .before .before .args .code)) (c .before .before .before .before .before .before .before .before .before .before .before .before .args .x) (now (c .before .before .before .before .before .before .before .before .before .before .before .before .args .input-types)) (now (c .before .before .before .before .before .before .before .before .before .before .before .before .args .variable-types)) (now (c .before .before .before .before .before .before .before .before .before .before .before .before .args .inputs)) (now (c .before .before .before .before .before .before .before .before .before .before .before .before .args .variables))) (now (c .before .before .before .before .before .before .before .before .before .before .before .before .args .outputs)) (now (c .before .before .before .before .before .before .before .before .before .before .before .before .args .variables)) _ _ _
+    (c .before .before .before .before .before .before .before .kind .ensures) (c .before .before .before .before .before .before .if1 .left) (c .before .before .before .before .before .if2 .left) (c .before .before .before .value .ensures) (c .before .e .given .1)
+
+-- src/lib.rt:75:1
+same-length-3 : tie.Need-same-length-3
+same-length-3 c = search needs
+
+-- src/lib.rt:75:1
+same-length-4 : tie.Need-same-length-4
+same-length-4 c = search needs
+
+-- src/lib.rt:75:1
+returns-5 : tie.Need-returns-5
+returns-5 c =
+    let h : SFits w32 (c .before .before .before .before .before .before .before .before .before .before .e2 .given .0 .1 .0) = search needs in
+    store-at (now (c .before .before .before .before .before .before .before .before .before .before .before .before .before .before .before .before .before .before .before .before .before .args .lines)) (c .before .before .before .before .before .before .before .before .before .before .before .before .before .before .before .before .before .before .before .before .before .args .x) (valueAt (now (c .before .before .before .before .before .before .before .before .before .before .before .before .before .before .before .before .before .before .before .before .before .args .lines)) (now (c .before .before .before .before .before .before .before .before .before .before .before .before .before .before .before .before .before .before .before .before .before .args .code)) (c .before .before .before .before .before .before .before .before .before .before .before .before .before .before .before .before .before .before .before .before .before .args .x) (now (c .before .before .before .before .before .before .before .before .before .before .before .before .before .before .before .before .before .before .before .before .before .args .input-types)) (now (c .before .before .before .before .before .before .before .before .before .before .before .before .before .before .before .before .before .before .before .before .before .args .variable-types)) (now (c .before .before .before .before .before .before .before .before .before .before .before .before .before .before .before .before .before .before .before .before .before .args .inputs)) (now (c .before .before .before .before .before .before .before .before .before .before .before .before .before .before .before .before .before .before .before .before .before .args .variables))) (now (c .before .before .before .before .before .before .before .before .before .before .before .before .before .before .before .before .before .before .before .before .before .args .outputs)) (now (c .before .before .before .before .before .before .before .before .before .before .before .before .before .before .before .before .before .before .before .before .before .args .variables)) _ _ _ _ _ _ _ _
+    (c .before .before .before .before .before .before .before .before .before .before .before .before .before .before .before .before .kind .ensures) (c .before .before .before .before .before .before .before .before .before .before .before .before .before .before .before .if1 .left) (c .before .before .before .before .before .before .before .before .before .before .before .before .before .before .if2 .left) (c .before .before .before .before .before .before .before .before .if3 .left) (c .before .before .before .before .before .before .before .before .before .before .before .before .value .ensures) (c .before .before .before .before .before .before .before .before .before .before .e2 .given .1)
+    (c .field2 .ensures .0) (c .before .before .before .before .before .before .before .target .ensures) (rw (toZ-ofZ h) at (c .before .before .before .before .before .store .ensures)) (rw (toZ-ofZ h) at (c .before .before .store2 .ensures))
+
+pub perform-spec : {M : Type 1} → statement M
+perform-spec =
+    tie.close
+    (tie.spec
+    kind-requires
+    returns
+    field-requires
+    returns-2
+    value-requires
+    enum-known-e
+    enum-known-e-2
+    branch-requires
+    same-length
+    returns-3
+    target-requires
+    cast-n
+    store-requires
+    store-requires-2
+    field-requires-2
+    same-length-2
+    returns-4
+    same-length-3
+    same-length-4
+    returns-5)

@@ -1,0 +1,4 @@
+pub mod Fields
+pub mod Moves
+pub mod Follow
+pub mod Held

@@ -1,0 +1,186 @@
+// One line of a table performed: its fields read from the lines section, its code evaluated, its target stored.
+ghost use mathlib.Core.Path.{_≡_};
+ghost use Prim.Native.Nat.{_+_, _*_, _<_};
+ghost use mathlib.Core.Bool.{cond};
+ghost use lib.ListN.{getD, set};
+ghost use lib.Dec.{eqb};
+ghost use Rattle.semantics.specs.Evaluation.{isOne};
+ghost use Rattle.format.specs.Words.{word2At};
+ghost use Rattle.lines.specs.Fields.{kindAt, targetAt, offsetAt, sizeAt, nextAt, otherAt};
+ghost use Rattle.lines.specs.Moves.{valueAt, moveAt, storedAt, storedOf};
+ghost use Rattle.lines.specs.Follow.{followAt};
+use evaluator::Evaluated;
+
+// What a line leads to: the end of the cycle at this wait, the line to follow, or a refusal's number.
+pub enum Move {
+    Wait,
+    Next(u32),
+    Refused(u8),
+}
+
+// The two-byte field that stands k bytes behind the beginning of line x.
+pub fn field(lines: &[u8], x: u32, k: u8) -> u32
+    ensures { λ r. ⌜ r ≡ word2At (now (lines .entry)) (x * 12 + k) ⌝ }
+    ensures { λ r. ⌜ r < 65536 ⌝ }
+{
+    words::word2(lines, (x as usize) * 12 + (k as usize))
+}
+
+// The kind byte of line x.
+pub fn kind(lines: &[u8], x: u32) -> u8
+    ensures { λ r. ⌜ r ≡ kindAt (now (lines .entry)) x ⌝ }
+{
+    words::byte(lines, (x as usize) * 12)
+}
+
+// The target byte of line x.
+fn target(lines: &[u8], x: u32) -> u8
+    ensures { λ r. ⌜ r ≡ targetAt (now (lines .entry)) x ⌝ }
+{
+    words::byte(lines, (x as usize) * 12 + 1)
+}
+
+// Stores a value in the row that lines of kind w store into, if the line is of that kind and the row has that place.
+fn store(row: &mut [i32], w: u8, k: u8, n: usize, v: i32)
+    ensures { λ _. ⌜ now (row .exit) ≡ cond (eqb k w) (set (now (row .entry)) n v) (now (row .entry)) ⌝ }
+{
+    if k != w {
+        return;
+    }
+    if n < row.len() {
+        row[n] = v;
+    }
+}
+
+// The line that a branch takes for a value.
+fn branch(lines: &[u8], x: u32, v: i32) -> u32
+    ensures { λ r. ⌜ r ≡ cond (isOne v) (nextAt (now (lines .entry)) x) (otherAt (now (lines .entry)) x) ⌝ }
+{
+    if signed::is_one(v) {
+        field(lines, x, 6)
+    } else {
+        field(lines, x, 8)
+    }
+}
+
+// The value of the code of line x.
+fn value(
+    lines: &[u8],
+    code: &[u8],
+    x: u32,
+    inputs: &[i32],
+    input_types: &[u8],
+    variables: &[i32],
+    variable_types: &[u8],
+) -> Evaluated
+    ensures { λ r. ⌜ r ≡ valueAt (now (lines .entry)) (now (code .entry)) x (now («input_types» .entry)) (now («variable_types» .entry)) (now (inputs .entry)) (now (variables .entry)) ⌝ }
+{
+    let start = field(lines, x, 2) as usize;
+    let size = field(lines, x, 4) as usize;
+    evaluator::evaluate(
+        code,
+        start,
+        size,
+        inputs,
+        input_types,
+        variables,
+        variable_types,
+    )
+}
+
+// Performs line x: its value is stored in its target, or decides which line follows.
+pub fn perform(
+    lines: &[u8],
+    code: &[u8],
+    x: u32,
+    inputs: &[i32],
+    input_types: &[u8],
+    variable_types: &[u8],
+    outputs: &mut [i32],
+    variables: &mut [i32],
+) -> Move
+    ensures { λ r. ⌜ r ≡ moveAt (now (lines .entry)) x (valueAt (now (lines .entry)) (now (code .entry)) x (now («input_types» .entry)) (now («variable_types» .entry)) (now (inputs .entry)) (now (variables .entry))) ⌝ }
+    ensures { λ _. ⌜ now (outputs .exit) ≡ storedAt 1 (now (lines .entry)) x (valueAt (now (lines .entry)) (now (code .entry)) x (now («input_types» .entry)) (now («variable_types» .entry)) (now (inputs .entry)) (now (variables .entry))) (now (outputs .entry)) ⌝ }
+    ensures { λ _. ⌜ now (variables .exit) ≡ storedAt 2 (now (lines .entry)) x (valueAt (now (lines .entry)) (now (code .entry)) x (now («input_types» .entry)) (now («variable_types» .entry)) (now (inputs .entry)) (now (variables .entry))) (now (variables .entry)) ⌝ }
+{
+    let k = kind(lines, x);
+    if k == 0 {
+        return Move::Wait;
+    }
+    if k == 4 {
+        return Move::Next(field(lines, x, 6));
+    }
+    let e = value(
+        lines,
+        code,
+        x,
+        inputs,
+        input_types,
+        variables,
+        variable_types,
+    );
+    match e {
+        Evaluated::Fault(q) => Move::Refused(q),
+        Evaluated::Value(_, v) => {
+            if k == 3 {
+                return Move::Next(branch(lines, x, v));
+            }
+            let n = target(lines, x) as usize;
+            store(outputs, 1, k, n, v);
+            store(variables, 2, k, n, v);
+            Move::Next(field(lines, x, 6))
+        }
+    }
+}
+
+// Where lines lead: to a wait, with the number of lines performed; to a refusal's number at a line; or to no wait within the lines allowed.
+pub enum Followed {
+    Reached(u32, u32),
+    Stopped(u8, u32),
+    Spent,
+}
+
+// Follows the lines from a line on, at most `limit` of them.
+pub fn follow(
+    lines: &[u8],
+    code: &[u8],
+    first: u32,
+    limit: u32,
+    inputs: &[i32],
+    input_types: &[u8],
+    variable_types: &[u8],
+    outputs: &mut [i32],
+    variables: &mut [i32],
+) -> Followed
+    ensures { λ r. ⌜ r ≡ followAt (now (lines .entry)) (now (code .entry)) (now («input_types» .entry)) (now («variable_types» .entry)) (now (inputs .entry)) limit first 0 (now (outputs .entry)) (now (variables .entry)) .answer ⌝ }
+    ensures { λ _. ⌜ now (outputs .exit) ≡ followAt (now (lines .entry)) (now (code .entry)) (now («input_types» .entry)) (now («variable_types» .entry)) (now (inputs .entry)) limit first 0 (now (outputs .entry)) (now (variables .entry)) .outputs ⌝ }
+    ensures { λ _. ⌜ now (variables .exit) ≡ followAt (now (lines .entry)) (now (code .entry)) (now («input_types» .entry)) (now («variable_types» .entry)) (now (inputs .entry)) limit first 0 (now (outputs .entry)) (now (variables .entry)) .variables ⌝ }
+{
+    let mut x = first;
+    let mut left = limit;
+    while 0 < left {
+        let m = perform(
+            lines,
+            code,
+            x,
+            inputs,
+            input_types,
+            variable_types,
+            outputs,
+            variables,
+        );
+        left -= 1;
+        match m {
+            Move::Wait => {
+                return Followed::Reached(x, limit - left);
+            }
+            Move::Next(y) => {
+                x = y;
+            }
+            Move::Refused(q) => {
+                return Followed::Stopped(q, x);
+            }
+        }
+    }
+    Followed::Spent
+}

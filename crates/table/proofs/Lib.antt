@@ -1,0 +1,5 @@
+pub mod Positions
+pub mod Opened
+pub mod Fields
+pub mod Steps
+pub mod Judged

@@ -1,0 +1,130 @@
+-- The steps of the loops: what holds of the rest of a row or of slots from an index holds of the rest from the next. Assumes nothing.
+use Prim.Native.Nat.{ℕ, zero, suc, _+_, _-_, _*_, _/_, _≤_, _<_}
+use native.Mathlib.Numerals.{add-one}
+use native.Mathlib.Omega.{arith}
+use native.Mathlib.Decide.{decLt}
+use mathlib.Core.Path.{_≡_, refl, sym, ap, _∙_}
+use mathlib.Core.Bool.{true, false, cond, _&&_}
+use mathlib.Core.Option.{none, some}
+use mathlib.Core.List.{List, [], _∷_}
+use lib.ListN.{length, getD, take, drop, set, drop-of-length-le}
+use lib.Seq.{take-suc, take-suc-set, take-all, drop-cons}
+use lib.IntN.{ℤ, pos}
+use lib.Dec.{ltb, leb, eqb}
+use borrow.Author.Tests.{lt-ltb, le-ltb, le-leb, lt-leb, eq-eqb, ne-eqb}
+use Rattle.format.specs.State.{zeros, pad}
+use Rattle.signed.specs.Signed.{inTypeByte}
+use Rattle.table.specs.Places.{wrongFrom, slotAt, slotsAt, initialAt, initialsAt, placeAt}
+
+-- Input values.
+
+module _ (s : List ℕ) (l : List ℤ) (k : ℕ) where
+  wrong-step : k < length l
+      → wrongFrom s k (drop k l) ≡ cond (inTypeByte (getD s (3 + k) 0) (getD l k (pos 0))) (wrongFrom s (k + 1) (drop (k + 1) l)) (some k)
+  unfolding wrongFrom
+  wrong-step h = rw (add-one k, drop-cons l k (pos 0) h)
+
+  pub wrong-again : k < length l → inTypeByte (getD s (3 + k) 0) (getD l k (pos 0)) ≡ true → wrongFrom s (k + 1) (drop (k + 1) l) ≡ wrongFrom s k (drop k l)
+  wrong-again h e = sym (wrong-step h ∙ rw e)
+
+  pub wrong-here : k < length l → inTypeByte (getD s (3 + k) 0) (getD l k (pos 0)) ≡ false → some k ≡ wrongFrom s k (drop k l)
+  wrong-here h e = sym (wrong-step h ∙ rw e)
+
+  pub wrong-end : length l ≤ k → none ≡ wrongFrom s k (drop k l)
+  unfolding wrongFrom
+  wrong-end h = rw (drop-of-length-le l h)
+
+-- Elements written one after the other.
+
+-- one more element of a list written to a row
+pub row-more : (row target : List ℤ) (k : ℕ) (v : ℤ) → k < length row → k < length target → take k row ≡ take k target → v ≡ getD target k (pos 0)
+    → take (k + 1) (set row k v) ≡ take (k + 1) target
+row-more row target k v h j e f = rw add-one (take-suc-set row k v h ∙ rw (e, f) (sym (take-suc target k (pos 0) j)))
+
+-- all elements written
+pub row-whole : (row target : List ℤ) (n k : ℕ) → length row ≡ n → k ≤ n → length row ≤ k → take k row ≡ take k target → row ≡ take n target
+row-whole row target n k e l m h =
+    let p : k ≡ n = omega arith in
+    sym (take-all k row m) ∙ h ∙ ap (λ j. take j target) p
+
+-- Places.
+
+module _ (l : List ℕ) (p : ℕ) where
+  pub place-beginning : p ≡ 512 → true ≡ placeAt l p
+  unfolding placeAt
+  place-beginning e = rw (eq-eqb p 512 e)
+
+  pub place-line : (p ≡ 512 → ⊥) → p < length l / 12 → eqb (getD l (p * 12) 0) 0 ≡ placeAt l p
+  unfolding placeAt
+  place-line f h = rw (ne-eqb p 512 f, lt-ltb p (length l / 12) h)
+
+  pub place-none : (p ≡ 512 → ⊥) → length l / 12 ≤ p → false ≡ placeAt l p
+  unfolding placeAt
+  place-none f h = rw (ne-eqb p 512 f, le-ltb p (length l / 12) h)
+
+-- Slots.
+
+-- the index k of n things, or the first of those left
+left-first : (k n : ℕ) → ltb 0 (n - k) ≡ ltb k n
+left-first k n = go (decLt k n)
+  where
+    go : Dec (k < n) → ltb 0 (n - k) ≡ ltb k n
+    go (yes h) = rw (lt-ltb k n h, lt-ltb 0 (n - k) (omega arith))
+    go (no h) = rw (le-ltb k n (omega arith), le-ltb 0 (n - k) (omega arith))
+
+slots-cons : (s : List ℕ) (p m : ℕ) (z : ℤ) (l : List ℤ) → slotsAt s p m (z ∷ l) ≡ (slotAt s p (ltb 0 m) z && slotsAt s (p + 5) (m - 1) l)
+unfolding slotsAt zeros
+slots-cons s p zero z l = refl
+slots-cons s p (suc m) z l = let e : suc m - 1 ≡ m = omega arith in rw (lt-ltb 0 (suc m) (omega arith), e)
+
+module _ (s : List ℕ) (at n : ℕ) (l : List ℤ) (k : ℕ) where
+  slots-step : k < length l → slotsAt s (at + 5 * k) (n - k) (drop k l)
+      ≡ (slotAt s (at + 5 * k) (ltb k n) (getD l k (pos 0)) && slotsAt s (at + 5 * (k + 1)) (n - (k + 1)) (drop (k + 1) l))
+  slots-step h =
+      let a : at + 5 * k + 5 ≡ at + 5 * (k + 1) = omega arith in
+      let b : n - k - 1 ≡ n - (k + 1) = omega arith in
+      ap (slotsAt s (at + 5 * k) (n - k)) (drop-cons l k (pos 0) h)
+      ∙ slots-cons s (at + 5 * k) (n - k) (getD l k (pos 0)) (drop (suc k) l)
+      ∙ rw (left-first k n, a, b, ← add-one k)
+
+  pub slots-again : k < length l → slotAt s (at + 5 * k) (ltb k n) (getD l k (pos 0)) ≡ true
+      → slotsAt s (at + 5 * (k + 1)) (n - (k + 1)) (drop (k + 1) l) ≡ slotsAt s (at + 5 * k) (n - k) (drop k l)
+  slots-again h e = sym (slots-step h ∙ rw e)
+
+  pub slots-wrong : k < length l → slotAt s (at + 5 * k) (ltb k n) (getD l k (pos 0)) ≡ false → false ≡ slotsAt s (at + 5 * k) (n - k) (drop k l)
+  slots-wrong h e = sym (slots-step h ∙ rw e)
+
+  pub slots-end : k ≤ length l → length l ≤ k → leb n (length l) ≡ slotsAt s (at + 5 * k) (n - k) (drop k l)
+  unfolding slotsAt zeros
+  slots-end h g = rw (drop-of-length-le l g) (go (n - k) refl)
+    where
+      go : (m : ℕ) → n - k ≡ m → leb n (length l) ≡ slotsAt s (at + 5 * k) m []
+      go zero e = le-leb n (length l) (omega arith)
+      go (suc m) e = lt-leb n (length l) (omega arith)
+
+-- at the first slot the rest is the whole
+pub slots-first : (s : List ℕ) (at n : ℕ) (l : List ℤ) → slotsAt s (at + 5 * 0) (n - 0) (drop 0 l) ≡ slotsAt s at n l
+slots-first s at n l =
+    let a : at + 5 * 0 ≡ at = omega arith in
+    let b : n - 0 ≡ n = omega arith in
+    rw (a, b)
+
+-- Initial values.
+
+pad-unused : (m k : ℕ) → getD (pad m []) k (pos 0) ≡ pos 0
+unfolding pad
+pad-unused zero k = refl
+pad-unused (suc m) zero = refl
+pad-unused (suc m) (suc k) = pad-unused m k
+
+-- the slot k of those that are filled from n cells
+pub filled-at : (s : List ℕ) (p n m k : ℕ) → k < m → initialAt s (p + 5 * k + 1) (ltb k n) ≡ getD (pad m (initialsAt s p n)) k (pos 0)
+unfolding pad initialsAt
+filled-at s p zero m k h = rw (le-ltb k 0 (omega arith)) (sym (pad-unused m k))
+filled-at s p (suc n) zero k h = absurd (omega arith)
+filled-at s p (suc n) (suc m) zero h = let e : p + 5 * 0 ≡ p = omega arith in rw (lt-ltb 0 (suc n) (omega arith), e)
+filled-at s p (suc n) (suc m) (suc k) h =
+    let a : p + 5 * suc k ≡ p + 5 + 5 * k = omega arith in
+    let b : suc n - suc k ≡ n - k = omega arith in
+    let t : ltb (suc k) (suc n) ≡ ltb k n = sym (left-first (suc k) (suc n)) ∙ ap (ltb 0) b ∙ left-first k n in
+    rw (a, t) (filled-at s (p + 5) n m k (omega arith))

@@ -1,0 +1,60 @@
+-- What the signature and lines sections of an image hold, byte by byte (document 01, "Image, form 1", "State"). Assumes nothing.
+use mathlib.Core.Path.{_≡_}
+use mathlib.Core.Bool.{Bool, false, cond, _&&_, _||_}
+use mathlib.Core.Option.{Option, none, some}
+use mathlib.Core.List.{List, [], _∷_}
+use Prim.Native.Nat.{ℕ, zero, suc, _+_, _*_, _/_}
+use lib.ListN.{length, getD}
+use lib.IntN.{ℤ, pos}
+use lib.Dec.{ltb, eqb}
+use Rattle.design.specs.Types.{eqZ}
+use Rattle.signed.specs.Signed.{inTypeByte}
+use Rattle.format.specs.Words.{word4At, signed32}
+use Rattle.format.specs.Image.{Table}
+use Rattle.format.specs.Opening.{opened, openSections}
+use Rattle.format.specs.State.{zeros}
+
+-- the three sections are those of an image that opens to the table t: what the opener establishes, and all that a cycle rests on
+abbrev pub Opens : List ℕ → List ℕ → List ℕ → Table → Type 0
+Opens signature lines code t = openSections (record { signature = signature; lines = lines; code = code }) ≡ opened t
+
+-- "bytes for the counts of data inputs .., outputs, variables ..; a type byte per input; for each output": where the outputs begin
+abbrev pub outputsAt : List ℕ → ℕ
+outputsAt s = 3 + getD s 0 0
+
+-- "type and 4-byte initial value" of each output, "then variable": where the variables begin
+abbrev pub variablesAt : List ℕ → ℕ
+variablesAt s = outputsAt s + 5 * getD s 1 0
+
+-- the lowest index of an input value that is not of its type, the first value having the index k; input k's type byte stands at 3 + k
+unfoldable pub wrongFrom : List ℕ → ℕ → List ℤ → Option ℕ
+wrongFrom s k [] = none
+wrongFrom s k (z ∷ l) = cond (inTypeByte (getD s (3 + k) 0) z) (wrongFrom s (suc k) l) (some k)
+
+-- a slot whose type byte stands at p, or an unused one: "unused ones 0, a std_logic slot 0 or 1"
+abbrev pub slotAt : List ℕ → ℕ → Bool → ℤ → Bool
+slotAt s p used z = cond used (inTypeByte (getD s p 0) z) (eqZ z (pos 0))
+
+-- slots of the n outputs or variables that begin at p, then unused ones
+unfoldable pub slotsAt : List ℕ → ℕ → ℕ → List ℤ → Bool
+slotsAt s p zero l = zeros l
+slotsAt s p (suc n) [] = false
+slotsAt s p (suc n) (z ∷ l) = inTypeByte (getD s p 0) z && slotsAt s (p + 5) n l
+
+-- "the initial values": what the four bytes at p say, or 0 in an unused slot
+abbrev pub initialAt : List ℕ → ℕ → Bool → ℤ
+initialAt s p used = cond used (signed32 (word4At s p)) (pos 0)
+
+-- the initial values of the n outputs or variables that begin at p
+unfoldable pub initialsAt : List ℕ → ℕ → ℕ → List ℤ
+initialsAt s p zero = []
+initialsAt s p (suc n) = signed32 (word4At s (p + 1)) ∷ initialsAt s (p + 5) n
+
+-- the type bytes of the n outputs or variables that begin at p
+unfoldable pub typeBytesAt : List ℕ → ℕ → ℕ → List ℕ
+typeBytesAt s p zero = []
+typeBytesAt s p (suc n) = getD s p 0 ∷ typeBytesAt s (p + 5) n
+
+-- "A place (512 for the beginning, else a wait's line)": a 12-byte line whose "kind byte" is "0 wait"
+unfoldable pub placeAt : List ℕ → ℕ → Bool
+placeAt l p = eqb p 512 || (ltb p (length l / 12) && eqb (getD l (p * 12) 0) 0)

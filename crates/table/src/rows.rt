@@ -1,0 +1,52 @@
+// The input row judged against the signature, and the output row.
+ghost use mathlib.Core.Path.{_≡_};
+ghost use mathlib.Core.Option.{some};
+ghost use Prim.Native.Nat.{_≤_};
+ghost use lib.ListN.{length, take};
+ghost use Rattle.format.specs.Signature.{Signature, signatureOf};
+ghost use Rattle.format.specs.Cycle.{rowPlace};
+ghost use Rattle.table.specs.Places.{wrongFrom};
+ghost use Rattle.table.specs.Answers.{checkOf};
+use super::RowCheck;
+use super::signature::count;
+use super::signature::value_ok;
+
+// The lowest index of an input value that is not of its type.
+fn first_wrong(signature: &[u8], inputs: &[i32]) -> RowCheck
+    ensures { λ r. ⌜ r ≡ checkOf (wrongFrom (now (signature .entry)) 0 (now (inputs .entry))) ⌝ }
+{
+    let mut k: usize = 0;
+    while k < inputs.len() {
+        let right = value_ok(signature, 3 + k, inputs[k]);
+        if !right {
+            return RowCheck::WrongAt(k);
+        }
+        k += 1;
+    }
+    RowCheck::Right
+}
+
+// Refusal 14: both lengths first, then the input values; `room` is the output row's length.
+pub fn row_place(signature: &[u8], inputs: &[i32], room: usize) -> RowCheck
+    ensures { λ r. ⌜ ((σ : Signature) → signatureOf (now (signature .entry)) ≡ some σ → r ≡ checkOf (rowPlace σ (now (inputs .entry)) room)) ⌝ }
+{
+    if inputs.len() != count(signature, 0) {
+        return RowCheck::WrongAt(0);
+    }
+    if room != count(signature, 1) {
+        return RowCheck::WrongAt(0);
+    }
+    first_wrong(signature, inputs)
+}
+
+// The output row of a performed cycle: as many outputs as it has places for.
+pub fn write_row(outputs: &[i32; 16], row: &mut [i32])
+    requires { ⌜ (length (now outputs) ≡ 16) × (length (now row) ≤ 16) ⌝ }
+    ensures { λ _. ⌜ now (row .exit) ≡ take (length (now (row .entry))) (now (outputs .entry)) ⌝ }
+{
+    let mut k: usize = 0;
+    while k < row.len() {
+        row[k] = outputs[k];
+        k += 1;
+    }
+}

@@ -1,0 +1,111 @@
+// The state record judged against the sections, and the fresh state.
+ghost use mathlib.Core.Path.{_≡_};
+ghost use mathlib.Core.Option.{some};
+ghost use mathlib.Core.List.{List};
+ghost use Prim.Native.Nat.{ℕ, _<_};
+ghost use lib.ListN.{length};
+ghost use Rattle.format.specs.Signature.{signatureOf};
+ghost use Rattle.format.specs.Image.{Table};
+ghost use Rattle.format.specs.State.{stateOk, freshTable, pad};
+ghost use Rattle.table.specs.Places.{Opens, slotsAt, initialsAt, placeAt};
+use super::signature::count;
+use super::signature::initial;
+use super::signature::outputs_at;
+use super::signature::slot_ok;
+use super::signature::variables_at;
+use answers::State;
+use words::byte;
+
+// Whether a place is the beginning or a wait's line.
+pub fn place_ok(lines: &[u8], place: u16) -> bool
+    ensures { λ r. ⌜ r ≡ placeAt (now (lines .entry)) place ⌝ }
+{
+    if place == 512 {
+        return true;
+    }
+    let p = place as usize;
+    if p < lines.len() / 12 {
+        return byte(lines, p * 12) == 0;
+    }
+    false
+}
+
+// Whether slots hold values of the n outputs or variables that begin at a position, and 0 after them.
+fn slots_ok(signature: &[u8], at: usize, n: usize, slots: &[i32]) -> bool
+    requires { ⌜ at < 2048 ⌝ }
+    ensures { λ r. ⌜ r ≡ slotsAt (now (signature .entry)) at n (now (slots .entry)) ⌝ }
+{
+    let mut k: usize = 0;
+    while k < slots.len() {
+        let right = slot_ok(signature, at + 5 * k, k < n, slots[k]);
+        if !right {
+            return false;
+        }
+        k += 1;
+    }
+    n <= slots.len()
+}
+
+// Refusal 15: whether the state is one of the opened image.
+pub fn state_ok(signature: &[u8], lines: &[u8], s: State) -> bool
+    ensures { λ r. ⌜ ((t : Table) (code : List ℕ) → Opens (now (signature .entry)) (now (lines .entry)) code t → r ≡ stateOk t s) ⌝ }
+{
+    let placed = place_ok(lines, s.place);
+    if !placed {
+        return false;
+    }
+    let outputs = s.outputs;
+    let right = slots_ok(
+        signature,
+        outputs_at(signature),
+        count(signature, 1),
+        &outputs,
+    );
+    if !right {
+        return false;
+    }
+    let variables = s.variables;
+    slots_ok(
+        signature,
+        variables_at(signature),
+        count(signature, 2),
+        &variables,
+    )
+}
+
+// Puts the initial values of the n outputs or variables that begin at a position into slots, and 0 after them.
+fn fill(signature: &[u8], at: usize, n: usize, slots: &mut [i32])
+    requires { ⌜ at < 2048 ⌝ }
+    ensures { λ _. ⌜ now (slots .exit) ≡ pad (length (now (slots .entry))) (initialsAt (now (signature .entry)) at n) ⌝ }
+{
+    let mut k: usize = 0;
+    while k < slots.len() {
+        slots[k] = initial(signature, at + 5 * k + 1, k < n);
+        k += 1;
+    }
+}
+
+// The fresh state: the beginning, and the initial values.
+pub fn fresh(signature: &[u8]) -> State
+    ensures { λ r. ⌜ ((t : Table) → signatureOf (now (signature .entry)) ≡ some (t .signature) → r ≡ freshTable t) ⌝ }
+{
+    let mut outputs = [0i32; 16];
+    fill(
+        signature,
+        outputs_at(signature),
+        count(signature, 1),
+        &mut outputs,
+    );
+    let mut variables = [0i32; 32];
+    fill(
+        signature,
+        variables_at(signature),
+        count(signature, 2),
+        &mut variables,
+    );
+    State {
+        place: 512,
+        outputs,
+        variables,
+    }
+}
