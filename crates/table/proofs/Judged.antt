@@ -1,23 +1,24 @@
 -- Rows, states and the fresh state judged by the bytes are those judged by the table: the laws by position put together. Assumes nothing.
-use Prim.Native.Nat.{ℕ, _≤_}
+use Prim.Native.Nat.{ℕ, _-_, _≤_, _<_}
 use native.Mathlib.Omega.{arith}
 use mathlib.Core.Path.{_≡_, refl, sym, ap, _∙_}
 use mathlib.Core.Bool.{true, false, _&&_}
 use mathlib.Core.Option.{Option, none, some}
-use mathlib.Core.List.{List}
-use lib.ListN.{length, getD}
+use mathlib.Core.List.{List, _++_}
+use lib.ListN.{length, getD, take, drop, length-append, length-drop}
+use lib.Seq.{take-at}
 use lib.IntN.{ℤ}
 use borrow.Author.Tests.{eq-eqb, ne-eqb}
 use Rattle.answers.specs.declared.State.{State}
-use Rattle.format.specs.Signature.{Signature, initials, signatureOf}
+use Rattle.format.specs.Signature.{Signature, types, initials, typeBytes, signatureOf}
 use Rattle.format.specs.Image.{Table}
 use Rattle.format.specs.State.{stateOk, stateFor, freshTable, pad}
 use Rattle.format.specs.Cycle.{rowPlace}
 use Rattle.images.proofs.InputRows.{row-right}
 use Rattle.table.specs.declared.RowCheck.the-variants.{Right, WrongAt}
-use Rattle.table.specs.Places.{Opens, outputsAt, variablesAt, wrongFrom, slotsAt, initialsAt, placeAt}
+use Rattle.table.specs.Places.{Opens, outputsAt, variablesAt, wrongFrom, slotsAt, initialsAt, typeBytesAt, placeAt}
 use Rattle.table.specs.Answers.{checkOf}
-use Rattle.table.proofs.Positions.{signature-placed, wrong-values, slots-of-cells, initials-of-cells}
+use Rattle.table.proofs.Positions.{signature-placed, wrong-values, slots-of-cells, initials-of-cells, types-of-cells, type-bytes-length}
 use Rattle.table.proofs.Opened.{opens-signature}
 use Rattle.table.proofs.Fields.{opens-place}
 
@@ -91,3 +92,33 @@ fresh-judged s o v a n b m ea en eb em eo ev t e =
     let y : v ≡ pad 32 (initials (t .signature .variables)) =
     ev ∙ rw (eb, em, p .variables-count) (ap (pad 32) (initials-of-cells s (variablesAt s) (t .signature .variables) (p .variables))) in
     λ j. record { place = 512; outputs = x j; variables = y j }
+
+-- Type bytes.
+
+module _ (s : List ℕ) (σ : Signature) (e : signatureOf s ≡ some σ) where
+  inputs-room : outputsAt s ≤ length s
+  inputs-room =
+      let p = signature-placed s σ e in
+      let d = simp (length-drop, length-append) at (ap length (p .input-bytes .1)) in
+      omega (arith, d, p .long, p .inputs-count, type-bytes-length (σ .inputs))
+
+  -- the part of the section that holds the inputs' type bytes
+  pub inputs-part : (x : ℕ) → x ≡ outputsAt s → take (x - 3) (drop 3 s) ≡ typeBytes (σ .inputs)
+  inputs-part x h =
+      let p = signature-placed s σ e in
+      let n : length (typeBytes (σ .inputs)) ≡ x - 3 = omega (arith, p .inputs-count, type-bytes-length (σ .inputs)) in
+      ap (take (x - 3)) (p .input-bytes .1) ∙ take-at (typeBytes (σ .inputs)) (p .input-bytes .0) (x - 3) n
+
+  -- the section has room for them
+  pub inputs-inside : {A : Type 0} (x : ℕ) → x ≡ outputsAt s → length s < x → A
+  inputs-inside x h q = absurd (omega (arith, inputs-room))
+
+  -- the variables' type bytes, in front of what was there
+  pub variables-copied : (n a : ℕ) → n ≡ getD s 2 0 → a ≡ variablesAt s → (t u : List ℕ) → u ≡ typeBytesAt s a n ++ drop n t
+      → (n ≡ length (σ .variables)) × (u ≡ typeBytes (types (σ .variables)) ++ drop (length (σ .variables)) t)
+  variables-copied n a h g t u q =
+      let p = signature-placed s σ e in
+      (h ∙ p .variables-count, q ∙ rw (g, h, p .variables-count, types-of-cells s (variablesAt s) (σ .variables) (p .variables)))
+
+  pub variables-inside : {A : Type 0} (n m : ℕ) → n ≡ getD s 2 0 → 32 ≤ m → m < n → A
+  variables-inside n m h g q = let p = signature-placed s σ e in absurd (omega (arith, p .variables-count, p .few-variables))

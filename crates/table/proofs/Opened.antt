@@ -36,7 +36,8 @@ unless11-opened : (o : Option Sections) (k : Sections → Opened) (t : Table) �
 unless11-opened none k t e = absurd (let z : _≡_ {A = ℕ} 0 1 = cc in omega arith)
 unless11-opened (some x) k t e = (x, refl, e)
 
-tabled-opened : (σ : Signature) (rs : List ℕ) (r : Lined) (t : Table) → tabled σ rs r ≡ opened t → (σ ≡ t .signature) × (r ≡ lined (t .lines)) × (rs ≡ t .reaches)
+tabled-opened : (σ : Signature) (rs : List ℕ) (r : Lined) (t : Table) → tabled σ rs r ≡ opened t
+    → (σ ≡ t .signature) × (r ≡ lined (t .lines)) × (rs ≡ t .reaches)
 tabled-opened σ rs (lined ls) t e =
     let q : _≡_ {A = Table} (record { signature = σ; lines = ls; reaches = rs }) t = cc in
     (ap (λ u. u .signature) q, ap (λ u. lined (u .lines)) q, ap (λ u. u .reaches) q)

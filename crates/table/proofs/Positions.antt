@@ -37,6 +37,7 @@ pub record Placed (s : List ℕ) (σ : Signature) : Type 0 where
   pub inputs-count : getD s 0 0 ≡ length (σ .inputs)
   pub outputs-count : getD s 1 0 ≡ length (σ .outputs)
   pub variables-count : getD s 2 0 ≡ length (σ .variables)
+  pub long : 3 ≤ length s
   pub few-inputs : length (σ .inputs) ≤ 16
   pub few-outputs : length (σ .outputs) ≤ 16
   pub few-variables : length (σ .variables) ≤ 32
@@ -56,7 +57,8 @@ byte-type k t e =
     cond-case (eqb k 1) m (λ q m. eqb-true k 1 q ∙ ap typeByte (some-injective integer t m)) (λ q m. none-some t m))
 
 types-cons : (q : List ℕ) (n : ℕ) (p : List Ty × List ℕ) → readTypes (suc n) q ≡ some p
-    → (t : Ty) × (r : List Ty × List ℕ) × (typeOfByte (getD q 0 0) ≡ some t) × (readTypes n (drop 1 q) ≡ some r) × (_≡_ {A = List Ty × List ℕ} (t ∷ r .0, r .1) p)
+    → (t : Ty) × (r : List Ty × List ℕ) × (typeOfByte (getD q 0 0) ≡ some t) × (readTypes n (drop 1 q) ≡ some r)
+    × (_≡_ {A = List Ty × List ℕ} (t ∷ r .0, r .1) p)
     × (q ≡ getD q 0 0 ∷ drop 1 q)
 unfolding readTypes
 types-cons [] n p e = none-some p e
@@ -161,6 +163,7 @@ signature-placed (i ∷ o ∷ v ∷ r) σ e =
       inputs-count = sym (x .count);
       outputs-count = sym (y .count);
       variables-count = sym (z .count);
+      long = omega arith;
       few-inputs = omega (arith, x .count, leb-true i 16 (and-left (leb i 16) _ (l .0)));
       few-outputs = omega (arith, y .count, leb-true o 16 (and-left (leb o 16) _ (and-right (leb i 16) _ (l .0))));
       few-variables = omega (arith, z .count, leb-true v 32 (and-right (leb o 16) _ (and-right (leb i 16) _ (l .0))));

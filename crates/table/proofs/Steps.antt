@@ -6,15 +6,15 @@ use native.Mathlib.Decide.{decLt}
 use mathlib.Core.Path.{_≡_, refl, sym, ap, _∙_}
 use mathlib.Core.Bool.{true, false, cond, _&&_}
 use mathlib.Core.Option.{none, some}
-use mathlib.Core.List.{List, [], _∷_}
+use mathlib.Core.List.{List, [], _∷_, _++_, append-assoc}
 use lib.ListN.{length, getD, take, drop, set, drop-of-length-le}
-use lib.Seq.{take-suc, take-suc-set, take-all, drop-cons}
+use lib.Seq.{take-suc, take-suc-set, take-all, drop-cons, set-at}
 use lib.IntN.{ℤ, pos}
 use lib.Dec.{ltb, leb, eqb}
 use borrow.Author.Tests.{lt-ltb, le-ltb, le-leb, lt-leb, eq-eqb, ne-eqb}
 use Rattle.format.specs.State.{zeros, pad}
 use Rattle.signed.specs.Signed.{inTypeByte}
-use Rattle.table.specs.Places.{wrongFrom, slotAt, slotsAt, initialAt, initialsAt, placeAt}
+use Rattle.table.specs.Places.{wrongFrom, slotAt, slotsAt, initialAt, initialsAt, typeBytesAt, placeAt}
 
 -- Input values.
 
@@ -128,3 +128,32 @@ filled-at s p (suc n) (suc m) (suc k) h =
     let b : suc n - suc k ≡ n - k = omega arith in
     let t : ltb (suc k) (suc n) ≡ ltb k n = sym (left-first (suc k) (suc n)) ∙ ap (ltb 0) b ∙ left-first k n in
     rw (a, t) (filled-at s (p + 5) n m k (omega arith))
+
+-- Type bytes.
+
+type-bytes-count : (s : List ℕ) (p n : ℕ) → length (typeBytesAt s p n) ≡ n
+unfolding typeBytesAt
+type-bytes-count s p zero = refl
+type-bytes-count s p (suc n) = ap suc (type-bytes-count s (p + 5) n)
+
+-- none copied
+pub copy-first : (s : List ℕ) (p : ℕ) (t : List ℕ) → t ≡ typeBytesAt s p 0 ++ drop 0 t
+unfolding typeBytesAt
+copy-first s p t = refl
+
+-- one more type byte is the last
+type-bytes-last : (s : List ℕ) (p k : ℕ) → typeBytesAt s p (suc k) ≡ typeBytesAt s p k ++ (getD s (p + 5 * k) 0 ∷ [])
+unfolding typeBytesAt
+type-bytes-last s p zero = let e : p + 5 * 0 ≡ p = omega arith in rw e
+type-bytes-last s p (suc k) =
+    let e : p + 5 * suc k ≡ p + 5 + 5 * k = omega arith in
+    rw e (ap (λ l. getD s p 0 ∷ l) (type-bytes-last s (p + 5) k))
+
+-- one more type byte copied
+pub copy-more : (s : List ℕ) (p k : ℕ) (t u : List ℕ) (b : ℕ) → k < length t → u ≡ typeBytesAt s p k ++ drop k t → b ≡ getD s (p + 5 * k) 0
+    → set u k b ≡ typeBytesAt s p (k + 1) ++ drop (k + 1) t
+copy-more s p k t u b h e f =
+    let x = typeBytesAt s p k in
+    ap (λ l. set l k b) (e ∙ ap (λ l. x ++ l) (drop-cons t k 0 h))
+    ∙ set-at x (getD t k 0) (drop (suc k) t) b k (type-bytes-count s p k)
+    ∙ rw (add-one k, type-bytes-last s p k, f) (sym (append-assoc x (getD s (p + 5 * k) 0 ∷ []) (drop (suc k) t)))

@@ -4,6 +4,7 @@ pub mod signature; // counts, types and initial values by position
 pub mod rows; // refusal 14, and the output row
 pub mod states; // refusal 15, and the fresh state
 pub mod lines; // where a cycle begins
+pub mod types; // the type bytes that code is evaluated over
 
 // What refusal 14 says of the rows: they are right, or wrong at a place.
 pub enum RowCheck {

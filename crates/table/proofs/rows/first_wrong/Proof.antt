@@ -42,7 +42,8 @@ returns c =
     let a = c .before .before .before .before .before .before .args in
     let l = c .before .before .before .before .loop in
     let h : SFits w32 (getD (a .inputs .now) (l .k) (pos 0)) = search needs in
-    ap checkOf (wrong-here (a .signature .now) (a .inputs .now) (l .k) (c .before .before .before .loop-test .taken) (sym (rw (toZ-ofZ h) at (c .before .value-ok .ensures)) ∙ not-true _ (c .if1 .taken)) ∙ l .inv)
+    ap checkOf (wrong-here (a .signature .now) (a .inputs .now) (l .k) (c .before .before .before .loop-test .taken)
+    (sym (rw (toZ-ofZ h) at (c .before .value-ok .ensures)) ∙ not-true _ (c .if1 .taken)) ∙ l .inv)
 
 add-k : tie.Need-add-k Inv-loop μ-loop
 add-k c = search needs
@@ -55,7 +56,8 @@ loop-again c =
     let a = c .before .before .before .before .before .before .args in
     let l = c .before .before .before .before .loop in
     let h : SFits w32 (getD (a .inputs .now) (l .k) (pos 0)) = search needs in
-    wrong-again (a .signature .now) (a .inputs .now) (l .k) (c .before .before .before .loop-test .taken) (sym (rw (toZ-ofZ h) at (c .before .value-ok .ensures)) ∙ not-false _ (c .if1 .left)) ∙ l .inv
+    wrong-again (a .signature .now) (a .inputs .now) (l .k) (c .before .before .before .loop-test .taken)
+    (sym (rw (toZ-ofZ h) at (c .before .value-ok .ensures)) ∙ not-false _ (c .if1 .left)) ∙ l .inv
 
 returns-2 : tie.Need-returns-2 Inv-loop μ-loop
 returns-2 c =

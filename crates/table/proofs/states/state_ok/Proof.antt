@@ -20,7 +20,8 @@ place-ok-requires c κs = search needs
 returns : tie.Need-returns
 returns c =
     let w = c .before .before .before .before in
-    place-wrong (w .args .signature .now) (w .args .lines .now) (w .args .s) (outputs-long w) (variables-long w) (sym (c .before .place-ok .ensures) ∙ not-true _ (c .if1 .taken))
+    place-wrong (w .args .signature .now) (w .args .lines .now) (w .args .s) (outputs-long w) (variables-long w)
+    (sym (c .before .place-ok .ensures) ∙ not-true _ (c .if1 .taken))
 
 outputs-at-requires : tie.Need-outputs-at-requires
 outputs-at-requires c κs = search needs
@@ -38,7 +39,8 @@ returns-2 : tie.Need-returns-2
 returns-2 c =
     let d = c .before .before .before .before .before .before in
     let w = d .before .before .before .before in
-    outputs-wrong (w .args .signature .now) (w .args .lines .now) (w .args .s) (outputs-long w) (variables-long w) (sym (d .before .place-ok .ensures) ∙ not-false _ (d .if1 .left))
+    outputs-wrong (w .args .signature .now) (w .args .lines .now) (w .args .s) (outputs-long w) (variables-long w)
+    (sym (d .before .place-ok .ensures) ∙ not-false _ (d .if1 .left))
     (c .before .before .before .before .outputs-at .result) (c .before .before .before .count .result)
     (c .before .before .before .before .outputs-at .ensures .0) (c .before .before .before .count .ensures .0)
     (sym (c .before .slots-ok .ensures) ∙ not-true _ (c .if2 .taken))
@@ -61,7 +63,8 @@ returns-3 c =
     let d = b .before .before .before .before .before .before in
     let w = d .before .before .before .before in
     λ t code e. c .slots-ok2 .ensures
-    ∙ variables-judged (w .args .signature .now) (w .args .lines .now) (w .args .s) (outputs-long w) (variables-long w) (sym (d .before .place-ok .ensures) ∙ not-false _ (d .if1 .left))
+    ∙ variables-judged (w .args .signature .now) (w .args .lines .now) (w .args .s) (outputs-long w) (variables-long w)
+    (sym (d .before .place-ok .ensures) ∙ not-false _ (d .if1 .left))
     (b .before .before .before .before .outputs-at .result) (b .before .before .before .count .result)
     (b .before .before .before .before .outputs-at .ensures .0) (b .before .before .before .count .ensures .0)
     (sym (b .before .slots-ok .ensures) ∙ not-false _ (b .if2 .left))
