@@ -88,7 +88,7 @@ wait-line (waits f) h = (f, refl)
 wait-line (acts a f) h = false-true h
 wait-line (branches e f g) h = false-true h
 
-place-exactly : (t : List Line) (p : ℕ) → (placeOk t p ≡ true) ↔ ((p ≡ 512) ⊎ WaitAt t p)
+pub place-exactly : (t : List Line) (p : ℕ) → (placeOk t p ≡ true) ↔ ((p ≡ 512) ⊎ WaitAt t p)
 unfolding placeOk
 place-exactly t p = (to, back)
   where

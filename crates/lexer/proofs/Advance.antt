@@ -1,16 +1,16 @@
 -- What a piece at a place says of the rest of the text: lexing goes on behind a gap or a token, and stops where no token begins. Assumes nothing.
 use mathlib.Core.Path.{_≡_, refl, sym, _∙_, ap, subst}
-use mathlib.Core.Bool.{Bool, true, false, cond}
+use mathlib.Core.Bool.{cond}
 use mathlib.Core.List.{List, [], _∷_, _++_}
 use Prim.Native.Nat.{ℕ, zero, suc, pred, _+_, _-_, _≤_, _<_}
 use native.Mathlib.Omega.{arith}
 use lib.Dec.{eqb}
 use lib.ListN.{length, getD, take, drop, drop-of-length-le, length-append, length-drop}
-use lib.Seq.{drop-cons, drop-drop, drop-length}
+use lib.Seq.{drop-cons, drop-drop}
 use borrow.Author.Tests.{ne-eqb}
 use Rattle.grammar.specs.Token.{Token}
 use Rattle.language.specs.Lexing.{Meaning}
-use Rattle.language.specs.Lexer.{Start, lexeme, unknown, startOf, Lexed, tokens, _▸_, onStart, lexFrom, onToken, tokenFrom}
+use Rattle.language.specs.Lexer.{Start, lexeme, unknown, startOf, tokens, _▸_, onStart, lexFrom, onToken, tokenFrom}
 use Rattle.language.specs.Lexer as L
 use Rattle.language.proofs.Lexing.{Here, gap, token, bad, none, starts}
 use Rattle.language.proofs.LexExact.{gap-something, token-something, piece-some}
@@ -18,7 +18,7 @@ use Rattle.lexer.specs.declared.pieces.Piece.{Piece}
 use Rattle.lexer.specs.declared.pieces.Piece.the-variants as P
 use Rattle.lexer.specs.Places.{part}
 use Rattle.lexer.specs.Pieces.{placed, pieceFrom, pieceAt}
-use Rattle.lexer.specs.Tokens.{onFound, foundFrom}
+use Rattle.lexer.specs.Tokens.{foundFrom}
 
 -- a piece has a byte, and is no longer than the text
 abbrev Sized : ℕ → Start → Type 0
@@ -59,7 +59,8 @@ token-skip p (b ∷ l) zero n = ap (λ (m : ℕ). tokenFrom (b ∷ l) 0 m p) (om
 token-skip p (b ∷ l) (suc k) n = token-skip p l k (suc n) ∙ ap (λ (m : ℕ). tokenFrom (drop k l) 0 m p) (omega arith)
 
 -- what passes over bytes so goes on behind a piece
-past : {A : Type 0} (f : List ℕ → ℕ → ℕ → A) → ((l : List ℕ) (k n : ℕ) → f l k n ≡ f (drop k l) 0 (n + k)) → (text : List ℕ) (i b : ℕ) (l : List ℕ) (j : ℕ) → drop i text ≡ b ∷ l
+past : {A : Type 0} (f : List ℕ → ℕ → ℕ → A) → ((l : List ℕ) (k n : ℕ) → f l k n ≡ f (drop k l) 0 (n + k))
+    → (text : List ℕ) (i b : ℕ) (l : List ℕ) (j : ℕ) → drop i text ≡ b ∷ l
     → f l j (suc i) ≡ f (drop (i + suc j) text) 0 (i + suc j)
 past f skip text i b l j e =
     let d : drop j l ≡ drop (i + suc j) text = ap (drop (suc j)) (sym e) ∙ drop-drop (suc j) i text in
@@ -127,10 +128,12 @@ advance text i h = go (getD text i 0) (drop (suc i) text) (drop-cons text i 0 h)
     go : (b : ℕ) (l : List ℕ) → drop i text ≡ b ∷ l → Advance text i (pieceAt text i)
     go b l e =
         let z : length (b ∷ l) ≡ length text - i = ap length (sym e) ∙ length-drop i text in
-        subst (λ (t : List ℕ). Advance text i (pieceFrom t i)) (sym e) (by-start text i b l e (startOf b l) refl (subst (λ (n : ℕ). Sized n (startOf b l)) z (start-sized (b ∷ l) (startOf b l) (starts b l))))
+        subst (λ (t : List ℕ). Advance text i (pieceFrom t i)) (sym e)
+        (by-start text i b l e (startOf b l) refl (subst (λ (n : ℕ). Sized n (startOf b l)) z (start-sized (b ∷ l) (startOf b l) (starts b l))))
 
 -- at the end of the text
-pub nothing-left : (text : List ℕ) (i : ℕ) → length text ≤ i → (lexFrom (drop i text) 0 i ≡ tokens []) × (foundFrom (drop i text) 0 i ≡ []) × ((p : ℕ) → tokenFrom (drop i text) 0 i p ≡ [])
+pub nothing-left : (text : List ℕ) (i : ℕ) → length text ≤ i → (lexFrom (drop i text) 0 i ≡ tokens []) × (foundFrom (drop i text) 0 i ≡ [])
+    × ((p : ℕ) → tokenFrom (drop i text) 0 i p ≡ [])
 unfolding lexFrom foundFrom tokenFrom
 nothing-left text i h = (rw (drop-of-length-le text h), rw (drop-of-length-le text h), λ p. rw (drop-of-length-le text h))
 

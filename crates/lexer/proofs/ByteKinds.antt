@@ -1,10 +1,10 @@
 -- The tests on a byte's kind, by its number. Assumes nothing.
-use mathlib.Core.Path.{_≡_, refl, sym, _∙_, ap}
+use mathlib.Core.Path.{_≡_, refl, sym, _∙_}
 use mathlib.Core.Bool.{Bool, true, false, _||_}
 use Prim.Native.Nat.{ℕ}
 use lib.Dec.{eqb, leb}
 use borrow.Author.Tests.{eqb-true, eqb-false, eq-eqb, ne-eqb}
-use Rattle.language.specs.Bytes.{ByteKind, letter, digit, underscore, blank, quote, mark, none, byteKind, kindCode, is, isDigit, isUnder, inWord}
+use Rattle.language.specs.Bytes.{ByteKind, letter, digit, underscore, blank, quote, mark, none, byteKind, kindCode, is, inWord}
 
 -- what a call computes, told by a test on its answer
 pub flag : {x q r : Bool} → r ≡ x → r ≡ q → x ≡ q

@@ -1,11 +1,9 @@
 -- The loop that fills the arrays: the tokens so far stand in them, and with those of the rest they are the text's. Assumes nothing.
 use mathlib.Core.Path.{_≡_, refl, sym, _∙_, ap}
-use mathlib.Core.Bool.{Bool, true, false, cond}
 use mathlib.Core.List.{List, [], _∷_, _++_, map, append-assoc, append-nil}
-use Prim.Native.Nat.{ℕ, zero, suc, _+_, _-_, _≤_, _<_}
+use Prim.Native.Nat.{ℕ, suc, _+_, _-_, _≤_, _<_}
 use native.Mathlib.Omega.{arith}
-use lib.Dec.{ltb}
-use lib.ListN.{length, getD, set, take, drop, length-append, length-map, length-drop}
+use lib.ListN.{length, set, drop, length-append, length-map}
 use lib.Seq.{sets}
 use borrow.Author.Tests.{lt-ltb, le-ltb}
 use Rattle.answers.specs.declared.Refusal.the-variants.{TextTooLong, NoToken}
@@ -112,7 +110,8 @@ module _ (text kinds₀ starts₀ sizes₀ : List ℕ) where
     all-found : foundFrom (drop i text) 0 i ≡ [] → f .done ≡ foundFrom text 0 0
     all-found e = sym (append-nil (f .done)) ∙ (ap (λ (ts : List Token). f .done ++ ts) (sym e) ∙ f .finds)
 
-    ended : (r : Lexed) → length text ≤ 16384 → foundFrom (drop i text) 0 i ≡ [] → r ≡ counted 0 (lex text) → Lexing text r kinds₀ kinds₁ starts₀ starts₁ sizes₀ sizes₁
+    ended : (r : Lexed) → length text ≤ 16384 → foundFrom (drop i text) 0 i ≡ [] → r ≡ counted 0 (lex text)
+        → Lexing text r kinds₀ kinds₁ starts₀ starts₁ sizes₀ sizes₁
     unfolding lexed found
     ended r h e a =
         let q = le-ltb 16384 (length text) h in

@@ -2,16 +2,14 @@
 -- arrays; refusal 1 exactly when it is too long; refusal 2 at p exactly when it stops there. Assumes nothing.
 use mathlib.Core.Path.{_≡_, refl, sym, _∙_, ap, subst}
 use mathlib.Core.Bool.{Bool, true, false, cond}
-use mathlib.Core.Logic.{_⊎_, inl, inr}
-use mathlib.Core.List.{List, [], _∷_, _++_, map}
+use mathlib.Core.List.{List, [], _∷_, _++_}
 use Prim.Native.Nat.{ℕ, zero, suc, pred, _+_, _-_, _≤_, _<_}
 use native.Mathlib.Omega.{arith}
 use lib.Dec.{ltb}
-use lib.ListN.{length, getD, drop, List·getD-append, length-drop}
+use lib.ListN.{length, getD, drop, List·getD-append}
 use lib.Seq.{sets-eq, getD-append-add, getD-drop}
-use borrow.Author.Tests.{ltb-true, ltb-false, le-ltb, lt-ltb}
-use Rattle.answers.specs.declared.Refusal.{Refusal}
-use Rattle.answers.specs.declared.Refusal.the-variants.{TextTooLong, NoToken}
+use borrow.Author.Tests.{ltb-true, ltb-false}
+use Rattle.answers.specs.declared.Refusal.the-variants.{TextTooLong}
 use Rattle.grammar.specs.Token.{Token}
 use Rattle.language.specs.Lexer.{Start, lexeme, unknown, startOf, tokens, malformed, _▸_, onStart, lexFrom, lex}
 use Rattle.language.specs.Lexer as L
@@ -31,7 +29,8 @@ found-all (b ∷ l) zero n ts e = go (startOf b l) (λ k us. found-all l k (suc 
     more x (tokens vs) us f ih = ap (λ (l : List Token). x ∷ l) (ih vs refl) ∙ (cc)
     more x (malformed p) us f ih = absurd (let z : _≡_ {A = ℕ} 0 1 = cc in omega arith)
 
-    go : (o : Start) → ((k : ℕ) (us : List Token) → lexFrom l k (suc n) ≡ tokens us → foundFrom l k (suc n) ≡ us) → onStart o n (λ k. lexFrom l k (suc n)) ≡ tokens ts → onFound o n (λ k. foundFrom l k (suc n)) ≡ ts
+    go : (o : Start) → ((k : ℕ) (us : List Token) → lexFrom l k (suc n) ≡ tokens us → foundFrom l k (suc n) ≡ us)
+        → onStart o n (λ k. lexFrom l k (suc n)) ≡ tokens ts → onFound o n (λ k. foundFrom l k (suc n)) ≡ ts
     go (L.gap k) ih f = ih (pred k) ts f
     go (lexeme k v s) ih f = more (record { kind = k; value = v; size = s; place = n }) (lexFrom l (pred s) (suc n)) (foundFrom l (pred s) (suc n)) f (ih (pred s))
     go unknown ih f = absurd (let z : _≡_ {A = ℕ} 0 1 = cc in omega arith)
@@ -66,4 +65,5 @@ pub write-past : (items before : List ℕ) (k : ℕ) → length items ≤ length
 write-past items before k h l =
     let n : k ≡ length items + (k - length items) = omega arith in
     rw (write-front items before h) (ap (λ (m : ℕ). getD (items ++ drop (length items) before) m 0) n
-    ∙ (getD-append-add items (drop (length items) before) (k - length items) 0 ∙ (getD-drop (length items) before (k - length items) 0 ∙ ap (λ (m : ℕ). getD before m 0) (sym n))))
+    ∙ (getD-append-add items (drop (length items) before) (k - length items) 0
+    ∙ (getD-drop (length items) before (k - length items) 0 ∙ ap (λ (m : ℕ). getD before m 0) (sym n))))

@@ -1,11 +1,10 @@
 -- The fixed tokens by their length: the first of the table that a text begins with is the longest, so three bytes, then two, then one, are compared.
 -- Assumes nothing.
 use mathlib.Core.Path.{_≡_, refl, sym, _∙_, ap}
-use mathlib.Core.Bool.{Bool, true, false, cond, _&&_, and-false}
+use mathlib.Core.Bool.{Bool, true, false, _&&_, and-false}
 use mathlib.Core.List.{List, [], _∷_, _++_}
 use Prim.Native.Nat.{ℕ, zero, suc, _+_, _≤_, _<_}
 use native.Mathlib.Omega.{arith}
-use native.Mathlib.Numerals.{add-one, add-two}
 use lib.Dec.{eqb, ltb}
 use lib.ListN.{length, getD, take, drop}
 use lib.Seq.{drop-cons, getD-drop}
@@ -13,10 +12,10 @@ use borrow.Author.Tests.{eqb-true, ltb-true, ne-eqb}
 use Rattle.language.specs.Bytes.{bytes}
 use Rattle.language.specs.Words.{Fixed, fixed}
 use Rattle.language.specs.Lexing.{equal}
-use Rattle.language.specs.Lexer.{begins, Start, lexeme, unknown, fixedStart}
+use Rattle.language.specs.Lexer.{begins, Start, fixedStart}
 use Rattle.language.proofs.Facts.{and-true-both}
 use Rattle.lexer.specs.declared.pieces.Piece.{Piece}
-use Rattle.lexer.specs.declared.pieces.Piece.the-variants.{Gap, Token, Nothing}
+use Rattle.lexer.specs.declared.pieces.Piece.the-variants.{Token, Nothing}
 use Rattle.lexer.specs.Fixed.{fixedKind, ofLength}
 use Rattle.lexer.specs.Pieces.{placed}
 use Rattle.lexer.proofs.WordLaws.{begins-take}
@@ -40,14 +39,16 @@ grouped n [] = true
 grouped n (f ∷ fs) = (eqb (length (f .bytes)) n && ltb 0 (f .kind)) && grouped n fs
 
 -- those of n bytes that stand first in a table, in one step
-group : (n : ℕ) (fs gs : List Fixed) (t : List ℕ) (at : ℕ) → grouped n fs ≡ true → placed (fixedStart (fs ++ gs) t) at ≡ tokenOr (fixedKind fs (take n t)) (at + n) (placed (fixedStart gs t) at)
+group : (n : ℕ) (fs gs : List Fixed) (t : List ℕ) (at : ℕ) → grouped n fs ≡ true
+    → placed (fixedStart (fs ++ gs) t) at ≡ tokenOr (fixedKind fs (take n t)) (at + n) (placed (fixedStart gs t) at)
 unfolding grouped fixedStart fixedKind
 group n [] gs t at g = refl
 group n (f ∷ fs) gs t at g =
     let u = and-true-both (eqb (length (f .bytes)) n && ltb 0 (f .kind)) (grouped n fs) g in
     let v = and-true-both (eqb (length (f .bytes)) n) (ltb 0 (f .kind)) (u .0) in
     let z = eqb-true (length (f .bytes)) n (v .0) in
-    go z (ltb-true 0 (f .kind) (v .1)) (equal (f .bytes) (take n t)) refl (begins-take (f .bytes) t ∙ ap (λ (m : ℕ). equal (f .bytes) (take m t)) z) (group n fs gs t at (u .1))
+    go z (ltb-true 0 (f .kind) (v .1)) (equal (f .bytes) (take n t)) refl (begins-take (f .bytes) t ∙ ap (λ (m : ℕ). equal (f .bytes) (take m t)) z)
+    (group n fs gs t at (u .1))
   where
     go : length (f .bytes) ≡ n → 0 < f .kind → (q : Bool) → equal (f .bytes) (take n t) ≡ q → begins (f .bytes) t ≡ equal (f .bytes) (take n t)
         → placed (fixedStart (fs ++ gs) t) at ≡ tokenOr (fixedKind fs (take n t)) (at + n) (placed (fixedStart gs t) at)
@@ -66,7 +67,8 @@ grouped-fixed = (refl, refl, refl)
 
 -- the longest first
 longest-first : (t : List ℕ) (at : ℕ) → placed (fixedStart fixed t) at
-    ≡ tokenOr (fixedKind (ofLength 3 fixed) (take 3 t)) (at + 3) (tokenOr (fixedKind (ofLength 2 fixed) (take 2 t)) (at + 2) (tokenOr (fixedKind (ofLength 1 fixed) (take 1 t)) (at + 1) Nothing))
+    ≡ tokenOr (fixedKind (ofLength 3 fixed) (take 3 t)) (at + 3)
+    (tokenOr (fixedKind (ofLength 2 fixed) (take 2 t)) (at + 2) (tokenOr (fixedKind (ofLength 1 fixed) (take 1 t)) (at + 1) Nothing))
 unfolding fixedStart
 longest-first t at =
     ap (λ (fs : List Fixed). placed (fixedStart fs t) at) fixed-by-length
@@ -87,15 +89,20 @@ module _ (text : List ℕ) (at : ℕ) (h : at < length text) where
   at-three =
       ap (fixedStart fixed) (drop-cons text at 0 h)
       ∙ (padded (getD text at 0) (drop (suc at) text)
-      ∙ rw (getD-drop (suc at) text 0 0, getD-drop (suc at) text 1 0) (ap (λ (z : ℕ). fixedStart fixed (getD text at 0 ∷ getD text z 0 ∷ getD text (suc at + 1) 0 ∷ [])) (omega arith) ∙ ap (λ (z : ℕ). fixedStart fixed (getD text at 0 ∷ getD text (at + 1) 0 ∷ getD text z 0 ∷ [])) (omega arith)))
+      ∙ rw (getD-drop (suc at) text 0 0, getD-drop (suc at) text 1 0)
+      (ap (λ (z : ℕ). fixedStart fixed (getD text at 0 ∷ getD text z 0 ∷ getD text (suc at + 1) 0 ∷ [])) (omega arith)
+      ∙ ap (λ (z : ℕ). fixedStart fixed (getD text at 0 ∷ getD text (at + 1) 0 ∷ getD text z 0 ∷ [])) (omega arith)))
 
 module _ (text : List ℕ) (at c d : ℕ) (h : at < length text) (ec : c ≡ getD text (at + 1) 0) (ed : d ≡ getD text (at + 2) 0) where
   fixed-here : placed (fixedStart fixed (drop at text)) at
-      ≡ tokenOr (fixedKind (ofLength 3 fixed) (getD text at 0 ∷ c ∷ d ∷ [])) (at + 3) (tokenOr (fixedKind (ofLength 2 fixed) (getD text at 0 ∷ c ∷ [])) (at + 2) (tokenOr (fixedKind (ofLength 1 fixed) (getD text at 0 ∷ [])) (at + 1) Nothing))
+      ≡ tokenOr (fixedKind (ofLength 3 fixed) (getD text at 0 ∷ c ∷ d ∷ [])) (at + 3)
+      (tokenOr (fixedKind (ofLength 2 fixed) (getD text at 0 ∷ c ∷ [])) (at + 2)
+      (tokenOr (fixedKind (ofLength 1 fixed) (getD text at 0 ∷ [])) (at + 1) Nothing))
   fixed-here = ap (λ (s : Start). placed s at) (at-three text at h) ∙ rw (← ec, ← ed) (longest-first (getD text at 0 ∷ c ∷ d ∷ []) at)
 
 -- what the code answers, its three kinds being those of the definition
-chosen : (p : Piece) (k3 k2 k1 at : ℕ) → p ≡ tokenOr k3 (at + 3) (tokenOr k2 (at + 2) (tokenOr k1 (at + 1) Nothing)) → (0 < k3 → Token k3 (at + 3) ≡ p) × (k3 ≤ 0 → 0 < k2 → Token k2 (at + 2) ≡ p)
+chosen : (p : Piece) (k3 k2 k1 at : ℕ) → p ≡ tokenOr k3 (at + 3) (tokenOr k2 (at + 2) (tokenOr k1 (at + 1) Nothing))
+    → (0 < k3 → Token k3 (at + 3) ≡ p) × (k3 ≤ 0 → 0 < k2 → Token k2 (at + 2) ≡ p)
     × (k3 ≤ 0 → k2 ≤ 0 → 0 < k1 → Token k1 (at + 1) ≡ p) × (k3 ≤ 0 → k2 ≤ 0 → k1 ≤ 0 → Nothing ≡ p)
 chosen p k3 k2 k1 at e = (
   λ h. token-some k3 (at + 3) (tokenOr k2 (at + 2) (tokenOr k1 (at + 1) Nothing)) h ∙ sym e,
@@ -110,13 +117,18 @@ chosen p k3 k2 k1 at e = (
     past2 : k2 ≤ 0 → tokenOr k1 (at + 1) Nothing ≡ tokenOr k2 (at + 2) (tokenOr k1 (at + 1) Nothing)
     past2 m = token-none k2 (at + 2) (tokenOr k1 (at + 1) Nothing) m
 
-module _ (text : List ℕ) (at c d three : ℕ) (h : at < length text) (ec : c ≡ getD text (at + 1) 0) (ed : d ≡ getD text (at + 2) 0) (e3 : three ≡ fixedKind (ofLength 3 fixed) (getD text at 0 ∷ c ∷ d ∷ [])) where
+module _ (text : List ℕ) (at c d three : ℕ) (h : at < length text) (ec : c ≡ getD text (at + 1) 0) (ed : d ≡ getD text (at + 2) 0)
+    (e3 : three ≡ fixedKind (ofLength 3 fixed) (getD text at 0 ∷ c ∷ d ∷ [])) where
   pub fixed-three : 0 < three → Token three (at + 3) ≡ placed (fixedStart fixed (drop at text)) at
-  fixed-three p = (chosen (placed (fixedStart fixed (drop at text)) at) three (fixedKind (ofLength 2 fixed) (getD text at 0 ∷ c ∷ [])) (fixedKind (ofLength 1 fixed) (getD text at 0 ∷ [])) at (rw e3 (fixed-here text at c d h ec ed))) .0 p
+  fixed-three p =
+      (chosen (placed (fixedStart fixed (drop at text)) at) three (fixedKind (ofLength 2 fixed) (getD text at 0 ∷ c ∷ []))
+      (fixedKind (ofLength 1 fixed) (getD text at 0 ∷ [])) at (rw e3 (fixed-here text at c d h ec ed))) .0 p
 
   module _ (none3 : three ≤ 0) (two : ℕ) (e2 : two ≡ fixedKind (ofLength 2 fixed) (getD text at 0 ∷ c ∷ [])) where
     pub fixed-two : 0 < two → Token two (at + 2) ≡ placed (fixedStart fixed (drop at text)) at
-    fixed-two p = (chosen (placed (fixedStart fixed (drop at text)) at) three two (fixedKind (ofLength 1 fixed) (getD text at 0 ∷ [])) at (rw (e3, e2) (fixed-here text at c d h ec ed))) .1 none3 p
+    fixed-two p =
+        (chosen (placed (fixedStart fixed (drop at text)) at) three two (fixedKind (ofLength 1 fixed) (getD text at 0 ∷ [])) at
+        (rw (e3, e2) (fixed-here text at c d h ec ed))) .1 none3 p
 
     module _ (none2 : two ≤ 0) (one : ℕ) (e1 : one ≡ fixedKind (ofLength 1 fixed) (getD text at 0 ∷ [])) where
       pub fixed-one : 0 < one → Token one (at + 1) ≡ placed (fixedStart fixed (drop at text)) at
@@ -146,7 +158,8 @@ pub not-two-first : (b : ℕ) → (b ≡ 58 → ⊥) → (b ≡ 47 → ⊥) → 
 unfolding fixedKind ofLength fixed bytes equal
 not-two-first b h k l m = rw (ne-eqb 58 b (λ e. h (sym e)), ne-eqb 47 b (λ e. k (sym e)), ne-eqb 60 b (λ e. l (sym e)), ne-eqb 62 b (λ e. m (sym e)))
 
-pub not-one : (b : ℕ) → (b ≡ 40 → ⊥) → (b ≡ 41 → ⊥) → (b ≡ 59 → ⊥) → (b ≡ 58 → ⊥) → (b ≡ 44 → ⊥) → (b ≡ 43 → ⊥) → (b ≡ 45 → ⊥) → (b ≡ 61 → ⊥) → (b ≡ 60 → ⊥) → (b ≡ 62 → ⊥)
+pub not-one : (b : ℕ) → (b ≡ 40 → ⊥) → (b ≡ 41 → ⊥) → (b ≡ 59 → ⊥) → (b ≡ 58 → ⊥) → (b ≡ 44 → ⊥) → (b ≡ 43 → ⊥) → (b ≡ 45 → ⊥) → (b ≡ 61 → ⊥)
+    → (b ≡ 60 → ⊥) → (b ≡ 62 → ⊥)
     → 0 ≡ fixedKind (ofLength 1 fixed) (b ∷ [])
 unfolding fixedKind ofLength fixed bytes equal
 not-one b h40 h41 h59 h58 h44 h43 h45 h61 h60 h62 =

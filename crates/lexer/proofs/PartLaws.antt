@@ -1,19 +1,17 @@
 -- A number's value and the comparison of names, one byte more. Assumes nothing.
 use mathlib.Core.Path.{_≡_, refl, sym, _∙_, ap}
-use mathlib.Core.Bool.{Bool, true, false, _&&_}
-use mathlib.Core.List.{List, [], _∷_, map}
-use Prim.Native.Nat.{ℕ, zero, suc, _+_, _*_, _-_, min, _≤_, _<_}
+use mathlib.Core.Bool.{Bool, true, false}
+use mathlib.Core.List.{List, [], map}
+use Prim.Native.Nat.{ℕ, _+_, _*_, _-_, min, _≤_, _<_}
 use native.Mathlib.Omega.{arith}
 use native.Mathlib.Numerals.{add-one}
-use lib.Dec.{eqb}
-use lib.ListN.{length, getD, take, drop, drop-of-length-le, length-drop, length-map}
+use lib.ListN.{length, getD, drop, drop-of-length-le, length-drop, length-map}
 use lib.Seq.{drop-cons, take-all, take-nil}
 use borrow.Author.Tests.{eq-eqb, ne-eqb}
 use Rattle.language.specs.Bytes.{lower}
 use Rattle.language.specs.Words.{value}
 use Rattle.language.specs.Lexing.{equal}
 use Rattle.language.proofs.Lexing.{equal-is}
-use Rattle.language.proofs.Facts.{clash}
 use Rattle.lexer.specs.Places.{part}
 
 -- a part of a text, by where it ends
@@ -38,7 +36,8 @@ module _ (digits : List ℕ) (i v : ℕ) where
   value-end h = rw (drop-of-length-le digits h)
 
 module _ (a b : List ℕ) (i : ℕ) where
-  pub same-again : i < length a → i < length b → lower (getD a i 0) ≡ lower (getD b i 0) → equal (map lower (drop (i + 1) a)) (map lower (drop (i + 1) b)) ≡ equal (map lower (drop i a)) (map lower (drop i b))
+  pub same-again : i < length a → i < length b → lower (getD a i 0) ≡ lower (getD b i 0)
+      → equal (map lower (drop (i + 1) a)) (map lower (drop (i + 1) b)) ≡ equal (map lower (drop i a)) (map lower (drop i b))
   unfolding equal
   same-again h k e = rw (drop-cons a i 0 h, drop-cons b i 0 k, add-one i, e, eq-eqb (lower (getD b i 0)) (lower (getD b i 0)) refl)
 

@@ -1,21 +1,19 @@
 -- What starts at a place, by the kind of the byte there: the code's answers are those of startOf. Assumes nothing.
 use mathlib.Core.Path.{_≡_, refl, sym, _∙_, ap}
-use mathlib.Core.Bool.{Bool, true, false, cond, _&&_}
-use mathlib.Core.List.{List, [], _∷_, _++_, map}
-use Prim.Native.Nat.{ℕ, zero, suc, _+_, _-_, _≤_, _<_}
+use mathlib.Core.Bool.{Bool, true, false, cond}
+use mathlib.Core.List.{List, [], _∷_, map}
+use Prim.Native.Nat.{ℕ, suc, _+_, _-_, _≤_, _<_}
 use native.Mathlib.Omega.{arith}
 use native.Mathlib.Numerals.{add-one}
 use lib.Dec.{eqb}
-use lib.ListN.{length, getD, take, drop, drop-of-length-le, length-drop}
+use lib.ListN.{length, getD, take, drop, drop-of-length-le}
 use lib.Seq.{drop-cons, getD-drop, take-at}
 use borrow.Author.Tests.{eq-eqb, ne-eqb}
 use Rattle.grammar.specs.Token.{NUMBER}
 use Rattle.language.specs.Bytes.{ByteKind, letter, digit, underscore, blank, quote, mark, none, byteKind, kindCode, is, isDigit, inWord, notLF, lower}
-use Rattle.language.specs.Words.{wellMade, folded, value, reserved, wordKind, fixed, peek, isDashes}
-use Rattle.language.specs.Lexing.{all}
-use Rattle.language.specs.Lexer.{run, Start, gap, lexeme, unknown, fixedStart, wordStart, numberStart, startFrom, startOf}
-use Rattle.language.proofs.Lexing.{Run, run-is}
-use Rattle.lexer.specs.declared.pieces.Piece.{Piece}
+use Rattle.language.specs.Words.{wellMade, folded, reserved, wordKind, fixed, peek, isDashes}
+use Rattle.language.specs.Lexer.{run, fixedStart, wordStart, numberStart, startFrom, startOf}
+use Rattle.language.proofs.Lexing.{run-is}
 use Rattle.lexer.specs.declared.pieces.Piece.the-variants.{Gap, Token, Nothing}
 use Rattle.lexer.specs.Places.{runEnd, part}
 use Rattle.lexer.specs.Pieces.{placed, pieceFrom, pieceAt}
@@ -37,11 +35,14 @@ module _ (text : List ℕ) (at end : ℕ) (e : end ≡ runEnd inWord text at) wh
   unfolding wordStart
   word-bad g = let h : wellMade false (run inWord (drop at text)) ≡ false = ap (wellMade false) (sym the-word) ∙ g in rw h
 
-  pub word-good : (k : ℕ) → wellMade false (part text at (end - at)) ≡ true → k ≡ spelledKind reserved (map lower (part text at (end - at))) → Token k end ≡ placed (wordStart (run inWord (drop at text))) at
+  pub word-good : (k : ℕ) → wellMade false (part text at (end - at)) ≡ true → k ≡ spelledKind reserved (map lower (part text at (end - at)))
+      → Token k end ≡ placed (wordStart (run inWord (drop at text))) at
   unfolding wordStart
   word-good k g s =
       let h : wellMade false (run inWord (drop at text)) ≡ true = ap (wellMade false) (sym the-word) ∙ g in
-      let q : k ≡ wordKind reserved (folded 0 (run inWord (drop at text))) = s ∙ (ap (λ (w : List ℕ). spelledKind reserved (map lower w)) the-word ∙ reserved-kind (run inWord (drop at text)) ((run-is inWord (drop at text)) .passes)) in
+      let q : k ≡ wordKind reserved (folded 0 (run inWord (drop at text))) = s
+      ∙ (ap (λ (w : List ℕ). spelledKind reserved (map lower w)) the-word
+      ∙ reserved-kind (run inWord (drop at text)) ((run-is inWord (drop at text)) .passes)) in
       rw (h, q, e)
 
 pub number-good : (text : List ℕ) (at end : ℕ) → end ≡ runEnd isDigit text at → Token NUMBER end ≡ placed (numberStart (run isDigit (drop at text))) at
@@ -65,11 +66,13 @@ unfolding isDashes
 dashes-second text at b c e f = rw (eq-eqb b 45 e, peek-at text at, f)
 
 module _ (text : List ℕ) (at b : ℕ) where
-  pub mark-comment : (end : ℕ) → isDashes b (drop (suc at) text) ≡ true → end ≡ runEnd notLF text (at + 1) → Gap end ≡ placed (startFrom mark b (drop (suc at) text)) at
+  pub mark-comment : (end : ℕ) → isDashes b (drop (suc at) text) ≡ true → end ≡ runEnd notLF text (at + 1)
+      → Gap end ≡ placed (startFrom mark b (drop (suc at) text)) at
   unfolding startFrom
   mark-comment end d e = rw (d, e, add-one at) (ap Gap (omega arith))
 
-  pub mark-fixed : isDashes b (drop (suc at) text) ≡ false → placed (startFrom mark b (drop (suc at) text)) at ≡ placed (fixedStart fixed (b ∷ drop (suc at) text)) at
+  pub mark-fixed : isDashes b (drop (suc at) text) ≡ false
+      → placed (startFrom mark b (drop (suc at) text)) at ≡ placed (fixedStart fixed (b ∷ drop (suc at) text)) at
   unfolding startFrom
   mark-fixed d = rw d
 

@@ -4,20 +4,20 @@ use mathlib.Core.Path.{_≡_, refl, sym, _∙_, ap, subst}
 use mathlib.Core.Bool.{Bool, true, false, cond, _&&_, and-false}
 use mathlib.Core.Logic.{_⊎_, inl, inr}
 use mathlib.Core.List.{List, [], _∷_, _++_, map}
-use Prim.Native.Nat.{ℕ, zero, suc, _+_, _-_, _≤_, _<_}
+use Prim.Native.Nat.{ℕ, _+_, _-_, _≤_, _<_}
 use native.Mathlib.Omega.{arith}
 use lib.Dec.{eqb, leb}
 use lib.ListN.{length, take, drop, length-append, length-drop}
 use lib.Seq.{drop-drop, drop-append-seam, take-at}
-use borrow.Author.Tests.{eqb-true, leb-true, lt-leb, le-leb, eq-eqb, ne-eqb}
-use Rattle.grammar.specs.Token.{Token, NAME, NUMBER, ZERO, ONE, GE, AND}
+use borrow.Author.Tests.{eqb-true, leb-true, lt-leb, eq-eqb, ne-eqb}
+use Rattle.grammar.specs.Token.{Token, NAME, NUMBER, ZERO, ONE, GE}
 use Rattle.grammar.specs.Limits.{Each}
 use Rattle.language.specs.Bytes.{bytes, between, ByteKind, letter, digit, underscore, blank, quote, mark, none, byteKind, is, isDigit, inWord, notLF, lower}
 use Rattle.language.specs.Words.{wellMade, folded, value, Word, reserved, wordKind, Fixed, fixed, isDashes}
 use Rattle.language.specs.Lexing.{Meaning, nothing, all, equal, alone, wordMeaning, fixedMeaning, meaningFrom, meaning, Piece, Lexes}
 use Rattle.language.specs.Lexing as S
-use Rattle.language.proofs.Facts.{clash, and-true-both}
-use Rattle.language.proofs.LexExact.{token-something, piece-some, empty-nothing}
+use Rattle.language.proofs.Facts.{and-true-both}
+use Rattle.language.proofs.LexExact.{token-something, piece-some}
 use Rattle.language.proofs.Folding.{between-le}
 use Rattle.lexer.specs.Places.{part}
 use Rattle.lexer.specs.TokenValues.{tokenValue, Valued}
@@ -92,9 +92,11 @@ above-reserved = refl
 word-above : (ws : List Word) (v : ℕ) → above ws ≡ true → (wordKind ws v ≡ NAME) ⊎ (19 ≤ wordKind ws v)
 unfolding above wordKind
 word-above [] v a = inl refl
-word-above (w ∷ ws) v a = let s = and-true-both (leb 19 (w .kind)) (above ws) a in go (eqb (folded 0 (w .bytes)) v) (leb-true 19 (w .kind) (s .0)) (word-above ws v (s .1))
+word-above (w ∷ ws) v a = let s = and-true-both (leb 19 (w .kind)) (above ws) a in
+    go (eqb (folded 0 (w .bytes)) v) (leb-true 19 (w .kind) (s .0)) (word-above ws v (s .1))
   where
-    go : (q : Bool) → 19 ≤ w .kind → (wordKind ws v ≡ NAME) ⊎ (19 ≤ wordKind ws v) → (cond q (w .kind) (wordKind ws v) ≡ NAME) ⊎ (19 ≤ cond q (w .kind) (wordKind ws v))
+    go : (q : Bool) → 19 ≤ w .kind → (wordKind ws v ≡ NAME) ⊎ (19 ≤ wordKind ws v)
+        → (cond q (w .kind) (wordKind ws v) ≡ NAME) ⊎ (19 ≤ cond q (w .kind) (wordKind ws v))
     go true h i = inr h
     go false h i = i
 
@@ -107,7 +109,8 @@ tabled-fixed : tabled fixed ≡ true
 unfolding tabled fixed bytes between
 tabled-fixed = refl
 
-fixed-value : (fs : List Fixed) (w : List ℕ) (k v : ℕ) → tabled fs ≡ true → fixedMeaning fs w ≡ Meaning.token k v → (between ZERO GE k ≡ true) × (v ≡ cond (eqb k ONE) 1 0)
+fixed-value : (fs : List Fixed) (w : List ℕ) (k v : ℕ) → tabled fs ≡ true → fixedMeaning fs w ≡ Meaning.token k v → (between ZERO GE k ≡ true)
+    × (v ≡ cond (eqb k ONE) 1 0)
 unfolding tabled fixedMeaning
 fixed-value [] w k v a e = no-token e
 fixed-value (f ∷ fs) w k v a e =
@@ -115,7 +118,8 @@ fixed-value (f ∷ fs) w k v a e =
     let r = and-true-both (between ZERO GE (f .kind)) (eqb (f .value) (cond (eqb (f .kind) ONE) 1 0)) (s .0) in
     go (equal (f .bytes) w) (r .0) (eqb-true (f .value) (cond (eqb (f .kind) ONE) 1 0) (r .1)) (fixed-value fs w k v (s .1)) e
   where
-    go : (q : Bool) → between ZERO GE (f .kind) ≡ true → f .value ≡ cond (eqb (f .kind) ONE) 1 0 → (fixedMeaning fs w ≡ Meaning.token k v → (between ZERO GE k ≡ true) × (v ≡ cond (eqb k ONE) 1 0))
+    go : (q : Bool) → between ZERO GE (f .kind) ≡ true → f .value ≡ cond (eqb (f .kind) ONE) 1 0
+        → (fixedMeaning fs w ≡ Meaning.token k v → (between ZERO GE k ≡ true) × (v ≡ cond (eqb k ONE) 1 0))
         → cond q (Meaning.token (f .kind) (f .value)) (fixedMeaning fs w) ≡ Meaning.token k v → (between ZERO GE k ≡ true) × (v ≡ cond (eqb k ONE) 1 0)
     go true b c i g =
         let x : f .kind ≡ k = cc in
@@ -152,7 +156,8 @@ name-is w v e = go (token-is w NAME v e)
 
 module _ (text : List ℕ) where
   -- a piece of the text that is a token
-  piece-valued : (n : ℕ) (w rest : List ℕ) (k v : ℕ) → drop n text ≡ w ++ rest → Piece w rest (Meaning.token k v) → Valued text (record { kind = k; value = v; size = length w; place = n })
+  piece-valued : (n : ℕ) (w rest : List ℕ) (k v : ℕ) → drop n text ≡ w ++ rest → Piece w rest (Meaning.token k v)
+      → Valued text (record { kind = k; value = v; size = length w; place = n })
   piece-valued n w rest k v e p =
       let here : part text n (length w) ≡ w = ap (take (length w)) e ∙ take-at w rest (length w) refl in
       let m : meaning (part text n (length w)) ≡ Meaning.token k v = ap meaning here ∙ p .is in
@@ -187,7 +192,8 @@ unfolding tokenValue between
 name-value w = refl
 
 -- two names of a text are the same without regard to case exactly when their values are equal
-pub same-names : (text : List ℕ) (s t : Token) → Valued text s → Valued text t → s .kind ≡ NAME → t .kind ≡ NAME → equal (map lower (part text (s .place) (s .size))) (map lower (part text (t .place) (t .size))) ≡ eqb (s .value) (t .value)
+pub same-names : (text : List ℕ) (s t : Token) → Valued text s → Valued text t → s .kind ≡ NAME → t .kind ≡ NAME
+    → equal (map lower (part text (s .place) (s .size))) (map lower (part text (t .place) (t .size))) ≡ eqb (s .value) (t .value)
 same-names text s t a b p q =
     let x : s .value ≡ folded 0 (part text (s .place) (s .size)) = a .value ∙ named (part text (s .place) (s .size)) (s .kind) p in
     let y : t .value ≡ folded 0 (part text (t .place) (t .size)) = b .value ∙ named (part text (t .place) (t .size)) (t .kind) q in

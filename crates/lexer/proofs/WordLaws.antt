@@ -45,7 +45,8 @@ made-end text i end u h = rw (part-none text i end h)
 
 -- one byte more of a word and of the text
 module _ (word text : List ℕ) (k i : ℕ) where
-  pub spells-again : k < length word → i < length text → lower (getD text i 0) ≡ getD word k 0 → begins (drop (k + 1) word) (map lower (drop (i + 1) text)) ≡ begins (drop k word) (map lower (drop i text))
+  pub spells-again : k < length word → i < length text → lower (getD text i 0) ≡ getD word k 0
+      → begins (drop (k + 1) word) (map lower (drop (i + 1) text)) ≡ begins (drop k word) (map lower (drop i text))
   unfolding begins
   spells-again h l e = rw (drop-cons word k 0 h, drop-cons text i 0 l, add-one k, add-one i, e, eq-eqb (getD word k 0) (getD word k 0) refl)
 
@@ -104,7 +105,8 @@ sized (w ∷ ws) x = go (eqb (length (w .bytes)) (length x)) refl (sized ws x)
     differs false e h = refl
     differs true e h = absurd (h (equal-length (w .bytes) x e))
 
-    go : (q : Bool) → eqb (length (w .bytes)) (length x) ≡ q → spelledKind ws x ≡ spelledKind (ofSize (length x) ws) x → spelledKind (w ∷ ws) x ≡ spelledKind (keepIf q w (ofSize (length x) ws)) x
+    go : (q : Bool) → eqb (length (w .bytes)) (length x) ≡ q → spelledKind ws x ≡ spelledKind (ofSize (length x) ws) x
+        → spelledKind (w ∷ ws) x ≡ spelledKind (keepIf q w (ofSize (length x) ws)) x
     go true e h = ap (cond (equal (w .bytes) x) (w .kind)) h
     go false e h = rw (differs (equal (w .bytes) x) refl (eqb-false (length (w .bytes)) (length x) e)) h
 
@@ -112,12 +114,16 @@ pub part-length : (text : List ℕ) (at size : ℕ) → at + size ≤ length tex
 part-length text at size h = simp (length-map, length-take, length-drop) (omega arith)
 
 -- a word's kind from those of its size
-pub by-size : (text : List ℕ) (at size n r : ℕ) → at + size ≤ length text → size ≡ n → r ≡ spelledKind (ofSize n reserved) (map lower (part text at n)) → r ≡ spelledKind reserved (map lower (part text at size))
+pub by-size : (text : List ℕ) (at size n r : ℕ) → at + size ≤ length text → size ≡ n
+    → r ≡ spelledKind (ofSize n reserved) (map lower (part text at n)) → r ≡ spelledKind reserved (map lower (part text at size))
 by-size text at size n r h e s =
-    s ∙ (ap (λ (m : ℕ). spelledKind (ofSize m reserved) (map lower (part text at m))) (sym e) ∙ (ap (λ (m : ℕ). spelledKind (ofSize m reserved) (map lower (part text at size))) (sym (part-length text at size h)) ∙ sym (sized reserved (map lower (part text at size)))))
+    s ∙ (ap (λ (m : ℕ). spelledKind (ofSize m reserved) (map lower (part text at m))) (sym e)
+    ∙ (ap (λ (m : ℕ). spelledKind (ofSize m reserved) (map lower (part text at size))) (sym (part-length text at size h))
+    ∙ sym (sized reserved (map lower (part text at size)))))
 
 -- no reserved word has another size
-pub other-size : (size : ℕ) (x : List ℕ) → (size ≡ 2 → ⊥) → (size ≡ 3 → ⊥) → (size ≡ 4 → ⊥) → (size ≡ 5 → ⊥) → (size ≡ 6 → ⊥) → (size ≡ 7 → ⊥) → (size ≡ 8 → ⊥) → (size ≡ 9 → ⊥) → (size ≡ 12 → ⊥)
+pub other-size : (size : ℕ) (x : List ℕ) → (size ≡ 2 → ⊥) → (size ≡ 3 → ⊥) → (size ≡ 4 → ⊥) → (size ≡ 5 → ⊥) → (size ≡ 6 → ⊥) → (size ≡ 7 → ⊥)
+    → (size ≡ 8 → ⊥) → (size ≡ 9 → ⊥) → (size ≡ 12 → ⊥)
     → NAME ≡ spelledKind (ofSize size reserved) x
 unfolding spelledKind ofSize reserved bytes
 other-size size x h2 h3 h4 h5 h6 h7 h8 h9 h12 =
@@ -157,7 +163,8 @@ spelled-kind [] x p q = refl
 spelled-kind (w ∷ ws) x p q =
     let u = and-true-both (all inWord (w .bytes) && equal (map lower (w .bytes)) (w .bytes)) (plain ws) p in
     let v = and-true-both (all inWord (w .bytes)) (equal (map lower (w .bytes)) (w .bytes)) (u .0) in
-    let l : equal (w .bytes) (map lower x) ≡ eqb (folded 0 (w .bytes)) (folded 0 x) = ap (λ (u : List ℕ). equal u (map lower x)) (sym (equal-is (map lower (w .bytes)) (w .bytes) (v .1))) ∙ folded-equal (w .bytes) x (v .0) q in
+    let l : equal (w .bytes) (map lower x) ≡ eqb (folded 0 (w .bytes)) (folded 0 x) = ap (λ (u : List ℕ). equal u (map lower x))
+    (sym (equal-is (map lower (w .bytes)) (w .bytes) (v .1))) ∙ folded-equal (w .bytes) x (v .0) q in
     rw l (ap (cond (eqb (folded 0 (w .bytes)) (folded 0 x)) (w .kind)) (spelled-kind ws x (u .1) q))
 
 pub reserved-kind : (x : List ℕ) → all inWord x ≡ true → spelledKind reserved (map lower x) ≡ wordKind reserved (folded 0 x)

@@ -12,6 +12,7 @@ unfoldable pub fixedKind : List Fixed → List ℕ → ℕ
 fixedKind [] w = 0
 fixedKind (f ∷ fs) w = cond (equal (f .bytes) w) (f .kind) (fixedKind fs w)
 
+-- a fixed token kept or left out
 abbrev pub keepFixed : Bool → Fixed → List Fixed → List Fixed
 keepFixed true f fs = f ∷ fs
 keepFixed false f fs = fs

@@ -13,6 +13,7 @@ unfoldable pub spelledKind : List Word → List ℕ → ℕ
 spelledKind [] w = NAME
 spelledKind (r ∷ rs) w = cond (equal (r .bytes) w) (r .kind) (spelledKind rs w)
 
+-- a word kept or left out
 abbrev pub keepIf : Bool → Word → List Word → List Word
 keepIf true r rs = r ∷ rs
 keepIf false r rs = rs

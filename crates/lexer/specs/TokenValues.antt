@@ -15,6 +15,7 @@ use Rattle.lexer.specs.Places.{part}
 unfoldable pub tokenValue : ℕ → List ℕ → ℕ
 tokenValue k w = cond (eqb k NUMBER) (value 0 w) (cond (between ZERO GE k) (cond (eqb k ONE) 1 0) (folded 0 w))
 
+-- the token has a byte, lies in the text, means what its kind and value say, has the value of its bytes, and a name's bytes are those of a word
 pub record Valued (text : List ℕ) (t : Token) : Type 0 where
   pub some : 0 < t .size
   pub inside : t .place + t .size ≤ length text

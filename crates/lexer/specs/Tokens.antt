@@ -6,7 +6,6 @@ use Prim.Native.Nat.{ℕ, zero, suc, pred, _+_}
 use lib.Dec.{ltb}
 use lib.ListN.{length}
 use lib.Seq.{sets}
-use Rattle.answers.specs.declared.Refusal.{Refusal}
 use Rattle.answers.specs.declared.Refusal.the-variants.{TextTooLong, NoToken}
 use Rattle.grammar.specs.Token.{Token}
 use Rattle.language.specs.Lexer.{Start, gap, lexeme, unknown, startOf, tokens, malformed, lex}
@@ -23,6 +22,7 @@ counted n (malformed p) = NotLexed (NoToken p)
 unfoldable pub lexed : List ℕ → Lexed
 lexed text = cond (ltb 16384 (length text)) (NotLexed TextTooLong) (counted 0 (lex text))
 
+-- a gap is passed over, a token is found and passed over, and where no token begins nothing more is found
 abbrev pub onFound : Start → ℕ → (ℕ → List Token) → List Token
 onFound (gap k) n f = f (pred k)
 onFound (lexeme k v s) n f = record { kind = k; value = v; size = s; place = n } ∷ f (pred s)
@@ -42,6 +42,7 @@ found text = cond (ltb 16384 (length text)) [] (foundFrom text 0 0)
 unfoldable pub write : List ℕ → List ℕ → List ℕ
 write items before = sets before 0 items
 
+-- the columns of the tokens: kinds, places, sizes
 abbrev pub kindsOf : List Token → List ℕ
 kindsOf ts = map (λ t. t .kind) ts
 

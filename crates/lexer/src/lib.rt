@@ -28,7 +28,8 @@ pub fn lex(
     starts: &mut [u16; 16384],
     sizes: &mut [u16; 16384],
 ) -> Lexed
-    ensures { λ r. ⌜ Lexing (now (text .entry)) r (now (kinds .entry)) (now (kinds .exit)) (now (starts .entry)) (now (starts .exit)) (now (sizes .entry)) (now (sizes .exit)) ⌝ }
+    ensures { λ r. ⌜ Lexing (now (text .entry)) r (now (kinds .entry)) (now (kinds .exit)) (now (starts .entry)) (now (starts .exit))
+        (now (sizes .entry)) (now (sizes .exit)) ⌝ }
 {
     if text.len() > 16384 {
         return Lexed::NotLexed(Refusal::TextTooLong);

@@ -1,6 +1,6 @@
 -- `lexer::lex` meets its contract. The invariant: the tokens so far stand in the arrays, and with those of the rest they are the text's; the measure is
 -- what is left of the text. Assumes nothing.
-use Prim.Native.Nat.{_≤_, _<_, _-_}
+use Prim.Native.Nat.{_-_}
 use native.Mathlib.Omega.{arith}
 use lib.ListN.{length}
 use Rattle.lexer.proofs.Advance.{gapped, tokened, stopped}
@@ -28,10 +28,12 @@ enum-known-end : tie.Need-enum-known-end Inv-loop μ-loop
 enum-known-end c = search needs
 
 loop-less : tie.Need-loop-less Inv-loop μ-loop
-loop-less c = let g = gapped _ _ _ (c .before .before .before .before .loop-test .taken) (c .before .before .before .piece-at .ensures) _ (c .before .end .given .1) in omega arith
+loop-less c = let g = gapped _ _ _ (c .before .before .before .before .loop-test .taken) (c .before .before .before .piece-at .ensures) _
+    (c .before .end .given .1) in omega arith
 
 loop-again : tie.Need-loop-again Inv-loop μ-loop
-loop-again c = fill-gap _ _ _ _ _ _ _ _ _ (c .before .before .before .before .before .loop .inv) _ (gapped _ _ _ (c .before .before .before .before .loop-test .taken) (c .before .before .before .piece-at .ensures) _ (c .before .end .given .1))
+loop-again c = fill-gap _ _ _ _ _ _ _ _ _ (c .before .before .before .before .before .loop .inv) _
+    (gapped _ _ _ (c .before .before .before .before .loop-test .taken) (c .before .before .before .piece-at .ensures) _ (c .before .end .given .1))
 
 enum-known-kind : tie.Need-enum-known-kind Inv-loop μ-loop
 enum-known-kind c = search needs
@@ -49,10 +51,12 @@ element-write-starts : tie.Need-element-write-starts Inv-loop μ-loop
 element-write-starts c = search needs
 
 sub-sizes : tie.Need-sub-sizes Inv-loop μ-loop
-sub-sizes c = let g = tokened _ _ _ (c .before .before .before .before .loop-test .taken) (c .before .before .before .piece-at .ensures) _ _ (c .before .kind .given .1) in omega arith
+sub-sizes c = let g = tokened _ _ _ (c .before .before .before .before .loop-test .taken) (c .before .before .before .piece-at .ensures) _ _
+    (c .before .kind .given .1) in omega arith
 
 cast-sizes : tie.Need-cast-sizes Inv-loop μ-loop
-cast-sizes c = let g = tokened _ _ _ (c .before .before .before .before .loop-test .taken) (c .before .before .before .piece-at .ensures) _ _ (c .before .kind .given .1) in omega arith
+cast-sizes c = let g = tokened _ _ _ (c .before .before .before .before .loop-test .taken) (c .before .before .before .piece-at .ensures) _ _
+    (c .before .kind .given .1) in omega arith
 
 mul-sizes : tie.Need-mul-sizes Inv-loop μ-loop
 mul-sizes c = search needs
@@ -64,7 +68,8 @@ add-n : tie.Need-add-n Inv-loop μ-loop
 add-n c = search needs
 
 loop-less-2 : tie.Need-loop-less-2 Inv-loop μ-loop
-loop-less-2 c = let g = tokened _ _ _ (c .before .before .before .before .loop-test .taken) (c .before .before .before .piece-at .ensures) _ _ (c .before .kind .given .1) in omega arith
+loop-less-2 c = let g = tokened _ _ _ (c .before .before .before .before .loop-test .taken) (c .before .before .before .piece-at .ensures) _ _
+    (c .before .kind .given .1) in omega arith
 
 loop-again-2 : tie.Need-loop-again-2 Inv-loop μ-loop
 loop-again-2 c =
@@ -75,7 +80,8 @@ enum-told : tie.Need-enum-told Inv-loop μ-loop
 enum-told c = search needs
 
 returns-2 : tie.Need-returns-2 Inv-loop μ-loop
-returns-2 c = fill-stop _ _ _ _ _ _ _ _ _ (c .before .before .before .before .loop .inv) (c .before .before .before .before .before .if1 .left) (stopped _ _ _ (c .before .before .before .loop-test .taken) (c .before .before .piece-at .ensures) (c .enum-told .given .1))
+returns-2 c = fill-stop _ _ _ _ _ _ _ _ _ (c .before .before .before .before .loop .inv) (c .before .before .before .before .before .if1 .left)
+    (stopped _ _ _ (c .before .before .before .loop-test .taken) (c .before .before .piece-at .ensures) (c .enum-told .given .1))
 
 returns-3 : tie.Need-returns-3 Inv-loop μ-loop
 returns-3 c = fill-end _ _ _ _ _ _ _ _ _ (c .before .loop .inv) (c .before .before .if1 .left) (c .loop-test .left)

@@ -33,31 +33,41 @@ enum-known-end : tie.Need-enum-known-end Inv-loop μ-loop
 enum-known-end c = search needs
 
 loop-less : tie.Need-loop-less Inv-loop μ-loop
-loop-less c = let g = gapped _ _ _ (c .before .before .before .before .before .loop-test .taken) (c .before .before .before .piece-at .ensures) _ (c .before .end .given .1) in omega arith
+loop-less c = let g = gapped _ _ _ (c .before .before .before .before .before .loop-test .taken) (c .before .before .before .piece-at .ensures) _
+    (c .before .end .given .1) in omega arith
 
 loop-again : tie.Need-loop-again Inv-loop μ-loop
-loop-again c = let g = gapped _ _ _ (c .before .before .before .before .before .loop-test .taken) (c .before .before .before .piece-at .ensures) _ (c .before .end .given .1) in (g .within, sym (g .hands _) ∙ c .before .before .before .before .before .before .loop .inv .1)
+loop-again c = let g = gapped _ _ _ (c .before .before .before .before .before .loop-test .taken) (c .before .before .before .piece-at .ensures) _
+    (c .before .end .given .1) in (g .within, sym (g .hands _) ∙ c .before .before .before .before .before .before .loop .inv .1)
 
 enum-known-end-2 : tie.Need-enum-known-end-2 Inv-loop μ-loop
 enum-known-end-2 c = search needs
 
 sub-result : tie.Need-sub-result Inv-loop μ-loop
-sub-result c = let g = tokened _ _ _ (c .before .before .before .before .before .before .loop-test .taken) (c .before .before .before .before .piece-at .ensures) _ _ (c .before .before .end2 .given .1) in omega arith
+sub-result c = let g = tokened _ _ _ (c .before .before .before .before .before .before .loop-test .taken)
+    (c .before .before .before .before .piece-at .ensures) _ _ (c .before .before .end2 .given .1) in omega arith
 
 part-result-start : tie.Need-part-result-start Inv-loop μ-loop
-part-result-start c = let g = tokened _ _ _ (c .before .before .before .before .before .before .loop-test .taken) (c .before .before .before .before .piece-at .ensures) _ _ (c .before .before .end2 .given .1) in omega arith
+part-result-start c = let g = tokened _ _ _ (c .before .before .before .before .before .before .loop-test .taken)
+    (c .before .before .before .before .piece-at .ensures) _ _ (c .before .before .end2 .given .1) in omega arith
 
 part-result-end : tie.Need-part-result-end Inv-loop μ-loop
-part-result-end c = let g = tokened _ _ _ (c .before .before .before .before .before .before .loop-test .taken) (c .before .before .before .before .piece-at .ensures) _ _ (c .before .before .end2 .given .1) in omega arith
+part-result-end c = let g = tokened _ _ _ (c .before .before .before .before .before .before .loop-test .taken)
+    (c .before .before .before .before .piece-at .ensures) _ _ (c .before .before .end2 .given .1) in omega arith
 
 returns-2 : tie.Need-returns-2 Inv-loop μ-loop
-returns-2 c = let g = tokened _ _ _ (c .before .before .before .before .before .before .before .loop-test .taken) (c .before .before .before .before .before .piece-at .ensures) _ _ (c .before .before .before .end2 .given .1) in sym (g .hands _ ∙ rw (eq-eqb _ _ (c .before .if2 .taken))) ∙ c .before .before .before .before .before .before .before .before .loop .inv .1
+returns-2 c = let g = tokened _ _ _ (c .before .before .before .before .before .before .before .loop-test .taken)
+    (c .before .before .before .before .before .piece-at .ensures) _ _ (c .before .before .before .end2 .given .1) in
+    sym (g .hands _ ∙ rw (eq-eqb _ _ (c .before .if2 .taken))) ∙ c .before .before .before .before .before .before .before .before .loop .inv .1
 
 loop-less-2 : tie.Need-loop-less-2 Inv-loop μ-loop
-loop-less-2 c = let g = tokened _ _ _ (c .before .before .before .before .before .before .loop-test .taken) (c .before .before .before .before .piece-at .ensures) _ _ (c .before .before .end2 .given .1) in omega arith
+loop-less-2 c = let g = tokened _ _ _ (c .before .before .before .before .before .before .loop-test .taken)
+    (c .before .before .before .before .piece-at .ensures) _ _ (c .before .before .end2 .given .1) in omega arith
 
 loop-again-2 : tie.Need-loop-again-2 Inv-loop μ-loop
-loop-again-2 c = let g = tokened _ _ _ (c .before .before .before .before .before .before .loop-test .taken) (c .before .before .before .before .piece-at .ensures) _ _ (c .before .before .end2 .given .1) in (g .within, sym (g .hands _ ∙ rw (ne-eqb _ _ (c .if2 .left))) ∙ c .before .before .before .before .before .before .before .loop .inv .1)
+loop-again-2 c = let g = tokened _ _ _ (c .before .before .before .before .before .before .loop-test .taken)
+    (c .before .before .before .before .piece-at .ensures) _ _ (c .before .before .end2 .given .1) in
+    (g .within, sym (g .hands _ ∙ rw (ne-eqb _ _ (c .if2 .left))) ∙ c .before .before .before .before .before .before .before .loop .inv .1)
 
 enum-told : tie.Need-enum-told Inv-loop μ-loop
 enum-told c = search needs
@@ -66,7 +76,8 @@ empty-requires-2 : tie.Need-empty-requires-2 Inv-loop μ-loop
 empty-requires-2 c κs = search needs
 
 returns-3 : tie.Need-returns-3 Inv-loop μ-loop
-returns-3 c = let g = stopped _ _ _ (c .before .before .before .before .before .loop-test .taken) (c .before .before .before .piece-at .ensures) (c .before .enum-told .given .1) in (c .empty2 .ensures) ∙ (sym (g .hands _) ∙ c .before .before .before .before .before .before .loop .inv .1)
+returns-3 c = let g = stopped _ _ _ (c .before .before .before .before .before .loop-test .taken) (c .before .before .before .piece-at .ensures)
+    (c .before .enum-told .given .1) in (c .empty2 .ensures) ∙ (sym (g .hands _) ∙ c .before .before .before .before .before .before .loop .inv .1)
 
 empty-requires-3 : tie.Need-empty-requires-3 Inv-loop μ-loop
 empty-requires-3 c κs = search needs

@@ -1,8 +1,6 @@
 -- `lexer::bytes::is_between` meets its contract: by its two tests. Assumes nothing.
-use mathlib.Core.Path.{_≡_, refl, sym, _∙_, ap}
-use borrow.Author.Needs.{needs}
-use borrow.Author.Tests.{lt-leb, le-leb, eq-eqb, ne-eqb}
-use Rattle.language.specs.Bytes.{bytes, elem, between}
+use borrow.Author.Tests.{lt-leb, le-leb}
+use Rattle.language.specs.Bytes.{between}
 use Rattle.lexer.proofs.bytes.is_between.Statement.{statement}
 use Rattle.lexer.proofs.bytes.is_between.Tie as tie
 

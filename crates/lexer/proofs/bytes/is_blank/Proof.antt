@@ -1,8 +1,6 @@
 -- `lexer::bytes::is_blank` meets its contract: each test that holds says which element it is, and where none holds there is none. Assumes nothing.
-use mathlib.Core.Path.{_≡_, refl, sym, _∙_, ap}
-use borrow.Author.Needs.{needs}
-use borrow.Author.Tests.{lt-leb, le-leb, eq-eqb, ne-eqb}
-use Rattle.language.specs.Bytes.{bytes, elem, between}
+use borrow.Author.Tests.{ne-eqb}
+use Rattle.language.specs.Bytes.{elem}
 use Rattle.lexer.proofs.bytes.is_blank.Statement.{statement}
 use Rattle.lexer.proofs.bytes.is_blank.Tie as tie
 
@@ -24,7 +22,13 @@ returns-4 c = rw (c .if4 .taken)
 
 returns-5 : tie.Need-returns-5
 unfolding elem
-returns-5 c = simp (ne-eqb _ _ (c .before .before .before .if1 .left), ne-eqb _ _ (c .before .before .if2 .left), ne-eqb _ _ (c .before .if3 .left), ne-eqb _ _ (c .if4 .left))
+returns-5 c =
+    simp (
+      ne-eqb _ _ (c .before .before .before .if1 .left),
+      ne-eqb _ _ (c .before .before .if2 .left),
+      ne-eqb _ _ (c .before .if3 .left),
+      ne-eqb _ _ (c .if4 .left),
+    )
 
 pub is-blank-spec : {M : Type 1} → statement M
 is-blank-spec = tie.close (tie.spec returns returns-2 returns-3 returns-4 returns-5)

@@ -1,8 +1,6 @@
 -- `lexer::bytes::is_mark` meets its contract: each test that holds says which element it is, and where none holds there is none. Assumes nothing.
-use mathlib.Core.Path.{_≡_, refl, sym, _∙_, ap}
-use borrow.Author.Needs.{needs}
-use borrow.Author.Tests.{lt-leb, le-leb, eq-eqb, ne-eqb}
-use Rattle.language.specs.Bytes.{bytes, elem, between}
+use borrow.Author.Tests.{ne-eqb}
+use Rattle.language.specs.Bytes.{bytes, elem}
 use Rattle.lexer.proofs.bytes.is_mark.Statement.{statement}
 use Rattle.lexer.proofs.bytes.is_mark.Tie as tie
 
@@ -52,7 +50,20 @@ returns-11 c = rw (c .if11 .taken)
 
 returns-12 : tie.Need-returns-12
 unfolding elem bytes
-returns-12 c = simp (ne-eqb _ _ (c .before .before .before .before .before .before .before .before .before .before .if1 .left), ne-eqb _ _ (c .before .before .before .before .before .before .before .before .before .if2 .left), ne-eqb _ _ (c .before .before .before .before .before .before .before .before .if3 .left), ne-eqb _ _ (c .before .before .before .before .before .before .before .if4 .left), ne-eqb _ _ (c .before .before .before .before .before .before .if5 .left), ne-eqb _ _ (c .before .before .before .before .before .if6 .left), ne-eqb _ _ (c .before .before .before .before .if7 .left), ne-eqb _ _ (c .before .before .before .if8 .left), ne-eqb _ _ (c .before .before .if9 .left), ne-eqb _ _ (c .before .if10 .left), ne-eqb _ _ (c .if11 .left))
+returns-12 c =
+    simp (
+      ne-eqb _ _ (c .before .before .before .before .before .before .before .before .before .before .if1 .left),
+      ne-eqb _ _ (c .before .before .before .before .before .before .before .before .before .if2 .left),
+      ne-eqb _ _ (c .before .before .before .before .before .before .before .before .if3 .left),
+      ne-eqb _ _ (c .before .before .before .before .before .before .before .if4 .left),
+      ne-eqb _ _ (c .before .before .before .before .before .before .if5 .left),
+      ne-eqb _ _ (c .before .before .before .before .before .if6 .left),
+      ne-eqb _ _ (c .before .before .before .before .if7 .left),
+      ne-eqb _ _ (c .before .before .before .if8 .left),
+      ne-eqb _ _ (c .before .before .if9 .left),
+      ne-eqb _ _ (c .before .if10 .left),
+      ne-eqb _ _ (c .if11 .left),
+    )
 
 pub is-mark-spec : {M : Type 1} → statement M
 is-mark-spec = tie.close (tie.spec returns returns-2 returns-3 returns-4 returns-5 returns-6 returns-7 returns-8 returns-9 returns-10 returns-11 returns-12)

@@ -25,11 +25,22 @@ is-between-requires-3 c κs = search needs
 
 returns-3 : tie.Need-returns-3
 unfolding byteKind
-returns-3 c = rw (flag (c .before .before .before .before .before .is-between .ensures) (c .before .before .before .before .if1 .left), flag (c .before .before .before .is-between2 .ensures) (c .before .before .if2 .left), flag (c .before .is-between3 .ensures) (c .if3 .taken))
+returns-3 c =
+    rw (
+      flag (c .before .before .before .before .before .is-between .ensures) (c .before .before .before .before .if1 .left),
+      flag (c .before .before .before .is-between2 .ensures) (c .before .before .if2 .left),
+      flag (c .before .is-between3 .ensures) (c .if3 .taken),
+    )
 
 returns-4 : tie.Need-returns-4
 unfolding byteKind
-returns-4 c = rw (flag (c .before .before .before .before .before .before .is-between .ensures) (c .before .before .before .before .before .if1 .left), flag (c .before .before .before .before .is-between2 .ensures) (c .before .before .before .if2 .left), flag (c .before .before .is-between3 .ensures) (c .before .if3 .left), eq-eqb _ _ (c .if4 .taken))
+returns-4 c =
+    rw (
+      flag (c .before .before .before .before .before .before .is-between .ensures) (c .before .before .before .before .before .if1 .left),
+      flag (c .before .before .before .before .is-between2 .ensures) (c .before .before .before .if2 .left),
+      flag (c .before .before .is-between3 .ensures) (c .before .if3 .left),
+      eq-eqb _ _ (c .if4 .taken),
+    )
 
 is-blank-requires : tie.Need-is-blank-requires
 is-blank-requires c κs = search needs
@@ -37,12 +48,28 @@ is-blank-requires c κs = search needs
 returns-5 : tie.Need-returns-5
 unfolding byteKind
 returns-5 c =
-    rw (flag (c .before .before .before .before .before .before .before .before .is-between .ensures) (c .before .before .before .before .before .before .before .if1 .left), flag (c .before .before .before .before .before .before .is-between2 .ensures) (c .before .before .before .before .before .if2 .left), flag (c .before .before .before .before .is-between3 .ensures) (c .before .before .before .if3 .left), ne-eqb _ _ (c .before .before .if4 .left), flag (c .before .is-blank .ensures) (c .if5 .taken))
+    rw (
+      flag (c .before .before .before .before .before .before .before .before .is-between .ensures)
+          (c .before .before .before .before .before .before .before .if1 .left),
+      flag (c .before .before .before .before .before .before .is-between2 .ensures) (c .before .before .before .before .before .if2 .left),
+      flag (c .before .before .before .before .is-between3 .ensures) (c .before .before .before .if3 .left),
+      ne-eqb _ _ (c .before .before .if4 .left),
+      flag (c .before .is-blank .ensures) (c .if5 .taken),
+    )
 
 returns-6 : tie.Need-returns-6
 unfolding byteKind
 returns-6 c =
-    rw (flag (c .before .before .before .before .before .before .before .before .before .is-between .ensures) (c .before .before .before .before .before .before .before .before .if1 .left), flag (c .before .before .before .before .before .before .before .is-between2 .ensures) (c .before .before .before .before .before .before .if2 .left), flag (c .before .before .before .before .before .is-between3 .ensures) (c .before .before .before .before .if3 .left), ne-eqb _ _ (c .before .before .before .if4 .left), flag (c .before .before .is-blank .ensures) (c .before .if5 .left), eq-eqb _ _ (c .if6 .taken))
+    rw (
+      flag (c .before .before .before .before .before .before .before .before .before .is-between .ensures)
+          (c .before .before .before .before .before .before .before .before .if1 .left),
+      flag (c .before .before .before .before .before .before .before .is-between2 .ensures)
+          (c .before .before .before .before .before .before .if2 .left),
+      flag (c .before .before .before .before .before .is-between3 .ensures) (c .before .before .before .before .if3 .left),
+      ne-eqb _ _ (c .before .before .before .if4 .left),
+      flag (c .before .before .is-blank .ensures) (c .before .if5 .left),
+      eq-eqb _ _ (c .if6 .taken),
+    )
 
 is-mark-requires : tie.Need-is-mark-requires
 is-mark-requires c κs = search needs
@@ -50,12 +77,34 @@ is-mark-requires c κs = search needs
 returns-7 : tie.Need-returns-7
 unfolding byteKind
 returns-7 c =
-    rw (flag (c .before .before .before .before .before .before .before .before .before .before .before .is-between .ensures) (c .before .before .before .before .before .before .before .before .before .before .if1 .left), flag (c .before .before .before .before .before .before .before .before .before .is-between2 .ensures) (c .before .before .before .before .before .before .before .before .if2 .left), flag (c .before .before .before .before .before .before .before .is-between3 .ensures) (c .before .before .before .before .before .before .if3 .left), ne-eqb _ _ (c .before .before .before .before .before .if4 .left), flag (c .before .before .before .before .is-blank .ensures) (c .before .before .before .if5 .left), ne-eqb _ _ (c .before .before .if6 .left), flag (c .before .is-mark .ensures) (c .if7 .taken))
+    rw (
+      flag (c .before .before .before .before .before .before .before .before .before .before .before .is-between .ensures)
+          (c .before .before .before .before .before .before .before .before .before .before .if1 .left),
+      flag (c .before .before .before .before .before .before .before .before .before .is-between2 .ensures)
+          (c .before .before .before .before .before .before .before .before .if2 .left),
+      flag (c .before .before .before .before .before .before .before .is-between3 .ensures)
+          (c .before .before .before .before .before .before .if3 .left),
+      ne-eqb _ _ (c .before .before .before .before .before .if4 .left),
+      flag (c .before .before .before .before .is-blank .ensures) (c .before .before .before .if5 .left),
+      ne-eqb _ _ (c .before .before .if6 .left),
+      flag (c .before .is-mark .ensures) (c .if7 .taken),
+    )
 
 returns-8 : tie.Need-returns-8
 unfolding byteKind
 returns-8 c =
-    rw (flag (c .before .before .before .before .before .before .before .before .before .before .before .is-between .ensures) (c .before .before .before .before .before .before .before .before .before .before .if1 .left), flag (c .before .before .before .before .before .before .before .before .before .is-between2 .ensures) (c .before .before .before .before .before .before .before .before .if2 .left), flag (c .before .before .before .before .before .before .before .is-between3 .ensures) (c .before .before .before .before .before .before .if3 .left), ne-eqb _ _ (c .before .before .before .before .before .if4 .left), flag (c .before .before .before .before .is-blank .ensures) (c .before .before .before .if5 .left), ne-eqb _ _ (c .before .before .if6 .left), flag (c .before .is-mark .ensures) (c .if7 .left))
+    rw (
+      flag (c .before .before .before .before .before .before .before .before .before .before .before .is-between .ensures)
+          (c .before .before .before .before .before .before .before .before .before .before .if1 .left),
+      flag (c .before .before .before .before .before .before .before .before .before .is-between2 .ensures)
+          (c .before .before .before .before .before .before .before .before .if2 .left),
+      flag (c .before .before .before .before .before .before .before .is-between3 .ensures)
+          (c .before .before .before .before .before .before .if3 .left),
+      ne-eqb _ _ (c .before .before .before .before .before .if4 .left),
+      flag (c .before .before .before .before .is-blank .ensures) (c .before .before .before .if5 .left),
+      ne-eqb _ _ (c .before .before .if6 .left),
+      flag (c .before .is-mark .ensures) (c .if7 .left),
+    )
 
 pub kind-of-spec : {M : Type 1} → statement M
 kind-of-spec =

@@ -1,7 +1,6 @@
 -- `lexer::bytes::lower_case` meets its contract: a capital is at most 90, so the sum fits. Assumes nothing.
 use native.Mathlib.Omega.{arith}
-use borrow.Author.Tests.{leb-true}
-use Rattle.language.specs.Bytes.{between, lower}
+use Rattle.language.specs.Bytes.{lower}
 use Rattle.language.proofs.Folding.{between-le}
 use Rattle.lexer.proofs.ByteKinds.{flag}
 use borrow.Author.Needs.{needs}

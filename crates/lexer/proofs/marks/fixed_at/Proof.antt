@@ -26,7 +26,8 @@ add-t13 : tie.Need-add-t13
 add-t13 c = search needs
 
 returns : tie.Need-returns
-returns c = fixed-three _ _ _ _ _ (c .before .before .before .before .before .before .pre) (c .before .before .before .byte-at .ensures) (c .before .before .byte-at2 .ensures) (c .before .of-three .ensures) (c .if1 .taken)
+returns c = fixed-three _ _ _ _ _ (c .before .before .before .before .before .before .pre) (c .before .before .before .byte-at .ensures)
+    (c .before .before .byte-at2 .ensures) (c .before .of-three .ensures) (c .if1 .taken)
 
 of-two-requires : tie.Need-of-two-requires
 of-two-requires c κs = search needs
@@ -35,7 +36,9 @@ add-t14 : tie.Need-add-t14
 add-t14 c = search needs
 
 returns-2 : tie.Need-returns-2
-returns-2 c = fixed-two _ _ _ _ _ (c .before .before .before .before .before .before .before .before .pre) (c .before .before .before .before .before .byte-at .ensures) (c .before .before .before .before .byte-at2 .ensures) (c .before .before .before .of-three .ensures) (c .before .before .if1 .left) _ (c .before .of-two .ensures) (c .if2 .taken)
+returns-2 c = fixed-two _ _ _ _ _ (c .before .before .before .before .before .before .before .before .pre)
+    (c .before .before .before .before .before .byte-at .ensures) (c .before .before .before .before .byte-at2 .ensures)
+    (c .before .before .before .of-three .ensures) (c .before .before .if1 .left) _ (c .before .of-two .ensures) (c .if2 .taken)
 
 of-one-requires : tie.Need-of-one-requires
 of-one-requires c κs = search needs
@@ -44,10 +47,18 @@ add-t15 : tie.Need-add-t15
 add-t15 c = search needs
 
 returns-3 : tie.Need-returns-3
-returns-3 c = fixed-one _ _ _ _ _ (c .before .before .before .before .before .before .before .before .before .before .pre) (c .before .before .before .before .before .before .before .byte-at .ensures) (c .before .before .before .before .before .before .byte-at2 .ensures) (c .before .before .before .before .before .of-three .ensures) (c .before .before .before .before .if1 .left) _ (c .before .before .before .of-two .ensures) (c .before .before .if2 .left) _ (c .before .of-one .ensures) (c .if3 .taken)
+returns-3 c = fixed-one _ _ _ _ _ (c .before .before .before .before .before .before .before .before .before .before .pre)
+    (c .before .before .before .before .before .before .before .byte-at .ensures)
+    (c .before .before .before .before .before .before .byte-at2 .ensures) (c .before .before .before .before .before .of-three .ensures)
+    (c .before .before .before .before .if1 .left) _ (c .before .before .before .of-two .ensures) (c .before .before .if2 .left) _
+    (c .before .of-one .ensures) (c .if3 .taken)
 
 returns-4 : tie.Need-returns-4
-returns-4 c = fixed-none _ _ _ _ _ (c .before .before .before .before .before .before .before .before .before .before .pre) (c .before .before .before .before .before .before .before .byte-at .ensures) (c .before .before .before .before .before .before .byte-at2 .ensures) (c .before .before .before .before .before .of-three .ensures) (c .before .before .before .before .if1 .left) _ (c .before .before .before .of-two .ensures) (c .before .before .if2 .left) _ (c .before .of-one .ensures) (c .if3 .left)
+returns-4 c = fixed-none _ _ _ _ _ (c .before .before .before .before .before .before .before .before .before .before .pre)
+    (c .before .before .before .before .before .before .before .byte-at .ensures)
+    (c .before .before .before .before .before .before .byte-at2 .ensures) (c .before .before .before .before .before .of-three .ensures)
+    (c .before .before .before .before .if1 .left) _ (c .before .before .before .of-two .ensures) (c .before .before .if2 .left) _
+    (c .before .of-one .ensures) (c .if3 .left)
 
 pub fixed-at-spec : {M : Type 1} → statement M
 fixed-at-spec =

@@ -1,11 +1,9 @@
 -- `lexer::marks::of_one` meets its contract. Assumes nothing.
-use mathlib.Core.Path.{_≡_, refl}
 use Rattle.language.specs.Bytes.{bytes}
 use Rattle.language.specs.Words.{fixed}
 use Rattle.language.specs.Lexing.{equal}
 use Rattle.lexer.specs.Fixed.{fixedKind, ofLength}
 use Rattle.lexer.proofs.MarkLaws.{not-one}
-use borrow.Author.Needs.{needs}
 use Rattle.lexer.proofs.marks.of_one.Statement.{statement}
 use Rattle.lexer.proofs.marks.of_one.Tie as tie
 
@@ -50,7 +48,9 @@ unfolding fixedKind ofLength fixed bytes equal
 returns-10 c = rw (c .match .keys10)
 
 returns-11 : tie.Need-returns-11
-returns-11 c = not-one _ (c .match .rest .0 .0 .0 .0 .0 .0 .0 .0 .0 .1) (c .match .rest .0 .0 .0 .0 .0 .0 .0 .0 .1) (c .match .rest .0 .0 .0 .0 .0 .0 .0 .1) (c .match .rest .0 .0 .0 .0 .0 .0 .1) (c .match .rest .0 .0 .0 .0 .0 .1) (c .match .rest .0 .0 .0 .0 .1) (c .match .rest .0 .0 .0 .1) (c .match .rest .0 .0 .1) (c .match .rest .0 .1) (c .match .rest .1)
+returns-11 c = not-one _ (c .match .rest .0 .0 .0 .0 .0 .0 .0 .0 .0 .1) (c .match .rest .0 .0 .0 .0 .0 .0 .0 .0 .1)
+    (c .match .rest .0 .0 .0 .0 .0 .0 .0 .1) (c .match .rest .0 .0 .0 .0 .0 .0 .1) (c .match .rest .0 .0 .0 .0 .0 .1) (c .match .rest .0 .0 .0 .0 .1)
+    (c .match .rest .0 .0 .0 .1) (c .match .rest .0 .0 .1) (c .match .rest .0 .1) (c .match .rest .1)
 
 pub of-one-spec : {M : Type 1} → statement M
 of-one-spec =

@@ -1,11 +1,9 @@
 -- `lexer::marks::of_three` meets its contract. Assumes nothing.
-use mathlib.Core.Path.{_≡_, refl}
 use Rattle.language.specs.Bytes.{bytes}
 use Rattle.language.specs.Words.{fixed}
 use Rattle.language.specs.Lexing.{equal}
 use Rattle.lexer.specs.Fixed.{fixedKind, ofLength}
 use Rattle.lexer.proofs.MarkLaws.{not-three-first, not-three-last, not-three-middle}
-use borrow.Author.Needs.{needs}
 use Rattle.lexer.proofs.marks.of_three.Statement.{statement}
 use Rattle.lexer.proofs.marks.of_three.Tie as tie
 

@@ -1,7 +1,6 @@
 -- `lexer::parts::digits_value` meets its contract. The invariant: the rest, read on from v, has the value of the whole. Assumes nothing.
 use mathlib.Core.Path.{_≡_, refl, sym, _∙_}
 use Prim.Native.Nat.{_≤_, _-_}
-use native.Mathlib.Omega.{arith}
 use lib.ListN.{length, drop}
 use Rattle.language.specs.Words.{value}
 use Rattle.lexer.proofs.PartLaws.{value-again, value-end}

@@ -1,5 +1,5 @@
 -- `lexer::parts::number_value` meets its contract. Assumes nothing.
-use mathlib.Core.Path.{_≡_, _∙_, ap}
+use mathlib.Core.Path.{_∙_, ap}
 use Rattle.language.specs.Words.{value}
 use borrow.Author.Needs.{needs}
 use Rattle.lexer.proofs.parts.number_value.Statement.{statement}

@@ -2,7 +2,6 @@
 use mathlib.Core.Path.{_≡_, refl, sym, _∙_}
 use mathlib.Core.List.{map}
 use Prim.Native.Nat.{_-_}
-use native.Mathlib.Omega.{arith}
 use lib.ListN.{length, drop}
 use Rattle.language.specs.Bytes.{lower}
 use Rattle.language.specs.Lexing.{equal}
@@ -36,7 +35,11 @@ lower-case-requires-2 : tie.Need-lower-case-requires-2 Inv-loop μ-loop
 lower-case-requires-2 c κs = search needs
 
 returns-2 : tie.Need-returns-2 Inv-loop μ-loop
-returns-2 c = sym (same-differs (c .before .before .before .before .before .before .before .before .before .before .args .a .now) (c .before .before .before .before .before .before .before .before .before .before .args .b .now) _ (search needs) (search needs) (λ e. c .if2 .taken (c .before .before .before .lower-case .ensures ∙ (e ∙ sym (c .before .lower-case2 .ensures))))) ∙ c .before .before .before .before .before .before .loop .inv
+returns-2 c =
+    sym (same-differs (c .before .before .before .before .before .before .before .before .before .before .args .a .now)
+    (c .before .before .before .before .before .before .before .before .before .before .args .b .now) _ (search needs) (search needs)
+    (λ e. c .if2 .taken (c .before .before .before .lower-case .ensures ∙ (e ∙ sym (c .before .lower-case2 .ensures)))))
+    ∙ c .before .before .before .before .before .before .loop .inv
 
 add-i : tie.Need-add-i Inv-loop μ-loop
 add-i c = search needs
@@ -45,10 +48,15 @@ loop-less : tie.Need-loop-less Inv-loop μ-loop
 loop-less c = search needs
 
 loop-again : tie.Need-loop-again Inv-loop μ-loop
-loop-again c = same-again (c .before .before .before .before .before .before .before .before .before .before .args .a .now) (c .before .before .before .before .before .before .before .before .before .before .args .b .now) _ (search needs) (search needs) (sym (c .before .before .before .lower-case .ensures) ∙ (c .if2 .left ∙ (c .before .lower-case2 .ensures))) ∙ c .before .before .before .before .before .before .loop .inv
+loop-again c = same-again (c .before .before .before .before .before .before .before .before .before .before .args .a .now)
+    (c .before .before .before .before .before .before .before .before .before .before .args .b .now) _ (search needs) (search needs)
+    (sym (c .before .before .before .lower-case .ensures) ∙ (c .if2 .left ∙ (c .before .lower-case2 .ensures)))
+    ∙ c .before .before .before .before .before .before .loop .inv
 
 returns-3 : tie.Need-returns-3 Inv-loop μ-loop
-returns-3 c = sym (same-end (c .before .before .before .before .before .args .a .now) (c .before .before .before .before .before .args .b .now) (c .before .loop .i) (search needs) (search needs)) ∙ c .before .loop .inv
+returns-3 c =
+    sym (same-end (c .before .before .before .before .before .args .a .now) (c .before .before .before .before .before .args .b .now)
+    (c .before .loop .i) (search needs) (search needs)) ∙ c .before .loop .inv
 
 pub same-folded-spec : {M : Type 1} → statement M
 same-folded-spec =

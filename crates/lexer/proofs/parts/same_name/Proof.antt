@@ -1,9 +1,5 @@
 -- `lexer::parts::same_name` meets its contract. Assumes nothing.
-use mathlib.Core.Path.{_≡_, _∙_, ap}
-use mathlib.Core.List.{List, map}
-use Prim.Native.Nat.{ℕ}
-use Rattle.language.specs.Bytes.{lower}
-use Rattle.language.specs.Lexing.{equal}
+use mathlib.Core.Path.{_∙_}
 use borrow.Author.Needs.{needs}
 use Rattle.lexer.proofs.parts.same_name.Statement.{statement}
 use Rattle.lexer.proofs.parts.same_name.Tie as tie

@@ -1,5 +1,5 @@
 -- `lexer::pieces::mark_at` meets its contract. Assumes nothing.
-use mathlib.Core.Path.{_≡_, sym, _∙_, ap}
+use mathlib.Core.Path.{sym, _∙_, ap}
 use mathlib.Core.List.{List}
 use Prim.Native.Nat.{ℕ}
 use lib.Seq.{drop-cons}
@@ -22,15 +22,20 @@ comment-end-requires : tie.Need-comment-end-requires
 comment-end-requires c κs = search needs
 
 returns : tie.Need-returns
-returns c = mark-comment _ (c .before .before .before .before .args .at) _ _ (flag (c .before .before .opens-comment .ensures) (c .before .if1 .taken)) (c .comment-end .ensures)
+returns c = mark-comment _ (c .before .before .before .before .args .at) _ _
+    (flag (c .before .before .opens-comment .ensures) (c .before .if1 .taken)) (c .comment-end .ensures)
 
 fixed-at-requires : tie.Need-fixed-at-requires
 fixed-at-requires c κs = search needs
 
 returns-2 : tie.Need-returns-2
 returns-2 c =
-    (c .fixed-at .ensures) ∙ (ap (λ (l : List ℕ). placed (fixedStart fixed l) (c .before .before .before .before .args .at)) (drop-cons (c .before .before .before .before .args .text .now) (c .before .before .before .before .args .at) 0 (c .before .before .before .before .pre))
-    ∙ sym (mark-fixed (c .before .before .before .before .args .text .now) (c .before .before .before .before .args .at) _ (flag (c .before .before .opens-comment .ensures) (c .before .if1 .left))))
+    (c .fixed-at .ensures)
+    ∙ (ap (λ (l : List ℕ). placed (fixedStart fixed l) (c .before .before .before .before .args .at))
+    (drop-cons (c .before .before .before .before .args .text .now) (c .before .before .before .before .args .at) 0
+    (c .before .before .before .before .pre))
+    ∙ sym (mark-fixed (c .before .before .before .before .args .text .now) (c .before .before .before .before .args .at) _
+    (flag (c .before .before .opens-comment .ensures) (c .before .if1 .left))))
 
 pub mark-at-spec : {M : Type 1} → statement M
 mark-at-spec =

@@ -17,7 +17,8 @@ byte-at-requires : tie.Need-byte-at-requires
 byte-at-requires c κs = search needs
 
 returns-2 : tie.Need-returns-2
-returns-2 c = dashes-second (c .before .before .before .before .args .text .now) (c .before .before .before .before .args .at) _ _ (c .before .if1 .left) (c .byte-at .ensures)
+returns-2 c = dashes-second (c .before .before .before .before .args .text .now) (c .before .before .before .before .args .at) _ _
+    (c .before .if1 .left) (c .byte-at .ensures)
 
 pub opens-comment-spec : {M : Type 1} → statement M
 opens-comment-spec =

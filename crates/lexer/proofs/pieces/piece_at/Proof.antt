@@ -1,5 +1,5 @@
 -- `lexer::pieces::piece_at` meets its contract: a case for each kind of byte. Assumes nothing.
-use mathlib.Core.Path.{_≡_, _∙_}
+use mathlib.Core.Path.{_∙_}
 use Rattle.lexer.proofs.PieceLaws.{piece-end, piece-word, piece-blank, piece-mark, piece-number, piece-quote, piece-nothing}
 use borrow.Author.Needs.{needs}
 use Rattle.lexer.proofs.pieces.piece_at.Statement.{statement}
@@ -30,22 +30,30 @@ mark-at-requires : tie.Need-mark-at-requires
 mark-at-requires c κs = search needs
 
 returns-4 : tie.Need-returns-4
-returns-4 c = (c .mark-at .ensures) ∙ piece-mark _ _ _ (c .before .before .before .before .before .before .if1 .left) (c .before .before .before .before .kind-of .ensures) (c .before .if4 .taken)
+returns-4 c = (c .mark-at .ensures)
+    ∙ piece-mark _ _ _ (c .before .before .before .before .before .before .if1 .left) (c .before .before .before .before .kind-of .ensures)
+    (c .before .if4 .taken)
 
 number-at-requires : tie.Need-number-at-requires
 number-at-requires c κs = search needs
 
 returns-5 : tie.Need-returns-5
-returns-5 c = (c .number-at .ensures) ∙ piece-number _ _ _ (c .before .before .before .before .before .before .before .if1 .left) (c .before .before .before .before .before .kind-of .ensures) (c .before .if5 .taken)
+returns-5 c = (c .number-at .ensures)
+    ∙ piece-number _ _ _ (c .before .before .before .before .before .before .before .if1 .left)
+    (c .before .before .before .before .before .kind-of .ensures) (c .before .if5 .taken)
 
 fixed-at-requires : tie.Need-fixed-at-requires
 fixed-at-requires c κs = search needs
 
 returns-6 : tie.Need-returns-6
-returns-6 c = (c .fixed-at .ensures) ∙ piece-quote _ _ _ (c .before .before .before .before .before .before .before .before .if1 .left) (c .before .before .before .before .before .before .kind-of .ensures) (c .before .if6 .taken)
+returns-6 c = (c .fixed-at .ensures)
+    ∙ piece-quote _ _ _ (c .before .before .before .before .before .before .before .before .if1 .left)
+    (c .before .before .before .before .before .before .kind-of .ensures) (c .before .if6 .taken)
 
 returns-7 : tie.Need-returns-7
-returns-7 c = piece-nothing _ _ _ (c .before .before .before .before .before .before .before .if1 .left) (c .before .before .before .before .before .kind-of .ensures) (c .before .before .before .before .if2 .left) (c .before .before .before .if3 .left) (c .before .before .if4 .left) (c .before .if5 .left) (c .if6 .left)
+returns-7 c = piece-nothing _ _ _ (c .before .before .before .before .before .before .before .if1 .left)
+    (c .before .before .before .before .before .kind-of .ensures) (c .before .before .before .before .if2 .left)
+    (c .before .before .before .if3 .left) (c .before .before .if4 .left) (c .before .if5 .left) (c .if6 .left)
 
 pub piece-at-spec : {M : Type 1} → statement M
 piece-at-spec =

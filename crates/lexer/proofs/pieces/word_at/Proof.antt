@@ -1,9 +1,6 @@
 -- `lexer::pieces::word_at` meets its contract: the part up to the end of the run is the word. Assumes nothing.
-use Prim.Native.Nat.{_≤_}
 use native.Mathlib.Omega.{arith}
-use lib.ListN.{length}
 use borrow.Author.Tests.{not-true, not-false}
-use mathlib.Core.Path.{_≡_, sym, _∙_}
 use Rattle.language.specs.Bytes.{inWord}
 use Rattle.lexer.proofs.ByteKinds.{flag}
 use Rattle.lexer.proofs.RunLaws.{run-within}
@@ -16,7 +13,8 @@ word-end-requires : tie.Need-word-end-requires
 word-end-requires c κs = search needs
 
 well-made-requires : tie.Need-well-made-requires
-well-made-requires c κs = let w = run-within inWord (c .before .before .args .text .now) (c .before .before .args .at) (c .before .before .pre) in let e = c .word-end .ensures in (omega arith, omega arith)
+well-made-requires c κs = let w = run-within inWord (c .before .before .args .text .now) (c .before .before .args .at) (c .before .before .pre) in
+    let e = c .word-end .ensures in (omega arith, omega arith)
 
 returns : tie.Need-returns
 returns c = word-bad _ _ _ (c .before .before .word-end .ensures) (flag (c .before .well-made .ensures) (not-true _ (c .if1 .taken)))
@@ -25,10 +23,13 @@ sub-word-kind : tie.Need-sub-word-kind
 sub-word-kind c = let e = c .before .before .word-end .ensures in omega arith
 
 word-kind-requires : tie.Need-word-kind-requires
-word-kind-requires c κs = let w = run-within inWord (c .before .before .before .before .args .text .now) (c .before .before .before .before .args .at) (c .before .before .before .before .pre) in let e = c .before .before .word-end .ensures in omega arith
+word-kind-requires c κs = let w = run-within inWord (c .before .before .before .before .args .text .now)
+    (c .before .before .before .before .args .at) (c .before .before .before .before .pre) in let e = c .before .before .word-end .ensures in
+    omega arith
 
 returns-2 : tie.Need-returns-2
-returns-2 c = word-good _ _ _ (c .before .before .before .word-end .ensures) _ (flag (c .before .before .well-made .ensures) (not-false _ (c .before .if1 .left))) (c .word-kind .ensures)
+returns-2 c = word-good _ _ _ (c .before .before .before .word-end .ensures) _
+    (flag (c .before .before .well-made .ensures) (not-false _ (c .before .if1 .left))) (c .word-kind .ensures)
 
 pub word-at-spec : {M : Type 1} → statement M
 word-at-spec =

@@ -1,7 +1,6 @@
 -- `lexer::runs::word_end` meets its contract. The invariant: the run from here ends where the whole run ends. Assumes nothing.
 use mathlib.Core.Path.{_≡_, refl, sym, _∙_}
 use Prim.Native.Nat.{_-_}
-use native.Mathlib.Omega.{arith}
 use lib.ListN.{length}
 use borrow.Author.Tests.{not-true, not-false}
 use Rattle.language.specs.Bytes.{inWord}
@@ -28,7 +27,8 @@ in-word-requires : tie.Need-in-word-requires Inv-loop μ-loop
 in-word-requires c κs = search needs
 
 returns : tie.Need-returns Inv-loop μ-loop
-returns c = sym (run-stop inWord _ _ (c .before .before .before .loop-test .taken) (flag (c .before .in-word .ensures) (not-true _ (c .if1 .taken)))) ∙ c .before .before .before .before .loop .inv
+returns c = sym (run-stop inWord _ _ (c .before .before .before .loop-test .taken) (flag (c .before .in-word .ensures) (not-true _ (c .if1 .taken))))
+    ∙ c .before .before .before .before .loop .inv
 
 add-i : tie.Need-add-i Inv-loop μ-loop
 add-i c = search needs
@@ -37,7 +37,8 @@ loop-less : tie.Need-loop-less Inv-loop μ-loop
 loop-less c = search needs
 
 loop-again : tie.Need-loop-again Inv-loop μ-loop
-loop-again c = run-pass inWord _ _ (c .before .before .before .loop-test .taken) (flag (c .before .in-word .ensures) (not-false _ (c .if1 .left))) ∙ c .before .before .before .before .loop .inv
+loop-again c = run-pass inWord _ _ (c .before .before .before .loop-test .taken) (flag (c .before .in-word .ensures) (not-false _ (c .if1 .left)))
+    ∙ c .before .before .before .before .loop .inv
 
 returns-2 : tie.Need-returns-2 Inv-loop μ-loop
 returns-2 c = sym (run-end inWord _ _ (c .loop-test .left)) ∙ c .before .loop .inv

@@ -1,5 +1,5 @@
 -- `lexer::words::of_seven` meets its contract: its tests are those of the definition, in the same order. Assumes nothing.
-use mathlib.Core.Path.{_≡_, refl}
+use mathlib.Core.Path.{refl}
 use lib.ListN.{drop}
 use Rattle.language.specs.Bytes.{bytes}
 use Rattle.language.specs.Words.{reserved}
@@ -18,8 +18,10 @@ spells-requires c κs = search needs
 returns : tie.Need-returns
 unfolding ofSize reserved bytes
 returns c =
-    let l = drop (c .before .before .before .before .args .at) (c .before .before .before .before .args .text .now) in
-    kind-here _ _ _ (spelled _ l (c .before .spells .ensures) (c .if1 .taken))
+    let a = c .before .before .before .before .args in
+    let l = drop (a .at) (a .text .now) in
+    let first = spelled _ l (c .before .spells .ensures) (c .if1 .taken) in
+    kind-here _ _ _ first
 
 slice-aggregate-spells-2 : tie.Need-slice-aggregate-spells-2
 slice-aggregate-spells-2 c = search needs
@@ -33,8 +35,11 @@ kind-if-requires c κs = search needs
 returns-2 : tie.Need-returns-2
 unfolding ofSize reserved bytes
 returns-2 c =
-    let l = drop (c .before .before .before .before .before .before .before .args .at) (c .before .before .before .before .before .before .before .args .text .now) in
-    kind-on _ _ _ (spelled _ l (c .before .before .before .before .spells .ensures) (c .before .before .before .if1 .left)) (kind-last _ _ (spelled _ l (c .before .spells2 .ensures) refl) (c .kind-if .ensures))
+    let a = c .before .before .before .before .before .before .before .args in
+    let l = drop (a .at) (a .text .now) in
+    let first = spelled _ l (c .before .before .before .before .spells .ensures) (c .before .before .before .if1 .left) in
+    let second = spelled _ l (c .before .spells2 .ensures) refl in
+    kind-on _ _ _ first (kind-last _ _ second (c .kind-if .ensures))
 
 pub of-seven-spec : {M : Type 1} → statement M
 of-seven-spec =

@@ -33,7 +33,9 @@ shared-slice-read-if2 : tie.Need-shared-slice-read-if2 Inv-loop μ-loop
 shared-slice-read-if2 c = search needs
 
 returns-2 : tie.Need-returns-2 Inv-loop μ-loop
-returns-2 c = sym (spells-differs _ _ _ _ (c .before .before .before .before .before .loop-test .taken) (c .before .before .before .before .if1 .left) (λ e. c .if2 .taken (c .before .before .lower-case .ensures ∙ e))) ∙ c .before .before .before .before .before .before .loop .inv
+returns-2 c =
+    sym (spells-differs _ _ _ _ (c .before .before .before .before .before .loop-test .taken) (c .before .before .before .before .if1 .left)
+    (λ e. c .if2 .taken (c .before .before .lower-case .ensures ∙ e))) ∙ c .before .before .before .before .before .before .loop .inv
 
 add-i : tie.Need-add-i Inv-loop μ-loop
 add-i c = search needs
@@ -45,7 +47,8 @@ loop-less : tie.Need-loop-less Inv-loop μ-loop
 loop-less c = search needs
 
 loop-again : tie.Need-loop-again Inv-loop μ-loop
-loop-again c = spells-again _ _ _ _ (c .before .before .before .before .before .loop-test .taken) (c .before .before .before .before .if1 .left) (sym (c .before .before .lower-case .ensures) ∙ c .if2 .left) ∙ c .before .before .before .before .before .before .loop .inv
+loop-again c = spells-again _ _ _ _ (c .before .before .before .before .before .loop-test .taken) (c .before .before .before .before .if1 .left)
+    (sym (c .before .before .lower-case .ensures) ∙ c .if2 .left) ∙ c .before .before .before .before .before .before .loop .inv
 
 returns-3 : tie.Need-returns-3 Inv-loop μ-loop
 returns-3 c = sym (spells-end _ (c .before .before .before .before .args .text .now) _ (c .before .loop .i) (c .loop-test .left)) ∙ c .before .loop .inv

@@ -12,7 +12,8 @@ use Rattle.lexer.proofs.words.well_made.Statement.{statement}
 use Rattle.lexer.proofs.words.well_made.Tie as tie
 
 abbrev Inv-loop : tie.InvT-loop
-Inv-loop text start end after-underscore₀ i₀ after-underscore i = (i ≤ end) × (wellMade after-underscore (part text i (end - i)) ≡ wellMade false (part text start (end - start)))
+Inv-loop text start end after-underscore₀ i₀ after-underscore i = (i ≤ end)
+    × (wellMade after-underscore (part text i (end - i)) ≡ wellMade false (part text start (end - start)))
 
 abbrev μ-loop : tie.MeasureT-loop
 μ-loop text start end after-underscore₀ i₀ after-underscore i = end - i
@@ -30,7 +31,9 @@ both-requires : tie.Need-both-requires Inv-loop μ-loop
 both-requires c κs = search needs
 
 returns : tie.Need-returns Inv-loop μ-loop
-returns c = sym (made-stop _ _ _ _ _ (c .before .before .before .before .loop-test .taken) (c .before .before .before .before .before .before .before .pre .1) (c .before .before .is-underscore .ensures) (flag (c .before .both .ensures) (c .if1 .taken))) ∙ c .before .before .before .before .before .loop .inv .1
+returns c = sym (made-stop _ _ _ _ _ (c .before .before .before .before .loop-test .taken)
+    (c .before .before .before .before .before .before .before .pre .1) (c .before .before .is-underscore .ensures)
+    (flag (c .before .both .ensures) (c .if1 .taken))) ∙ c .before .before .before .before .before .loop .inv .1
 
 add-i : tie.Need-add-i Inv-loop μ-loop
 add-i c = search needs
@@ -39,7 +42,12 @@ loop-less : tie.Need-loop-less Inv-loop μ-loop
 loop-less c = search needs
 
 loop-again : tie.Need-loop-again Inv-loop μ-loop
-loop-again c = (search needs, made-again _ _ _ _ _ (c .before .before .before .before .loop-test .taken) (c .before .before .before .before .before .before .before .pre .1) (c .before .before .is-underscore .ensures) (flag (c .before .both .ensures) (c .if1 .left)) ∙ c .before .before .before .before .before .loop .inv .1)
+loop-again c = (
+  search needs,
+  made-again _ _ _ _ _ (c .before .before .before .before .loop-test .taken)
+      (c .before .before .before .before .before .before .before .pre .1) (c .before .before .is-underscore .ensures)
+      (flag (c .before .both .ensures) (c .if1 .left)) ∙ c .before .before .before .before .before .loop .inv .1,
+)
 
 returns-2 : tie.Need-returns-2 Inv-loop μ-loop
 returns-2 c = sym (made-end _ _ _ _ (c .loop-test .left)) ∙ c .before .loop .inv .1

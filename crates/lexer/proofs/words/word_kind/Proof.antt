@@ -1,5 +1,5 @@
 -- `lexer::words::word_kind` meets its contract: only a reserved word of the same size can be the word. Assumes nothing.
-use mathlib.Core.Path.{_≡_, refl}
+use mathlib.Core.Path.{refl}
 use lib.ListN.{drop}
 use Rattle.language.specs.Bytes.{bytes}
 use Rattle.language.specs.Words.{reserved}
@@ -44,7 +44,11 @@ kind-if-requires c κs = search needs
 
 returns-5 : tie.Need-returns-5
 unfolding ofSize reserved bytes
-returns-5 c = by-size _ _ _ 6 _ (c .before .before .before .before .before .before .before .before .before .pre) (c .before .before .before .if5 .taken) (kind-last _ _ (spelled _ (drop (c .before .before .before .before .before .before .before .before .before .args .at) (c .before .before .before .before .before .before .before .before .before .args .text .now)) (c .before .spells .ensures) refl) (c .kind-if .ensures))
+returns-5 c = by-size _ _ _ 6 _ (c .before .before .before .before .before .before .before .before .before .pre)
+    (c .before .before .before .if5 .taken)
+    (kind-last _ _ (spelled _ (drop (c .before .before .before .before .before .before .before .before .before .args .at)
+    (c .before .before .before .before .before .before .before .before .before .args .text .now)) (c .before .spells .ensures) refl)
+    (c .kind-if .ensures))
 
 of-seven-requires : tie.Need-of-seven-requires
 of-seven-requires c κs = search needs
@@ -63,7 +67,11 @@ kind-if-requires-2 c κs = search needs
 
 returns-7 : tie.Need-returns-7
 unfolding ofSize reserved bytes
-returns-7 c = by-size _ _ _ 8 _ (c .before .before .before .before .before .before .before .before .before .before .before .pre) (c .before .before .before .if7 .taken) (kind-last _ _ (spelled _ (drop (c .before .before .before .before .before .before .before .before .before .before .before .args .at) (c .before .before .before .before .before .before .before .before .before .before .before .args .text .now)) (c .before .spells2 .ensures) refl) (c .kind-if2 .ensures))
+returns-7 c = by-size _ _ _ 8 _ (c .before .before .before .before .before .before .before .before .before .before .before .pre)
+    (c .before .before .before .if7 .taken)
+    (kind-last _ _ (spelled _ (drop (c .before .before .before .before .before .before .before .before .before .before .before .args .at)
+    (c .before .before .before .before .before .before .before .before .before .before .before .args .text .now)) (c .before .spells2 .ensures) refl)
+    (c .kind-if2 .ensures))
 
 slice-aggregate-spells-3 : tie.Need-slice-aggregate-spells-3
 slice-aggregate-spells-3 c = search needs
@@ -76,7 +84,11 @@ kind-if-requires-3 c κs = search needs
 
 returns-8 : tie.Need-returns-8
 unfolding ofSize reserved bytes
-returns-8 c = by-size _ _ _ 9 _ (c .before .before .before .before .before .before .before .before .before .before .before .before .pre) (c .before .before .before .if8 .taken) (kind-last _ _ (spelled _ (drop (c .before .before .before .before .before .before .before .before .before .before .before .before .args .at) (c .before .before .before .before .before .before .before .before .before .before .before .before .args .text .now)) (c .before .spells3 .ensures) refl) (c .kind-if3 .ensures))
+returns-8 c = by-size _ _ _ 9 _ (c .before .before .before .before .before .before .before .before .before .before .before .before .pre)
+    (c .before .before .before .if8 .taken)
+    (kind-last _ _ (spelled _ (drop (c .before .before .before .before .before .before .before .before .before .before .before .before .args .at)
+    (c .before .before .before .before .before .before .before .before .before .before .before .before .args .text .now))
+    (c .before .spells3 .ensures) refl) (c .kind-if3 .ensures))
 
 slice-aggregate-spells-4 : tie.Need-slice-aggregate-spells-4
 slice-aggregate-spells-4 c = search needs
@@ -89,11 +101,17 @@ kind-if-requires-4 c κs = search needs
 
 returns-9 : tie.Need-returns-9
 unfolding ofSize reserved bytes
-returns-9 c = by-size _ _ _ 12 _ (c .before .before .before .before .before .before .before .before .before .before .before .before .before .pre) (c .before .before .before .if9 .taken) (kind-last _ _ (spelled _ (drop (c .before .before .before .before .before .before .before .before .before .before .before .before .before .args .at) (c .before .before .before .before .before .before .before .before .before .before .before .before .before .args .text .now)) (c .before .spells4 .ensures) refl) (c .kind-if4 .ensures))
+returns-9 c = by-size _ _ _ 12 _ (c .before .before .before .before .before .before .before .before .before .before .before .before .before .pre)
+    (c .before .before .before .if9 .taken)
+    (kind-last _ _ (spelled _ (drop (c .before .before .before .before .before .before .before .before .before .before .before .before .before .args .at) (c .before .before .before .before .before .before .before .before .before .before .before .before .before .args .text .now)) (c .before .spells4 .ensures) refl) (c .kind-if4 .ensures))
 
 returns-10 : tie.Need-returns-10
 returns-10 c =
-    by-size _ _ _ _ _ (c .before .before .before .before .before .before .before .before .before .before .pre) refl (other-size _ _ (c .before .before .before .before .before .before .before .before .if1 .left) (c .before .before .before .before .before .before .before .if2 .left) (c .before .before .before .before .before .before .if3 .left) (c .before .before .before .before .before .if4 .left) (c .before .before .before .before .if5 .left) (c .before .before .before .if6 .left) (c .before .before .if7 .left) (c .before .if8 .left) (c .if9 .left))
+    by-size _ _ _ _ _ (c .before .before .before .before .before .before .before .before .before .before .pre) refl
+    (other-size _ _ (c .before .before .before .before .before .before .before .before .if1 .left)
+    (c .before .before .before .before .before .before .before .if2 .left) (c .before .before .before .before .before .before .if3 .left)
+    (c .before .before .before .before .before .if4 .left) (c .before .before .before .before .if5 .left) (c .before .before .before .if6 .left)
+    (c .before .before .if7 .left) (c .before .if8 .left) (c .if9 .left))
 
 pub word-kind-spec : {M : Type 1} → statement M
 word-kind-spec =
