@@ -1,0 +1,11 @@
+pub mod Bools
+pub mod SectionLaws
+pub mod PairTests
+pub mod SignatureLaws
+pub mod Stack
+pub mod NameTypes
+pub mod CodeLaws
+pub mod CodeLoop
+pub mod LineLaws
+pub mod LinesLoop
+pub mod OpenLaws

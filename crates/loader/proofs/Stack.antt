@@ -1,0 +1,102 @@
+-- A stack of type tags in an array: a tag pushed, an operator of one and of two operands. Assumes nothing.
+use Prim.Native.Nat.{ℕ, zero, suc, _+_, _-_, _≤_, _<_}
+use native.Mathlib.Numerals.{add-one}
+use native.Mathlib.Omega.{arith}
+use mathlib.Core.Path.{_≡_, refl, _∙_}
+use mathlib.Core.List.{List, _∷_}
+use lib.ListN.{length, getD, set, length-set}
+use lib.Seq.{getD-set-same, getD-set-other}
+use borrow.Author.Tests.{eq-eqb, ne-eqb, lt-ltb, le-ltb}
+use Rattle.design.specs.Types.{Ty}
+use Rattle.loader.specs.Code.{unaryTag, binaryTag, leafTag, pushed, unaryStep, binaryStep, stepAt, stackOf, Stepped}
+
+stack-above : (a : List ℕ) (n v m : ℕ) → m ≤ n → stackOf (set a n v) m ≡ stackOf a m
+unfolding stackOf
+stack-above a n v zero h = refl
+stack-above a n v (suc m) h =
+    let p : m ≤ n = omega arith in
+    let e = stack-above a n v m p in
+    let g = getD-set-other a n m v 0 (λ q. omega arith) in
+    cc
+
+stack-push : (a : List ℕ) (n v : ℕ) → n < length a → stackOf (set a n v) (n + 1) ≡ v ∷ stackOf a n
+unfolding stackOf
+stack-push a n v h =
+    let p : n ≤ n = omega arith in
+    rw (add-one, stack-above a n v n p, getD-set-same a n v 0 h)
+
+-- A tag that is no type ends the run; a type is pushed.
+
+pub push-none : (t d : ℕ) (a : List ℕ) → t ≡ 3 → length a ≡ 64 → Stepped (pushed t (stackOf a d)) d a 0
+push-none t d a h z = record { same = rw (eq-eqb t 3 h); depth = omega arith; size = z }
+
+pub push-some : (t d : ℕ) (a : List ℕ) → (t ≡ 3 → ⊥) → d < 64 → length a ≡ 64 → Stepped (pushed t (stackOf a d)) d (set a d t) (d + 1)
+push-some t d a h l z =
+    let i : d < length a = omega arith in
+    record {
+      same = rw (ne-eqb t 3 h, ne-eqb (d + 1) 0 (λ e. omega arith), stack-push a d t i);
+      depth = omega arith;
+      size = length-set a d t ∙ z;
+    }
+
+-- One operand.
+
+pub unary-none : (k d : ℕ) (a : List ℕ) → d < 1 → length a ≡ 64 → Stepped (unaryStep k (stackOf a d)) d a 0
+unfolding unaryStep stackOf
+unary-none k zero a h z = record { same = refl; depth = omega arith; size = z }
+unary-none k (suc d) a h z = absurd (omega arith)
+
+pub unary-some : (k d : ℕ) (a : List ℕ) {b : List ℕ} {t r : ℕ} → 1 ≤ d → t ≡ unaryTag k (getD a (d - 1) 0)
+    → Stepped (pushed t (stackOf a (d - 1))) (d - 1) b r → Stepped (unaryStep k (stackOf a d)) d b r
+unfolding unaryStep stackOf
+unary-some k zero a h e p = absurd (omega arith)
+unary-some k (suc d) a h e p =
+    let m : suc d - 1 ≡ d = omega arith in
+    let z = p .depth in
+    record { same = p .same ∙ rw (e, m); depth = omega arith; size = p .size }
+
+-- Two operands.
+
+pub binary-none : (k d : ℕ) (a : List ℕ) → d < 2 → length a ≡ 64 → Stepped (binaryStep k (stackOf a d)) d a 0
+unfolding binaryStep stackOf
+binary-none k zero a h z = record { same = refl; depth = omega arith; size = z }
+binary-none k (suc zero) a h z = record { same = refl; depth = omega arith; size = z }
+binary-none k (suc (suc d)) a h z = absurd (omega arith)
+
+pub binary-differ : (k d : ℕ) (a : List ℕ) → 2 ≤ d → (getD a (d - 2) 0 ≡ getD a (d - 1) 0 → ⊥) → length a ≡ 64 → Stepped (binaryStep k (stackOf a d)) d a 0
+unfolding binaryStep stackOf
+binary-differ k zero a h n z = absurd (omega arith)
+binary-differ k (suc zero) a h n z = absurd (omega arith)
+binary-differ k (suc (suc d)) a h n z =
+    let m : suc (suc d) - 2 ≡ d = omega arith in
+    let m′ : suc (suc d) - 1 ≡ suc d = omega arith in
+    let q : getD a d 0 ≡ getD a (suc d) 0 → ⊥ = rw (m, m′) at n in
+    record { same = rw (ne-eqb (getD a d 0) (getD a (suc d) 0) q); depth = omega arith; size = z }
+
+pub binary-some : (k d : ℕ) (a : List ℕ) {b : List ℕ} {t r : ℕ} → 2 ≤ d → getD a (d - 2) 0 ≡ getD a (d - 1) 0 → t ≡ binaryTag k (getD a (d - 2) 0)
+    → Stepped (pushed t (stackOf a (d - 2))) (d - 2) b r → Stepped (binaryStep k (stackOf a d)) d b r
+unfolding binaryStep stackOf
+binary-some k zero a h n e p = absurd (omega arith)
+binary-some k (suc zero) a h n e p = absurd (omega arith)
+binary-some k (suc (suc d)) a h n e p =
+    let m : suc (suc d) - 2 ≡ d = omega arith in
+    let m′ : suc (suc d) - 1 ≡ suc d = omega arith in
+    let q : getD a d 0 ≡ getD a (suc d) 0 = rw (m, m′) at n in
+    let z = p .depth in
+    record { same = p .same ∙ rw (eq-eqb (getD a d 0) (getD a (suc d) 0) q, e, m); depth = omega arith; size = p .size }
+
+-- One operation, by its first byte.
+
+module _ (is vs : List Ty) (s : List ℕ) (at d : ℕ) (a : List ℕ) {b : List ℕ} {k r : ℕ} (e : k ≡ getD s at 0) where
+  pub step-leaf : {t : ℕ} → k < 16 → t ≡ leafTag is vs s at k → Stepped (pushed t (stackOf a d)) d b r
+      → Stepped (stepAt is vs s at (getD s at 0) (stackOf a d)) d b r
+  unfolding stepAt
+  step-leaf {t} h q p = record { same = p .same ∙ rw (← e, lt-ltb k 16 h, q); depth = p .depth; size = p .size }
+
+  pub step-unary : 16 ≤ k → k < 18 → Stepped (unaryStep k (stackOf a d)) d b r → Stepped (stepAt is vs s at (getD s at 0) (stackOf a d)) d b r
+  unfolding stepAt
+  step-unary h l p = record { same = p .same ∙ rw (← e, le-ltb k 16 h, lt-ltb k 18 l); depth = p .depth; size = p .size }
+
+  pub step-binary : 16 ≤ k → 18 ≤ k → Stepped (binaryStep k (stackOf a d)) d b r → Stepped (stepAt is vs s at (getD s at 0) (stackOf a d)) d b r
+  unfolding stepAt
+  step-binary h l p = record { same = p .same ∙ rw (← e, le-ltb k 16 h, le-ltb k 18 l); depth = p .depth; size = p .size }

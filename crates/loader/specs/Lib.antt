@@ -1,0 +1,4 @@
+pub mod Sections
+pub mod Code
+pub mod Lines
+pub mod Open

@@ -1,0 +1,51 @@
+// Opens an image: finds its three sections, or refuses it by 11, 12 or 13 at the exact place. One pass over the bytes.
+pub mod code;
+pub mod lines;
+pub mod sections;
+pub mod signature;
+
+ghost use mathlib.Core.Path.{_≡_};
+ghost use mathlib.Core.Bool.{true};
+ghost use Rattle.format.specs.Opening.{sectionsOf, openOf};
+ghost use Rattle.loader.specs.Sections.{isSome, linesStart, codeStart};
+ghost use Rattle.loader.specs.Open.{openedAs};
+use answers::Opened;
+use answers::Refusal;
+use answers::Sections;
+use lines::Judgement;
+
+// The image, whose sections are found.
+fn open_sections(image: &[u8], lines: usize, code: usize) -> Opened
+    requires { ⌜ isSome (sectionsOf (now image)) ≡ true ⌝ }
+    requires { ⌜ lines ≡ linesStart (now image) ⌝ }
+    requires { ⌜ code ≡ codeStart (now image) ⌝ }
+    ensures { λ r. ⌜ r ≡ openedAs (now (image .entry)) (openOf (now (image .entry))) ⌝ }
+{
+    let end = image.len();
+    if signature::has_signature(&image[28..lines]) {
+        let judged = lines::judge(&image[28..lines], &image[lines..code], &image[code..end]);
+        match judged {
+            Judgement::Good => Opened::Image(Sections {
+                signature: 28,
+                lines,
+                code,
+                end,
+            }),
+            Judgement::BadAt(x) => Opened::NotOpened(Refusal::BadLine(x)),
+        }
+    } else {
+        Opened::NotOpened(Refusal::BadSignature)
+    }
+}
+
+// Any bytes: where the sections start, or the refusal.
+pub fn open(image: &[u8]) -> Opened
+    ensures { λ r. ⌜ r ≡ openedAs (now (image .entry)) (openOf (now (image .entry))) ⌝ }
+{
+    if sections::has_sections(image) {
+        let lines = 28 + sections::long(image, 8);
+        let code = lines + sections::long(image, 16);
+        return open_sections(image, lines, code);
+    }
+    Opened::NotOpened(Refusal::BadSections)
+}
