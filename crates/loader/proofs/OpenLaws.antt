@@ -12,11 +12,12 @@ use Rattle.semantics.proofs.Basic.{false-true, and-left, and-right}
 use Rattle.answers.specs.Answers.{numberOf, placeOf}
 use Rattle.answers.specs.declared.Refusal.the-variants.{BadSections, BadSignature, BadLine}
 use Rattle.answers.specs.declared.Opened as declared
+use Rattle.answers.specs.declared.Sections as declared-sections
 use Rattle.answers.specs.declared.Opened.the-variants.{Image, NotOpened}
 use Rattle.format.specs.Words.{onlyIf}
-use Rattle.format.specs.Image.{Sections}
+use Rattle.format.specs.Image.{Sections, Table}
 use Rattle.format.specs.Signature.{Signature, signatureOf}
-use Rattle.format.specs.Opening.{raws, sectionsOf, Lined, lined, bad-at, openLines, rawReaches, Opened, not-opened, tabled, openTable, unless12, rawLines, openSections, unless11, openOf}
+use Rattle.format.specs.Opening.{raws, sectionsOf, Lined, lined, bad-at, openLines, rawReaches, Opened, opened, not-opened, tabled, openTable, unless12, rawLines, openSections, unless11, openOf}
 use Rattle.loader.specs.Sections.{isSome, signatureLength, linesLength, codeLength, linesStart, codeStart, parts, headed, paired, whole, sectioned}
 use Rattle.loader.specs.Code.{orEmpty, signatureAt}
 use Rattle.loader.specs.Lines.{storedReaches, judged, linesFrom}
@@ -151,3 +152,20 @@ refused-as b q k e = at-11 (sectionsOf b) e
     at-11 : (o : Option Sections) → unless11 o openSections ≡ not-opened q k → (numberOf (refusalOf q k) ≡ q) × (placeOf (refusalOf q k) ≡ k)
     at-11 none p = same 11 0 p (refl, refl)
     at-11 (some x) p = at-12 x (signatureOf (x .signature)) p
+
+-- What a caller learns of an image that opened: its table, and where its sections start.
+pub image-opened : (b : List ℕ) (s : declared-sections.Sections) → Image s ≡ openedAs b (openOf b) → (t : Table) × (openOf b ≡ opened t) × (s ≡ placesOf b)
+image-opened b s e = go (openOf b) refl e
+  where
+    go : (o : Opened) → openOf b ≡ o → Image s ≡ openedAs b o → (t : Table) × (openOf b ≡ opened t) × (s ≡ placesOf b)
+    go (opened t) m p = (t, m, cc)
+    go (not-opened q k) m p = absurd (let z : _≡_ {A = ℕ} 0 1 = cc in omega arith)
+
+-- .. and that these are the parts of the image that the definitions open
+pub opened-sections : (b : List ℕ) (t : Table) → openOf b ≡ opened t → sectionsOf b ≡ some (parts b)
+unfolding openOf
+opened-sections b t e = go (sectionsOf b) refl e
+  where
+    go : (o : Option Sections) → sectionsOf b ≡ o → unless11 o openSections ≡ opened t → sectionsOf b ≡ some (parts b)
+    go none m p = absurd (let z : _≡_ {A = ℕ} 0 1 = cc in omega arith)
+    go (some x) m p = sections-there b (ap isSome m)

@@ -1,4 +1,5 @@
--- The code of a line, checked by place on a stack of type tags (document 01, "Image, form 1"). Assumes nothing.
+-- The code of a line, checked by place on a stack of type tags (document 01, "Image, form 1"). `codeType` is by `decode` of the crate `format`;
+-- `code-tags` and `rest-turn` tie the stack to it. Assumes nothing.
 use mathlib.Core.Bool.{cond}
 use mathlib.Core.Option.{Option, none, some, bind}
 use mathlib.Core.List.{List, [], _∷_}

@@ -1,4 +1,5 @@
--- What is checked of a line by its fields (document 01, "Image, form 1"). Assumes nothing.
+-- What is checked of a line by its fields (document 01, "Image, form 1"). `kind-any` ties the tests to `lineOf` and `goodLine` of the crate `format`.
+-- Assumes nothing.
 use mathlib.Core.Bool.{Bool, false, cond, _&&_}
 use mathlib.Core.List.{List}
 use Prim.Native.Nat.{ℕ, _+_, _*_, _-_, max}

@@ -21,7 +21,7 @@ fn input_type(signature: &[u8], k: usize) -> u8
 }
 
 // The type of an output.
-pub fn output_type(signature: &[u8], k: usize) -> u8
+pub(crate) fn output_type(signature: &[u8], k: usize) -> u8
     requires { ⌜ isSome (signatureOf (now signature)) ≡ true ⌝ }
     ensures { λ r. ⌜ r ≡ tagAt (outputTypes (now (signature .entry))) k ⌝ }
 {
@@ -32,7 +32,7 @@ pub fn output_type(signature: &[u8], k: usize) -> u8
 }
 
 // The type of a variable.
-pub fn variable_type(signature: &[u8], k: usize) -> u8
+pub(crate) fn variable_type(signature: &[u8], k: usize) -> u8
     requires { ⌜ isSome (signatureOf (now signature)) ≡ true ⌝ }
     ensures { λ r. ⌜ r ≡ tagAt (variableTypes (now (signature .entry))) k ⌝ }
 {
@@ -241,7 +241,7 @@ fn run(signature: &[u8], s: &[u8], stack: &mut [u8; 64]) -> u8
 }
 
 // The type of the value that code leaves, or 3 where it is no expression of 1 to 64 operations.
-pub fn code_type(signature: &[u8], s: &[u8]) -> u8
+pub(crate) fn code_type(signature: &[u8], s: &[u8]) -> u8
     requires { ⌜ isSome (signatureOf (now signature)) ≡ true ⌝ }
     ensures { λ r. ⌜ r ≡ tagOr (codeType (inputTypes (now (signature .entry))) (variableTypes (now (signature .entry))) (now (s .entry))) ⌝ }
 {

@@ -1,8 +1,8 @@
 // Opens an image: finds its three sections, or refuses it by 11, 12 or 13 at the exact place. One pass over the bytes.
-pub mod code;
-pub mod lines;
-pub mod sections;
-pub mod signature;
+mod code;
+mod lines;
+mod sections;
+mod signature;
 
 ghost use mathlib.Core.Path.{_≡_};
 ghost use mathlib.Core.Bool.{true};

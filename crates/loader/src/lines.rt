@@ -12,7 +12,7 @@ ghost use Rattle.loader.specs.Lines.{leavesType, codeFits, followersFit,
 use crate::signature::count;
 
 // All lines are good, or the lowest bad line, or the line count where only the code section is not filled.
-pub enum Judgement {
+pub(crate) enum Judgement {
     Good,
     BadAt(usize),
 }
@@ -133,7 +133,7 @@ fn line_fits(signature: &[u8], lines: &[u8], code: &[u8], n: usize, x: usize, p:
 }
 
 // All lines and the code section's end.
-pub fn judge(signature: &[u8], lines: &[u8], code: &[u8]) -> Judgement
+pub(crate) fn judge(signature: &[u8], lines: &[u8], code: &[u8]) -> Judgement
     requires { ⌜ isSome (signatureOf (now signature)) ≡ true ⌝ }
     requires { ⌜ length (now lines) / 12 ≤ 512 ⌝ }
     ensures { λ r. ⌜ r ≡ linesFrom (now (signature .entry)) (now (lines .entry)) (now (code .entry)) (length (now (lines .entry)) / 12) 0 0 ⌝ }

@@ -7,7 +7,7 @@ ghost use Rattle.format.specs.Opening.{sectionsOf};
 ghost use Rattle.loader.specs.Sections.{isSome, headed, paired, whole};
 
 // A four-byte number as a place.
-pub fn long(s: &[u8], at: usize) -> usize
+pub(crate) fn long(s: &[u8], at: usize) -> usize
     ensures { λ r. ⌜ r ≡ word4At (now (s .entry)) at ⌝ }
     ensures { λ r. ⌜ r < 4294967296 ⌝ }
 {
@@ -60,7 +60,7 @@ fn whole_lines(size: usize) -> bool
 }
 
 // The image has its three sections; where not, it is refused by 11.
-pub fn has_sections(image: &[u8]) -> bool
+pub(crate) fn has_sections(image: &[u8]) -> bool
     ensures { λ r. ⌜ r ≡ isSome (sectionsOf (now (image .entry))) ⌝ }
 {
     if header(image) {

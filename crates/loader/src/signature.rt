@@ -8,7 +8,7 @@ ghost use Rattle.format.specs.Signature.{typeOfByte, readTypes, readCell, readC
 ghost use Rattle.loader.specs.Sections.{isSome};
 
 // The byte at a position as a count.
-pub fn count(s: &[u8], at: usize) -> usize
+pub(crate) fn count(s: &[u8], at: usize) -> usize
     ensures { λ r. ⌜ r ≡ getD (now (s .entry)) at 0 ⌝ }
     ensures { λ r. ⌜ r < 256 ⌝ }
 {
@@ -76,7 +76,7 @@ fn cells(s: &[u8], at: usize, n: usize) -> bool
 }
 
 // The section is a signature's; where not, the image is refused by 12.
-pub fn has_signature(s: &[u8]) -> bool
+pub(crate) fn has_signature(s: &[u8]) -> bool
     ensures { λ r. ⌜ r ≡ isSome (signatureOf (now (s .entry))) ⌝ }
 {
     if s.len() < 3 {

@@ -1,10 +1,10 @@
--- `loader::code::run` meets its contract. The invariant: the rest of the code answers what the whole answers; the measure is the number of operations left. Assumes nothing.
+-- `loader::code::run` meets its contract. The invariant: the rest of the code answers what the whole answers; the measure is the number of operations
+-- left. Assumes nothing.
 use native.Mathlib.Omega.{arith}
 use borrow.Author.Needs.{needs}
 use mathlib.Core.Path.{ap, _∙_}
 use Rattle.loader.specs.Code.{width}
 use Rattle.loader.proofs.CodeLoop.{Left, left-first, left-again, left-stop, left-spent, left-one, left-other}
-use borrow.Author.Needs.{needs}
 use Rattle.loader.proofs.code.run.Statement.{statement}
 use Rattle.loader.proofs.code.run.Tie as tie
 

@@ -5,8 +5,6 @@ use native.Mathlib.Omega.{arith}
 use borrow.Author.Needs.{needs}
 use lib.ListN.{drop}
 use Rattle.loader.proofs.SignatureLaws.{cellsTest, cellHere, cells-step, cells-none, left-again, left-stop, left-end}
-use borrow.Author.Needs.{needs}
-use borrow.Author.Needs.{needs}
 use Rattle.loader.proofs.signature.cells.Statement.{statement}
 use Rattle.loader.proofs.signature.cells.Tie as tie
 

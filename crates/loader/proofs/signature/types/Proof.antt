@@ -5,8 +5,6 @@ use native.Mathlib.Omega.{arith}
 use borrow.Author.Needs.{needs}
 use lib.ListN.{drop}
 use Rattle.loader.proofs.SignatureLaws.{typesTest, typeHere, types-step, types-none, left-again, left-stop, left-end}
-use borrow.Author.Needs.{needs}
-use borrow.Author.Needs.{needs}
 use Rattle.loader.proofs.signature.types.Statement.{statement}
 use Rattle.loader.proofs.signature.types.Tie as tie
 

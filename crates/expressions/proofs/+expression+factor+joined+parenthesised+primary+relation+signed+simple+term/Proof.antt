@@ -1,0 +1,345 @@
+-- The proof of the cycle of calls of the readers of expressions. The measure is the tokens left, 8 for each, and a number for the level, so that it
+-- falls at a call at the same token too. Each return is one lemma of `Primaries` or `Sums`; a loop's invariant is that the tree so far has only grown.
+-- Assumes nothing.
+use Prim.Native.Nat.{ℕ, _<_, _+_, _*_, _-_}
+use mathlib.Core.Path.{refl, sym, _∙_, subst}
+use mathlib.Core.Logic.{inl, inr}
+use native.Mathlib.Omega.{arith}
+use borrow.Author.Needs.{needs}
+use lib.Dec.{lit<, lit≤}
+use Rattle.grammar.specs.Grammar.{primary as primaryPart, factor as factorPart, simple as simplePart, relation as relationPart}
+use Rattle.grammar.specs.Tree.{number}
+use Rattle.cursor.specs.Tokens.{noToken, kindIn, flagIn}
+use Rattle.cursor.proofs.Steps.{kind-inside}
+use Rattle.expressions.specs.Postfix.{postfix}
+use Rattle.expressions.specs.Written.{arrays}
+use Rattle.expressions.specs.Tests.{isAdding, isLogical}
+use Rattle.expressions.specs.Readers.{sum, operatorOf, TurnOver}
+use Rattle.expressions.proofs.Behind.{first-moves, operand-asks, put-room, behind-over}
+use Rattle.expressions.proofs.Primaries.{stay-moves, reads-stays, primary-refused, primary-leaf, parens-full, parens-read}
+use Rattle.expressions.proofs.Sums.{asks-after, adding-bounds, loop-falls, Chained, chained-none, chained-again, chained-falls, factor-plain, factor-not, signed-plain, signed-sign, term-turn, joined-turn, turn-none, turn-then, more-terms-true, goes-on-true, sum-read, sum-goes-on, relation-plain, relation-compared, expression-plain, expression-chain}
+use borrow.Fn.Kinds.{In}
+use borrow.Fn.PlainCycle.{Measures, is, falls, and}
+use Rattle.expressions.proofs.expression.Reads as expression
+use Rattle.expressions.proofs.expression.Kinds as expression-kinds
+use Rattle.expressions.proofs.+expression+factor+joined+parenthesised+primary+relation+signed+simple+term.Lts-expression as expression-lts
+use Rattle.expressions.proofs.factor.Reads as factor
+use Rattle.expressions.proofs.factor.Kinds as factor-kinds
+use Rattle.expressions.proofs.+expression+factor+joined+parenthesised+primary+relation+signed+simple+term.Lts-factor as factor-lts
+use Rattle.expressions.proofs.joined.Reads as joined
+use Rattle.expressions.proofs.joined.Kinds as joined-kinds
+use Rattle.expressions.proofs.+expression+factor+joined+parenthesised+primary+relation+signed+simple+term.Lts-joined as joined-lts
+use Rattle.expressions.proofs.parenthesised.Reads as parenthesised
+use Rattle.expressions.proofs.parenthesised.Kinds as parenthesised-kinds
+use Rattle.expressions.proofs.+expression+factor+joined+parenthesised+primary+relation+signed+simple+term.Lts-parenthesised as parenthesised-lts
+use Rattle.expressions.proofs.primary.Reads as primary
+use Rattle.expressions.proofs.primary.Kinds as primary-kinds
+use Rattle.expressions.proofs.+expression+factor+joined+parenthesised+primary+relation+signed+simple+term.Lts-primary as primary-lts
+use Rattle.expressions.proofs.relation.Reads as relation
+use Rattle.expressions.proofs.relation.Kinds as relation-kinds
+use Rattle.expressions.proofs.+expression+factor+joined+parenthesised+primary+relation+signed+simple+term.Lts-relation as relation-lts
+use Rattle.expressions.proofs.signed.Reads as signed
+use Rattle.expressions.proofs.signed.Kinds as signed-kinds
+use Rattle.expressions.proofs.+expression+factor+joined+parenthesised+primary+relation+signed+simple+term.Lts-signed as signed-lts
+use Rattle.expressions.proofs.simple.Reads as simple
+use Rattle.expressions.proofs.simple.Kinds as simple-kinds
+use Rattle.expressions.proofs.+expression+factor+joined+parenthesised+primary+relation+signed+simple+term.Lts-simple as simple-lts
+use Rattle.expressions.proofs.term.Reads as term
+use Rattle.expressions.proofs.term.Kinds as term-kinds
+use Rattle.expressions.proofs.+expression+factor+joined+parenthesised+primary+relation+signed+simple+term.Lts-term as term-lts
+use Rattle.cursor.proofs.expect.Reads as expect-reads
+use Rattle.cursor.proofs.item.Reads as item-reads
+use Rattle.cursor.proofs.kind_at.Reads as kind-at-reads
+use Rattle.cursor.proofs.refused.Reads as refused-reads
+use Rattle.expressions.proofs.joins.Reads as joins-reads
+use Rattle.expressions.proofs.leaf_code.Reads as leaf-code-reads
+use Rattle.expressions.proofs.more_terms.Reads as more-terms-reads
+use Rattle.expressions.proofs.put.Reads as put-reads
+use Rattle.expressions.proofs.+expression+factor+joined+parenthesised+primary+relation+signed+simple+term.{statement}
+use Rattle.expressions.proofs.+expression+factor+joined+parenthesised+primary+relation+signed+simple+term.Tie.{close}
+
+abbrev μ-expression : Measures 4 expression-kinds.ps ℕ
+μ-expression κs a = 8 * (a .1 .1 .0 - a .1 .1 .1 .0 .at) + 7
+
+abbrev μ-factor : Measures 4 factor-kinds.ps ℕ
+μ-factor κs a = 8 * (a .1 .1 .0 - a .1 .1 .1 .0 .at) + 2
+
+abbrev μ-joined : Measures 4 joined-kinds.ps ℕ
+μ-joined κs a = 8 * (a .1 .1 .0 - a .1 .1 .1 .0 .at) + 6
+
+abbrev μ-parenthesised : Measures 4 parenthesised-kinds.ps ℕ
+μ-parenthesised κs a = 8 * (a .1 .1 .0 - a .1 .1 .1 .0 .at) + 0
+
+abbrev μ-primary : Measures 4 primary-kinds.ps ℕ
+μ-primary κs a = 8 * (a .1 .1 .0 - a .1 .1 .1 .0 .at) + 1
+
+abbrev μ-relation : Measures 4 relation-kinds.ps ℕ
+μ-relation κs a = 8 * (a .1 .1 .0 - a .1 .1 .1 .0 .at) + 5
+
+abbrev μ-signed : Measures 4 signed-kinds.ps ℕ
+μ-signed κs a = 8 * (a .1 .1 .0 - a .1 .1 .1 .0 .at) + 3
+
+abbrev μ-simple : Measures 4 simple-kinds.ps ℕ
+μ-simple κs a = 8 * (a .1 .1 .0 - a .1 .1 .1 .0 .at) + 4
+
+abbrev μ-term : Measures 4 term-kinds.ps ℕ
+μ-term κs a = 8 * (a .1 .1 .0 - a .1 .1 .1 .0 .at) + 3
+
+abbrev expression-at : ℕ → In 4 expression-kinds.ps
+expression-at t = and 4 expression-kinds.ps (is 4 expression-kinds.ps μ-expression t) expression.Pre
+
+abbrev expression-below : ℕ → In 4 expression-kinds.ps
+expression-below t = and 4 expression-kinds.ps (falls 4 expression-kinds.ps _<_ μ-expression t) expression.Pre
+
+abbrev factor-at : ℕ → In 4 factor-kinds.ps
+factor-at t = and 4 factor-kinds.ps (is 4 factor-kinds.ps μ-factor t) factor.Pre
+
+abbrev factor-below : ℕ → In 4 factor-kinds.ps
+factor-below t = and 4 factor-kinds.ps (falls 4 factor-kinds.ps _<_ μ-factor t) factor.Pre
+
+abbrev joined-at : ℕ → In 4 joined-kinds.ps
+joined-at t = and 4 joined-kinds.ps (is 4 joined-kinds.ps μ-joined t) joined.Pre
+
+abbrev joined-below : ℕ → In 4 joined-kinds.ps
+joined-below t = and 4 joined-kinds.ps (falls 4 joined-kinds.ps _<_ μ-joined t) joined.Pre
+
+abbrev parenthesised-at : ℕ → In 4 parenthesised-kinds.ps
+parenthesised-at t = and 4 parenthesised-kinds.ps (is 4 parenthesised-kinds.ps μ-parenthesised t) parenthesised.Pre
+
+abbrev parenthesised-below : ℕ → In 4 parenthesised-kinds.ps
+parenthesised-below t = and 4 parenthesised-kinds.ps (falls 4 parenthesised-kinds.ps _<_ μ-parenthesised t) parenthesised.Pre
+
+abbrev primary-at : ℕ → In 4 primary-kinds.ps
+primary-at t = and 4 primary-kinds.ps (is 4 primary-kinds.ps μ-primary t) primary.Pre
+
+abbrev primary-below : ℕ → In 4 primary-kinds.ps
+primary-below t = and 4 primary-kinds.ps (falls 4 primary-kinds.ps _<_ μ-primary t) primary.Pre
+
+abbrev relation-at : ℕ → In 4 relation-kinds.ps
+relation-at t = and 4 relation-kinds.ps (is 4 relation-kinds.ps μ-relation t) relation.Pre
+
+abbrev relation-below : ℕ → In 4 relation-kinds.ps
+relation-below t = and 4 relation-kinds.ps (falls 4 relation-kinds.ps _<_ μ-relation t) relation.Pre
+
+abbrev signed-at : ℕ → In 4 signed-kinds.ps
+signed-at t = and 4 signed-kinds.ps (is 4 signed-kinds.ps μ-signed t) signed.Pre
+
+abbrev signed-below : ℕ → In 4 signed-kinds.ps
+signed-below t = and 4 signed-kinds.ps (falls 4 signed-kinds.ps _<_ μ-signed t) signed.Pre
+
+abbrev simple-at : ℕ → In 4 simple-kinds.ps
+simple-at t = and 4 simple-kinds.ps (is 4 simple-kinds.ps μ-simple t) simple.Pre
+
+abbrev simple-below : ℕ → In 4 simple-kinds.ps
+simple-below t = and 4 simple-kinds.ps (falls 4 simple-kinds.ps _<_ μ-simple t) simple.Pre
+
+abbrev term-at : ℕ → In 4 term-kinds.ps
+term-at t = and 4 term-kinds.ps (is 4 term-kinds.ps μ-term t) term.Pre
+
+abbrev term-below : ℕ → In 4 term-kinds.ps
+term-below t = and 4 term-kinds.ps (falls 4 term-kinds.ps _<_ μ-term t) term.Pre
+
+abbrev expression-calls : ℕ → expression-lts.Claims
+expression-calls t = (relation-below t, relation.Post, kind-at-reads.Asked, kind-at-reads.Learnt, joins-reads.Asked, joins-reads.Learnt, joined-below t, joined.Post)
+
+abbrev factor-calls : ℕ → factor-lts.Claims
+factor-calls t = (kind-at-reads.Asked, kind-at-reads.Learnt, primary-below t, primary.Post, item-reads.Asked, item-reads.Learnt, put-reads.Asked, put-reads.Learnt)
+
+abbrev joined-calls : ℕ → joined-lts.Claims
+joined-calls t = (kind-at-reads.Asked, kind-at-reads.Learnt, item-reads.Asked, item-reads.Learnt, relation-below t, relation.Post, put-reads.Asked, put-reads.Learnt)
+
+abbrev parenthesised-calls : ℕ → parenthesised-lts.Claims
+parenthesised-calls t = (refused-reads.Asked, refused-reads.Learnt, expression-below t, expression.Post, expect-reads.Asked, expect-reads.Learnt)
+
+abbrev primary-calls : ℕ → primary-lts.Claims
+primary-calls t = (kind-at-reads.Asked, kind-at-reads.Learnt, parenthesised-below t, parenthesised.Post, refused-reads.Asked, refused-reads.Learnt, item-reads.Asked, item-reads.Learnt, leaf-code-reads.Asked, leaf-code-reads.Learnt, put-reads.Asked, put-reads.Learnt)
+
+abbrev relation-calls : ℕ → relation-lts.Claims
+relation-calls t = (simple-below t, simple.Post, kind-at-reads.Asked, kind-at-reads.Learnt, item-reads.Asked, item-reads.Learnt, put-reads.Asked, put-reads.Learnt)
+
+abbrev signed-calls : ℕ → signed-lts.Claims
+signed-calls t = (kind-at-reads.Asked, kind-at-reads.Learnt, factor-below t, factor.Post, item-reads.Asked, item-reads.Learnt, put-reads.Asked, put-reads.Learnt)
+
+abbrev simple-calls : ℕ → simple-lts.Claims
+simple-calls t = (signed-below t, signed.Post, more-terms-reads.Asked, more-terms-reads.Learnt, term-below t, term.Post)
+
+abbrev term-calls : ℕ → term-lts.Claims
+term-calls t = (kind-at-reads.Asked, kind-at-reads.Learnt, item-reads.Asked, item-reads.Learnt, factor-below t, factor.Post, put-reads.Asked, put-reads.Learnt)
+
+abbrev expression-Inv-loop : expression-lts.InvT-loop
+expression-Inv-loop kinds long n parens codes₀ tokens₀ a₀ first kind codes tokens a = Chained kind kinds long n a₀ parens (arrays codes₀ tokens₀) a (arrays codes tokens)
+
+abbrev expression-μ-loop : expression-lts.MeasureT-loop
+expression-μ-loop kinds long n parens codes₀ tokens₀ a₀ first kind codes tokens a = (n - a .at) + (1 - a .fault)
+
+abbrev simple-Inv-loop : simple-lts.InvT-loop
+simple-Inv-loop kinds long n parens codes₀ tokens₀ a₀ codes tokens a = TurnOver sum kinds long n a₀ parens (arrays codes₀ tokens₀) a (arrays codes tokens)
+
+abbrev simple-μ-loop : simple-lts.MeasureT-loop
+simple-μ-loop kinds long n parens codes₀ tokens₀ a₀ codes tokens a = (n - a .at) + (1 - a .fault)
+
+expression-returns : (t : ℕ) → expression-lts.Need-returns (expression-calls t) (expression-at t) expression.Post expression-Inv-loop expression-μ-loop
+expression-returns t c = expression-plain (c .before .before .relation .ensures) (inl (let e = c .before .kind-at .ensures in omega arith))
+
+expression-returns-2 : (t : ℕ) → expression-lts.Need-returns-2 (expression-calls t) (expression-at t) expression.Post expression-Inv-loop expression-μ-loop
+expression-returns-2 t c = expression-plain (c .before .before .before .relation .ensures) (inr (let e = c .before .before .kind-at .ensures in omega arith))
+
+expression-loop-holds : (t : ℕ) → expression-lts.Need-loop-holds (expression-calls t) (expression-at t) expression.Post expression-Inv-loop expression-μ-loop
+expression-loop-holds t c = chained-none _ (asks-after (c .before .before .before .before .before .before .pre .1 .1) (c .before .before .before .relation .ensures .moves))
+
+expression-joined-requires : (t : ℕ) → expression-lts.Need-joined-requires (expression-calls t) (expression-at t) expression.Post expression-Inv-loop expression-μ-loop
+expression-joined-requires t c κs = let s = c .before .before .before .before .before .before .before .before .before .before .before .args in let o = c .before .before .before .before .before .before .before .before .relation .ensures .moves in let i = c .before .before .before .before .loop .inv .moves in let w = (goes-on-true (c .before .before .before .before .loop .a .fault) (kindIn (s .kinds .now) (s .n) (c .before .before .before .before .loop .a .at)) (c .before .before .before .before .before .before .before .kind-at .result) (sym (c .before .before .before .joins .ensures) ∙ c .before .before .if3 .taken)) in (omega arith, (c .before .before .before .before .before .before .before .before .before .before .before .pre .1 .0, asks-after (asks-after (c .before .before .before .before .before .before .before .before .before .before .before .pre .1 .1) (c .before .before .before .before .before .before .before .before .relation .ensures .moves)) (c .before .before .before .before .loop .inv .moves), (omega arith, omega arith)))
+
+expression-loop-less : (t : ℕ) → expression-lts.Need-loop-less (expression-calls t) (expression-at t) expression.Post expression-Inv-loop expression-μ-loop
+expression-loop-less t c = let s = c .before .before .before .before .before .before .before .before .before .before .before .before .args in let o = c .before .before .before .before .before .before .before .before .before .relation .ensures .moves in let i = c .before .before .before .before .before .loop .inv .moves in chained-falls (kindIn (s .kinds .now) (s .n) (c .before .before .before .before .before .loop .a .at)) (c .before .before .before .before .before .before .before .if1 .left) (c .before .before .before .before .before .before .if2 .left) ((goes-on-true (c .before .before .before .before .before .loop .a .fault) (kindIn (s .kinds .now) (s .n) (c .before .before .before .before .before .loop .a .at)) (c .before .before .before .before .before .before .before .before .kind-at .result) (sym (c .before .before .before .before .joins .ensures) ∙ c .before .before .before .if3 .taken)) .1) (omega arith) ((goes-on-true (c .before .before .before .before .before .loop .a .fault) (kindIn (s .kinds .now) (s .n) (c .before .before .before .before .before .loop .a .at)) (c .before .before .before .before .before .before .before .before .kind-at .result) (sym (c .before .before .before .before .joins .ensures) ∙ c .before .before .before .if3 .taken)) .0) (c .joined .ensures)
+
+expression-loop-again : (t : ℕ) → expression-lts.Need-loop-again (expression-calls t) (expression-at t) expression.Post expression-Inv-loop expression-μ-loop
+expression-loop-again t c = let s = c .before .before .before .before .before .before .before .before .before .before .before .before .args in chained-again (kindIn (s .kinds .now) (s .n) (c .before .before .before .before .before .loop .a .at)) (c .before .before .before .before .before .before .before .if1 .left) (c .before .before .before .before .before .before .if2 .left) ((goes-on-true (c .before .before .before .before .before .loop .a .fault) (kindIn (s .kinds .now) (s .n) (c .before .before .before .before .before .loop .a .at)) (c .before .before .before .before .before .before .before .before .kind-at .result) (sym (c .before .before .before .before .joins .ensures) ∙ c .before .before .before .if3 .taken)) .1) (c .before .before .before .before .before .loop .inv) (c .joined .ensures)
+
+expression-returns-3 : (t : ℕ) → expression-lts.Need-returns-3 (expression-calls t) (expression-at t) expression.Post expression-Inv-loop expression-μ-loop
+expression-returns-3 t c = expression-chain (c .before .before .before .before .before .kind-at .result) (c .before .before .before .before .if1 .left) (c .before .before .before .if2 .left) (c .before .before .before .before .before .before .relation .ensures) (sym (c .before .before .before .before .before .kind-at .ensures)) (c .before .before .loop .inv .turns) (sym (c .before .joins .ensures) ∙ c .if3 .left)
+
+factor-returns : (t : ℕ) → factor-lts.Need-returns (factor-calls t) (factor-at t) factor.Post
+factor-returns t c = factor-plain (λ z. c .before .before .before .if1 .taken (c .before .before .before .before .kind-at .ensures ∙ z)) (c .primary .ensures)
+
+factor-item-requires : (t : ℕ) → factor-lts.Need-item-requires (factor-calls t) (factor-at t) factor.Post
+factor-item-requires t c κs = let s = c .before .before .args in let i = (kind-inside (s .kinds .now) (s .n) (s .q .at) 22 (sym (c .before .kind-at .ensures) ∙ c .if1 .left) (lit< tt)) in omega arith
+
+factor-primary-requires-2 : (t : ℕ) → factor-lts.Need-primary-requires-2 (factor-calls t) (factor-at t) factor.Post
+factor-primary-requires-2 t c κs = let s = c .before .before .before .before .before .args in let i = (kind-inside (s .kinds .now) (s .n) (s .q .at) 22 (sym (c .before .before .before .before .kind-at .ensures) ∙ c .before .before .before .if1 .left) (lit< tt)) in let a = operand-asks (s .n) (s .q) (c .before .before .item .result) (s .q) (s .q) (flagIn (s .long .now) (s .q .at)) (c .before .before .before .before .before .pre .1 .1) i (c .before .before .item .ensures) in let m = first-moves (s .n) (s .q) (c .before .before .item .result) (s .q) (s .q) (flagIn (s .long .now) (s .q .at)) (c .before .before .before .before .before .pre .1 .1) i (c .before .before .item .ensures) in omega arith
+
+factor-put-requires : (t : ℕ) → factor-lts.Need-put-requires (factor-calls t) (factor-at t) factor.Post
+factor-put-requires t c κs = let s = c .before .before .before .before .before .before .before .before .args in let i = (kind-inside (s .kinds .now) (s .n) (s .q .at) 22 (sym (c .before .before .before .before .before .before .before .kind-at .ensures) ∙ c .before .before .before .before .before .before .if1 .left) (lit< tt)) in (put-room (s .n) (s .q) (c .before .before .before .before .before .item .result) (c .before .before .primary2 .result) (s .q) (flagIn (s .long .now) (s .q .at)) (c .before .before .before .before .before .before .before .before .pre .1 .1) i (c .before .before .before .before .before .item .ensures) (c .before .before .primary2 .ensures .moves), omega arith)
+
+factor-returns-2 : (t : ℕ) → factor-lts.Need-returns-2 (factor-calls t) (factor-at t) factor.Post
+factor-returns-2 t c = let e = sym (c .before .before .before .before .before .before .before .before .kind-at .ensures) ∙ c .before .before .before .before .before .before .before .if1 .left in factor-not e (behind-over primaryPart postfix 22 (lit< tt) (c .before .before .before .before .before .before .before .before .before .pre .1 .1) (c .before .before .before .before .before .before .before .before .before .pre .1 .0) e (c .before .before .before .before .before .before .item .ensures) (c .before .before .before .primary2 .ensures) (c .put .ensures))
+
+joined-item-requires : (t : ℕ) → joined-lts.Need-item-requires (joined-calls t) (joined-at t) joined.Post
+joined-item-requires t c κs = let s = c .before .args in let w = c .before .pre .1 .2 in let i = (kind-inside (s .kinds .now) (s .n) (s .q .at) (kindIn (s .kinds .now) (s .n) (s .q .at)) refl (omega arith)) in omega arith
+
+joined-relation-requires : (t : ℕ) → joined-lts.Need-relation-requires (joined-calls t) (joined-at t) joined.Post
+joined-relation-requires t c κs = let s = c .before .before .before .before .args in let w = c .before .before .before .before .pre .1 .2 in let i = (kind-inside (s .kinds .now) (s .n) (s .q .at) (kindIn (s .kinds .now) (s .n) (s .q .at)) refl (omega arith)) in let a = operand-asks (s .n) (s .q) (c .before .before .item .result) (s .q) (s .q) (flagIn (s .long .now) (s .q .at)) (c .before .before .before .before .pre .1 .1) i (c .before .before .item .ensures) in let m = first-moves (s .n) (s .q) (c .before .before .item .result) (s .q) (s .q) (flagIn (s .long .now) (s .q .at)) (c .before .before .before .before .pre .1 .1) i (c .before .before .item .ensures) in omega arith
+
+joined-add-put : (t : ℕ) → joined-lts.Need-add-put (joined-calls t) (joined-at t) joined.Post
+joined-add-put t c = let s = c .before .before .before .before .before .before .before .args in let w = c .before .before .before .before .before .before .before .pre .1 .2 in let e = c .before .before .before .before .before .before .kind-at .ensures in omega arith
+
+joined-put-requires : (t : ℕ) → joined-lts.Need-put-requires (joined-calls t) (joined-at t) joined.Post
+joined-put-requires t c κs = let s = c .before .before .before .before .before .before .before .args in let w = c .before .before .before .before .before .before .before .pre .1 .2 in let i = (kind-inside (s .kinds .now) (s .n) (s .q .at) (kindIn (s .kinds .now) (s .n) (s .q .at)) refl (omega arith)) in (put-room (s .n) (s .q) (c .before .before .before .before .before .item .result) (c .before .before .relation .result) (s .q) (flagIn (s .long .now) (s .q .at)) (c .before .before .before .before .before .before .before .pre .1 .1) i (c .before .before .before .before .before .item .ensures) (c .before .before .relation .ensures .moves), omega arith)
+
+joined-returns : (t : ℕ) → joined-lts.Need-returns (joined-calls t) (joined-at t) joined.Post
+joined-returns t c = let s = c .before .before .before .before .before .before .before .before .args in let w = c .before .before .before .before .before .before .before .before .pre .1 .2 in let e = sym (c .before .before .before .before .before .before .before .kind-at .ensures) in λ t op. joined-turn (c .before .before .before .before .before .before .before .kind-at .result) e t (subst (operatorOf t) e op) (behind-over relationPart postfix (c .before .before .before .before .before .before .before .kind-at .result) (omega arith) (c .before .before .before .before .before .before .before .before .pre .1 .1) (c .before .before .before .before .before .before .before .before .pre .1 .0) e (c .before .before .before .before .before .before .item .ensures) (c .before .before .before .relation .ensures) (c .put .ensures))
+
+parenthesised-returns : (t : ℕ) → parenthesised-lts.Need-returns (parenthesised-calls t) (parenthesised-at t) parenthesised.Post
+parenthesised-returns t c = rw (c .refused .ensures) (parens-full (c .before .before .pre .1 .1) (c .before .before .pre .1 .0) (c .before .before .pre .1 .2) _ (c .before .if1 .taken) (c .before .before .pre .1 .3))
+
+parenthesised-add-expression : (t : ℕ) → parenthesised-lts.Need-add-expression (parenthesised-calls t) (parenthesised-at t) parenthesised.Post
+parenthesised-add-expression t c = let s = c .before .before .args in let i = (kind-inside (s .kinds .now) (s .n) (s .q .at) 5 (c .before .before .pre .1 .3) (lit< tt)) in omega arith
+
+parenthesised-expression-requires : (t : ℕ) → parenthesised-lts.Need-expression-requires (parenthesised-calls t) (parenthesised-at t) parenthesised.Post
+parenthesised-expression-requires t c κs = let s = c .before .before .before .before .args in let i = (kind-inside (s .kinds .now) (s .n) (s .q .at) 5 (c .before .before .before .before .pre .1 .3) (lit< tt)) in omega arith
+
+parenthesised-expect-requires : (t : ℕ) → parenthesised-lts.Need-expect-requires (parenthesised-calls t) (parenthesised-at t) parenthesised.Post
+parenthesised-expect-requires t c κs = let s = c .before .before .before .before .before .args in let i = (kind-inside (s .kinds .now) (s .n) (s .q .at) 5 (c .before .before .before .before .before .pre .1 .3) (lit< tt)) in let m = c .expression .ensures .moves in omega arith
+
+parenthesised-returns-2 : (t : ℕ) → parenthesised-lts.Need-returns-2 (parenthesised-calls t) (parenthesised-at t) parenthesised.Post
+parenthesised-returns-2 t c = parens-read (c .before .before .before .before .before .before .pre .1 .1) (c .before .before .before .before .before .before .pre .1 .0) (c .before .before .before .before .before .before .pre .1 .2) (c .before .before .before .before .before .if1 .left) (c .before .before .before .before .before .before .pre .1 .3) _ _ _ refl (c .before .expression .ensures) (c .expect .ensures)
+
+primary-returns : (t : ℕ) → primary-lts.Need-returns (primary-calls t) (primary-at t) primary.Post
+primary-returns t c = reads-stays primaryPart postfix (number noToken) _ (c .before .before .pre .1 .1) (c .if1 .taken)
+
+primary-parenthesised-requires : (t : ℕ) → primary-lts.Need-parenthesised-requires (primary-calls t) (primary-at t) primary.Post
+primary-parenthesised-requires t c κs = let e = c .before .before .before .kind-at .ensures in omega arith
+
+primary-returns-2 : (t : ℕ) → primary-lts.Need-returns-2 (primary-calls t) (primary-at t) primary.Post
+primary-returns-2 t c = c .parenthesised .ensures
+
+primary-returns-3 : (t : ℕ) → primary-lts.Need-returns-3 (primary-calls t) (primary-at t) primary.Post
+primary-returns-3 t c = rw (c .refused .ensures) (primary-refused (c .before .before .before .before .before .before .pre .1 .1) (c .before .before .before .before .before .before .pre .1 .0) (c .before .before .before .before .if1 .left) _ (inl (sym (c .before .before .before .kind-at .ensures) ∙ c .before .if3 .taken)))
+
+primary-returns-4 : (t : ℕ) → primary-lts.Need-returns-4 (primary-calls t) (primary-at t) primary.Post
+primary-returns-4 t c = rw (c .refused2 .ensures) (primary-refused (c .before .before .before .before .before .before .before .pre .1 .1) (c .before .before .before .before .before .before .before .pre .1 .0) (c .before .before .before .before .before .if1 .left) _ (inr (let e = c .before .before .before .before .kind-at .ensures in let f = c .before .before .before .if2 .left in omega arith)))
+
+primary-item-requires : (t : ℕ) → primary-lts.Need-item-requires (primary-calls t) (primary-at t) primary.Post
+primary-item-requires t c κs = let s = c .before .before .before .before .before .before .args in let i = (kind-inside (s .kinds .now) (s .n) (s .q .at) (c .before .before .before .kind-at .result) (sym (c .before .before .before .kind-at .ensures)) (let f = c .before .if3 .left in omega arith)) in omega arith
+
+primary-put-requires : (t : ℕ) → primary-lts.Need-put-requires (primary-calls t) (primary-at t) primary.Post
+primary-put-requires t c κs = let s = c .before .before .before .before .before .before .before .before .before .before .args in let i = (kind-inside (s .kinds .now) (s .n) (s .q .at) (c .before .before .before .before .before .before .before .kind-at .result) (sym (c .before .before .before .before .before .before .before .kind-at .ensures)) (let f = c .before .before .before .before .before .if3 .left in omega arith)) in (put-room (s .n) (s .q) (c .before .before .before .item .result) (c .before .before .before .item .result) (s .q) (flagIn (s .long .now) (s .q .at)) (c .before .before .before .before .before .before .before .before .before .before .pre .1 .1) i (c .before .before .before .item .ensures) (stay-moves (s .n) (c .before .before .before .item .result) (operand-asks (s .n) (s .q) (c .before .before .before .item .result) (s .q) (s .q) (flagIn (s .long .now) (s .q .at)) (c .before .before .before .before .before .before .before .before .before .before .pre .1 .1) i (c .before .before .before .item .ensures))), omega arith)
+
+primary-returns-5 : (t : ℕ) → primary-lts.Need-returns-5 (primary-calls t) (primary-at t) primary.Post
+primary-returns-5 t c = primary-leaf (c .before .before .before .before .before .before .before .before .before .before .before .pre .1 .1) (c .before .before .before .before .before .before .before .before .before .before .before .pre .1 .0) (c .before .before .before .before .before .before .before .before .before .if1 .left) (c .before .before .before .before .before .before .before .before .kind-at .result) (let f = c .before .before .before .before .before .before .if3 .left in omega arith) (c .before .before .before .before .before .if4 .left) (sym (c .before .before .before .before .before .before .before .before .kind-at .ensures)) _ _ (c .before .before .before .before .item .ensures) (rw (c .before .leaf-code .ensures) at (c .put .ensures))
+
+relation-returns : (t : ℕ) → relation-lts.Need-returns (relation-calls t) (relation-at t) relation.Post
+relation-returns t c = relation-plain (c .before .before .simple .ensures) (inl (let e = c .before .kind-at .ensures in omega arith))
+
+relation-returns-2 : (t : ℕ) → relation-lts.Need-returns-2 (relation-calls t) (relation-at t) relation.Post
+relation-returns-2 t c = relation-plain (c .before .before .before .simple .ensures) (inr (let e = c .before .before .kind-at .ensures in omega arith))
+
+relation-item-requires : (t : ℕ) → relation-lts.Need-item-requires (relation-calls t) (relation-at t) relation.Post
+relation-item-requires t c κs = let s = c .before .before .before .before .before .before .args in let i = (kind-inside (s .kinds .now) (s .n) (c .before .before .before .simple .result .at) (c .before .before .kind-at .result) (sym (c .before .before .kind-at .ensures)) (omega arith)) in omega arith
+
+relation-simple-requires-2 : (t : ℕ) → relation-lts.Need-simple-requires-2 (relation-calls t) (relation-at t) relation.Post
+relation-simple-requires-2 t c κs = let s = c .before .before .before .before .before .before .before .before .before .args in let i = (kind-inside (s .kinds .now) (s .n) (c .before .before .before .before .before .before .simple .result .at) (c .before .before .before .before .before .kind-at .result) (sym (c .before .before .before .before .before .kind-at .ensures)) (omega arith)) in let a = operand-asks (s .n) (c .before .before .before .before .before .before .simple .result) (c .before .before .item .result) (s .q) (s .q) (flagIn (s .long .now) (c .before .before .before .before .before .before .simple .result .at)) (asks-after (c .before .before .before .before .before .before .before .before .before .pre .1 .1) (c .before .before .before .before .before .before .simple .ensures .moves)) i (c .before .before .item .ensures) in let m = first-moves (s .n) (c .before .before .before .before .before .before .simple .result) (c .before .before .item .result) (s .q) (s .q) (flagIn (s .long .now) (c .before .before .before .before .before .before .simple .result .at)) (asks-after (c .before .before .before .before .before .before .before .before .before .pre .1 .1) (c .before .before .before .before .before .before .simple .ensures .moves)) i (c .before .before .item .ensures) in let o = c .before .before .before .before .before .before .simple .ensures .moves in omega arith
+
+relation-put-requires : (t : ℕ) → relation-lts.Need-put-requires (relation-calls t) (relation-at t) relation.Post
+relation-put-requires t c κs = let s = c .before .before .before .before .before .before .before .before .before .before .before .before .args in let h = c .before .before .before .before .before .before .before .before .before .before .before .before .pre .1 .1 in let o = c .before .before .before .before .before .before .before .before .before .simple .ensures .moves in let i = (kind-inside (s .kinds .now) (s .n) (c .before .before .before .before .before .before .before .before .before .simple .result .at) (c .before .before .before .before .before .before .before .before .kind-at .result) (sym (c .before .before .before .before .before .before .before .before .kind-at .ensures)) (omega arith)) in (put-room (s .n) (c .before .before .before .before .before .before .before .before .before .simple .result) (c .before .before .before .before .before .item .result) (c .before .before .simple2 .result) (s .q) (flagIn (s .long .now) (c .before .before .before .before .before .before .before .before .before .simple .result .at)) (asks-after (c .before .before .before .before .before .before .before .before .before .before .before .before .pre .1 .1) (c .before .before .before .before .before .before .before .before .before .simple .ensures .moves)) i (c .before .before .before .before .before .item .ensures) (c .before .before .simple2 .ensures .moves), omega arith)
+
+relation-returns-3 : (t : ℕ) → relation-lts.Need-returns-3 (relation-calls t) (relation-at t) relation.Post
+relation-returns-3 t c = let s = c .before .before .before .before .before .before .before .before .before .before .before .before .before .args in let e = sym (c .before .before .before .before .before .before .before .before .before .kind-at .ensures) in relation-compared (c .before .before .before .before .before .before .before .before .before .kind-at .result) (c .before .before .before .before .before .before .before .before .before .before .simple .ensures) (omega arith) (omega arith) e (behind-over simplePart postfix (c .before .before .before .before .before .before .before .before .before .kind-at .result) (omega arith) (asks-after (c .before .before .before .before .before .before .before .before .before .before .before .before .before .pre .1 .1) (c .before .before .before .before .before .before .before .before .before .before .simple .ensures .moves)) (c .before .before .before .before .before .before .before .before .before .before .before .before .before .pre .1 .0) e (c .before .before .before .before .before .before .item .ensures) (c .before .before .before .simple2 .ensures) (c .put .ensures))
+
+signed-returns : (t : ℕ) → signed-lts.Need-returns (signed-calls t) (signed-at t) signed.Post
+signed-returns t c = signed-plain (λ z. c .before .before .before .if1 .taken (c .before .before .before .before .kind-at .ensures ∙ z)) (c .factor .ensures)
+
+signed-item-requires : (t : ℕ) → signed-lts.Need-item-requires (signed-calls t) (signed-at t) signed.Post
+signed-item-requires t c κs = let s = c .before .before .args in let i = (kind-inside (s .kinds .now) (s .n) (s .q .at) 12 (sym (c .before .kind-at .ensures) ∙ c .if1 .left) (lit< tt)) in omega arith
+
+signed-factor-requires-2 : (t : ℕ) → signed-lts.Need-factor-requires-2 (signed-calls t) (signed-at t) signed.Post
+signed-factor-requires-2 t c κs = let s = c .before .before .before .before .before .args in let i = (kind-inside (s .kinds .now) (s .n) (s .q .at) 12 (sym (c .before .before .before .before .kind-at .ensures) ∙ c .before .before .before .if1 .left) (lit< tt)) in let a = operand-asks (s .n) (s .q) (c .before .before .item .result) (s .q) (s .q) (flagIn (s .long .now) (s .q .at)) (c .before .before .before .before .before .pre .1 .1) i (c .before .before .item .ensures) in let m = first-moves (s .n) (s .q) (c .before .before .item .result) (s .q) (s .q) (flagIn (s .long .now) (s .q .at)) (c .before .before .before .before .before .pre .1 .1) i (c .before .before .item .ensures) in omega arith
+
+signed-put-requires : (t : ℕ) → signed-lts.Need-put-requires (signed-calls t) (signed-at t) signed.Post
+signed-put-requires t c κs = let s = c .before .before .before .before .before .before .before .before .args in let i = (kind-inside (s .kinds .now) (s .n) (s .q .at) 12 (sym (c .before .before .before .before .before .before .before .kind-at .ensures) ∙ c .before .before .before .before .before .before .if1 .left) (lit< tt)) in (put-room (s .n) (s .q) (c .before .before .before .before .before .item .result) (c .before .before .factor2 .result) (s .q) (flagIn (s .long .now) (s .q .at)) (c .before .before .before .before .before .before .before .before .pre .1 .1) i (c .before .before .before .before .before .item .ensures) (c .before .before .factor2 .ensures .moves), omega arith)
+
+signed-returns-2 : (t : ℕ) → signed-lts.Need-returns-2 (signed-calls t) (signed-at t) signed.Post
+signed-returns-2 t c = let e = sym (c .before .before .before .before .before .before .before .before .kind-at .ensures) ∙ c .before .before .before .before .before .before .before .if1 .left in signed-sign e (behind-over factorPart postfix 12 (lit< tt) (c .before .before .before .before .before .before .before .before .before .pre .1 .1) (c .before .before .before .before .before .before .before .before .before .pre .1 .0) e (c .before .before .before .before .before .before .item .ensures) (c .before .before .before .factor2 .ensures) (c .put .ensures))
+
+simple-loop-holds : (t : ℕ) → simple-lts.Need-loop-holds (simple-calls t) (simple-at t) simple.Post simple-Inv-loop simple-μ-loop
+simple-loop-holds t c = turn-none sum _ (asks-after (c .before .before .before .pre .1 .1) (c .signed .ensures .moves))
+
+simple-term-requires : (t : ℕ) → simple-lts.Need-term-requires (simple-calls t) (simple-at t) simple.Post simple-Inv-loop simple-μ-loop
+simple-term-requires t c κs = let s = c .before .before .before .before .before .before .before .before .args in let o = c .before .before .before .before .before .signed .ensures .moves in let i = c .before .before .before .before .loop .inv .moves in (omega arith, (c .before .before .before .before .before .before .before .before .pre .1 .0, asks-after (asks-after (c .before .before .before .before .before .before .before .before .pre .1 .1) (c .before .before .before .before .before .signed .ensures .moves)) (c .before .before .before .before .loop .inv .moves), (more-terms-true (c .before .before .before .before .loop .a .fault) (kindIn (s .kinds .now) (s .n) (c .before .before .before .before .loop .a .at)) (sym (c .before .before .before .more-terms .ensures) ∙ c .before .before .if1 .taken)) .1))
+
+simple-loop-less : (t : ℕ) → simple-lts.Need-loop-less (simple-calls t) (simple-at t) simple.Post simple-Inv-loop simple-μ-loop
+simple-loop-less t c = let s = c .before .before .before .before .before .before .before .before .before .args in let o = c .before .before .before .before .before .before .signed .ensures .moves in let i = c .before .before .before .before .before .loop .inv .moves in loop-falls (s .n) (c .before .before .before .before .before .loop .a) (c .term .result) (omega arith) ((more-terms-true (c .before .before .before .before .before .loop .a .fault) (kindIn (s .kinds .now) (s .n) (c .before .before .before .before .before .loop .a .at)) (sym (c .before .before .before .before .more-terms .ensures) ∙ c .before .before .before .if1 .taken)) .0) (c .term .ensures .turn .moves) (c .term .ensures .further)
+
+simple-loop-again : (t : ℕ) → simple-lts.Need-loop-again (simple-calls t) (simple-at t) simple.Post simple-Inv-loop simple-μ-loop
+simple-loop-again t c = turn-then (c .before .before .before .before .before .loop .inv) (c .term .ensures .turn)
+
+simple-returns : (t : ℕ) → simple-lts.Need-returns (simple-calls t) (simple-at t) simple.Post simple-Inv-loop simple-μ-loop
+simple-returns t c = sum-read (sum-goes-on (c .before .before .before .signed .ensures) (c .before .before .loop .inv)) (sym (c .before .more-terms .ensures) ∙ c .if1 .left)
+
+term-item-requires : (t : ℕ) → term-lts.Need-item-requires (term-calls t) (term-at t) term.Post
+term-item-requires t c κs = let s = c .before .args in let w = adding-bounds (kindIn (s .kinds .now) (s .n) (s .q .at)) (c .before .pre .1 .2) in let i = (kind-inside (s .kinds .now) (s .n) (s .q .at) (kindIn (s .kinds .now) (s .n) (s .q .at)) refl (omega arith)) in omega arith
+
+term-factor-requires : (t : ℕ) → term-lts.Need-factor-requires (term-calls t) (term-at t) term.Post
+term-factor-requires t c κs = let s = c .before .before .before .before .args in let w = adding-bounds (kindIn (s .kinds .now) (s .n) (s .q .at)) (c .before .before .before .before .pre .1 .2) in let i = (kind-inside (s .kinds .now) (s .n) (s .q .at) (kindIn (s .kinds .now) (s .n) (s .q .at)) refl (omega arith)) in let a = operand-asks (s .n) (s .q) (c .before .before .item .result) (s .q) (s .q) (flagIn (s .long .now) (s .q .at)) (c .before .before .before .before .pre .1 .1) i (c .before .before .item .ensures) in let m = first-moves (s .n) (s .q) (c .before .before .item .result) (s .q) (s .q) (flagIn (s .long .now) (s .q .at)) (c .before .before .before .before .pre .1 .1) i (c .before .before .item .ensures) in omega arith
+
+term-add-put : (t : ℕ) → term-lts.Need-add-put (term-calls t) (term-at t) term.Post
+term-add-put t c = let s = c .before .before .before .before .before .before .before .args in let w = adding-bounds (kindIn (s .kinds .now) (s .n) (s .q .at)) (c .before .before .before .before .before .before .before .pre .1 .2) in let e = c .before .before .before .before .before .before .kind-at .ensures in omega arith
+
+term-put-requires : (t : ℕ) → term-lts.Need-put-requires (term-calls t) (term-at t) term.Post
+term-put-requires t c κs = let s = c .before .before .before .before .before .before .before .args in let w = adding-bounds (kindIn (s .kinds .now) (s .n) (s .q .at)) (c .before .before .before .before .before .before .before .pre .1 .2) in let i = (kind-inside (s .kinds .now) (s .n) (s .q .at) (kindIn (s .kinds .now) (s .n) (s .q .at)) refl (omega arith)) in (put-room (s .n) (s .q) (c .before .before .before .before .before .item .result) (c .before .before .factor .result) (s .q) (flagIn (s .long .now) (s .q .at)) (c .before .before .before .before .before .before .before .pre .1 .1) i (c .before .before .before .before .before .item .ensures) (c .before .before .factor .ensures .moves), omega arith)
+
+term-returns : (t : ℕ) → term-lts.Need-returns (term-calls t) (term-at t) term.Post
+term-returns t c = let s = c .before .before .before .before .before .before .before .before .args in let w = adding-bounds (kindIn (s .kinds .now) (s .n) (s .q .at)) (c .before .before .before .before .before .before .before .before .pre .1 .2) in let e = sym (c .before .before .before .before .before .before .before .kind-at .ensures) in term-turn (c .before .before .before .before .before .before .before .kind-at .result) e (subst isAdding e (c .before .before .before .before .before .before .before .before .pre .1 .2)) (behind-over factorPart postfix (c .before .before .before .before .before .before .before .kind-at .result) (omega arith) (c .before .before .before .before .before .before .before .before .pre .1 .1) (c .before .before .before .before .before .before .before .before .pre .1 .0) e (c .before .before .before .before .before .before .item .ensures) (c .before .before .before .factor .ensures) (c .put .ensures))
+
+pub +expression+factor+joined+parenthesised+primary+relation+signed+simple+term-spec : {M : Type 1} → statement M
++expression+factor+joined+parenthesised+primary+relation+signed+simple+term-spec =
+    close μ-expression μ-factor μ-joined μ-parenthesised μ-primary μ-relation μ-signed μ-simple μ-term
+    (λ t. expression-lts.spec (expression-calls t) (expression-at t) expression.Post expression-Inv-loop expression-μ-loop (λ c κs. omega arith) (λ c κs. omega arith) (expression-returns t) (expression-returns-2 t) (expression-loop-holds t) (λ c κs. omega arith) (expression-joined-requires t) (expression-loop-less t) (expression-loop-again t) (expression-returns-3 t))
+    (λ t. factor-lts.spec (factor-calls t) (factor-at t) factor.Post (λ c κs. omega arith) (λ c κs. omega arith) (factor-returns t) (factor-item-requires t) (factor-primary-requires-2 t) (factor-put-requires t) (factor-returns-2 t))
+    (λ t. joined-lts.spec (joined-calls t) (joined-at t) joined.Post (λ c κs. omega arith) (joined-item-requires t) (joined-relation-requires t) (joined-add-put t) (joined-put-requires t) (joined-returns t))
+    (λ t. parenthesised-lts.spec (parenthesised-calls t) (parenthesised-at t) parenthesised.Post (λ c κs. search needs) (parenthesised-returns t) (parenthesised-add-expression t) (λ c. omega arith) (parenthesised-expression-requires t) (parenthesised-expect-requires t) (parenthesised-returns-2 t))
+    (λ t. primary-lts.spec (primary-calls t) (primary-at t) primary.Post (primary-returns t) (λ c κs. omega arith) (primary-parenthesised-requires t) (primary-returns-2 t) (λ c κs. search needs) (primary-returns-3 t) (λ c κs. search needs) (primary-returns-4 t) (primary-item-requires t) (λ c κs. search needs) (primary-put-requires t) (primary-returns-5 t))
+    (λ t. relation-lts.spec (relation-calls t) (relation-at t) relation.Post (λ c κs. omega arith) (λ c κs. omega arith) (relation-returns t) (relation-returns-2 t) (relation-item-requires t) (relation-simple-requires-2 t) (λ c. omega arith) (relation-put-requires t) (relation-returns-3 t))
+    (λ t. signed-lts.spec (signed-calls t) (signed-at t) signed.Post (λ c κs. omega arith) (λ c κs. omega arith) (signed-returns t) (signed-item-requires t) (signed-factor-requires-2 t) (signed-put-requires t) (signed-returns-2 t))
+    (λ t. simple-lts.spec (simple-calls t) (simple-at t) simple.Post simple-Inv-loop simple-μ-loop (λ c κs. omega arith) (simple-loop-holds t) (λ c κs. omega arith) (simple-term-requires t) (simple-loop-less t) (simple-loop-again t) (simple-returns t))
+    (λ t. term-lts.spec (term-calls t) (term-at t) term.Post (λ c κs. omega arith) (term-item-requires t) (term-factor-requires t) (term-add-put t) (term-put-requires t) (term-returns t))

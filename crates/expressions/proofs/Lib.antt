@@ -1,0 +1,6 @@
+pub mod Folds
+pub mod Items
+pub mod Behind
+pub mod Picks
+pub mod Primaries
+pub mod Sums

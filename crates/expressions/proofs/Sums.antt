@@ -1,0 +1,436 @@
+-- The returns of the readers of factors, sums and relations: each follows the grammar's reader by its laws. Assumes nothing.
+use mathlib.Core.Path.{_≡_, refl, sym, _∙_, ap, subst}
+use mathlib.Core.Bool.{Bool, true, false, _||_}
+use mathlib.Core.Logic.{_⊎_, inl, inr}
+use mathlib.Core.List.{List, [], _∷_, _++_, append-assoc, append-nil}
+use Prim.Native.Nat.{ℕ, zero, suc, _+_, _-_, _≤_, _<_}
+use native.Mathlib.Omega.{arith}
+use borrow.Author.Tests.{ne-eqb, eqb-true, eqb-false}
+use lib.Dec.{T, eqb}
+use lib.ListN.{length}
+use Rattle.grammar.specs.Token.{Token, PLUS, MINUS, EQ, GE, AND, OR, XOR, NOT}
+use Rattle.grammar.specs.Tree.{Expr, sign, negate, binary}
+use Rattle.grammar.specs.Grammar.{NonTerminal, expression, chain, ands, ors, xors, relation, compared, simple, terms, factor, primary, Says, Sym, tk, nt, Fun, item, Production, productions, _↠_}
+use Rattle.grammar.specs.Meter.{InHeading}
+use Rattle.grammar.specs.Derivation.{_∈_, here, there}
+use Rattle.grammar.specs.Reader.{choose, compose, elem, first, pick, take}
+use Rattle.grammar.proofs.Steps.{Ok}
+use Rattle.grammar.proofs.Tables.{pick-rule}
+use Rattle.cursor.specs.declared.Pos.{Pos}
+use Rattle.cursor.specs.Tokens.{tokenAt, kindIn, Holds}
+use Rattle.cursor.specs.Reading.{from, Fine, Asks, Moves}
+use Rattle.cursor.proofs.Steps.{kind-is, kind-inside, from-stays, rule-at, left-at, into-at}
+use Rattle.expressions.specs.Postfix.{Item, itemOf, binaryItem, postfix}
+use Rattle.expressions.specs.Written.{Arrays, Wrote}
+use Rattle.expressions.specs.Tests.{isAdding, isLogical, moreTerms, goesOn}
+use Rattle.expressions.specs.Readers.{Reads, ReadsOver, Tail, sum, and-chain, or-chain, xor-chain, tailOf, wholeOf, ofTail, ofWhole, operatorOf, Partly, PartlyOver, Turn, TurnOver, OneTurn}
+use Rattle.expressions.proofs.Items.{wrote-none, wrote-then}
+use Rattle.expressions.proofs.Behind.{Behind, BehindOver}
+use Rattle.expressions.proofs.Primaries.{ok-of, stay-moves}
+use Rattle.expressions.proofs.Picks.{notRule, signRule, termRule, comparedRule, andRule, orRule, xorRule, pick-not, pick-sign, pick-plus, pick-minus, pick-and, pick-or, pick-xor, chain-and, chain-or, chain-xor, pick-compared, into-relation, into-simple, into-factor, into-primary}
+
+pub moves-then : {n : ℕ} {q a r : Pos} → Moves n q a → Moves n a r → Moves n q r
+moves-then u v = record { on = omega arith; inside = omega arith; room = omega arith; few = omega arith; began = λ z. u .began (v .began z) }
+
+module _ {kinds long : List ℕ} {n : ℕ} {q : Pos} {d : ℕ} where
+  -- a factor
+  pub factor-plain : {before after : Arrays} {r : Pos} → (kindIn kinds n (q .at) ≡ 22 → ⊥) → ReadsOver primary postfix kinds long n q d before r after → ReadsOver factor postfix kinds long n q d before r after
+  unfolding compose productions
+  factor-plain f p = record {
+    moves = p .moves;
+    reads = λ ts holds. record {
+      value = p .reads ts holds .value;
+      goes = λ S s l h fine γ κ o.
+          into-at ts S s l h q d factor primary [] (λ a. a) γ κ (into-primary (tokenAt ts (q .at) .kind) (λ z. f (kind-is holds (q .at) ∙ z)))
+          ∙ p .reads ts holds .goes S s l h fine γ κ (ok-of {r = nt primary ∷ [] ↠ λ a. a} γ here o);
+      wrote = p .reads ts holds .wrote;
+    };
+  }
+
+  pub factor-not : {before after : Arrays} {r : Pos} → kindIn kinds n (q .at) ≡ 22 → BehindOver primary postfix 22 5 kinds long n q d before r after → ReadsOver factor postfix kinds long n q d before r after
+  unfolding compose postfix
+  factor-not e b = record {
+    moves = b .moves;
+    reads = λ ts holds.
+        let p : pick (productions factor) (tokenAt ts (q .at) .kind) ≡ take notRule = ap (pick (productions factor)) (sym (kind-is holds (q .at)) ∙ e) ∙ pick-not in
+        record {
+          value = negate (tokenAt ts (q .at)) (b .reads ts holds .value);
+          goes = λ S s l h fine γ κ o.
+              rule-at ts S s l h q d factor γ κ notRule p (let z = holds .count in let i = b .inside in omega arith)
+              ∙ b .reads ts holds .goes S s l h fine γ (λ x a. κ (negate x a)) (ok-of γ (pick-rule notRule (tokenAt ts (q .at) .kind) p) o);
+          wrote = b .reads ts holds .wrote;
+        };
+  }
+
+  -- the first term of a sum
+  pub signed-plain : {before after : Arrays} {r : Pos} → (kindIn kinds n (q .at) ≡ 12 → ⊥) → ReadsOver factor postfix kinds long n q d before r after → PartlyOver sum kinds long n q d before r after
+  unfolding compose productions
+  signed-plain f p = record {
+    moves = p .moves;
+    reads = λ ts holds. record {
+      value = p .reads ts holds .value;
+      goes = λ S s l h fine γ κ o.
+          into-at ts S s l h q d simple factor (nt terms ∷ []) (λ a f. f a) γ κ (into-factor (tokenAt ts (q .at) .kind) (λ z. f (kind-is holds (q .at) ∙ z)))
+          ∙ p .reads ts holds .goes S s l h fine (nt terms ∷ γ) (λ a f. κ (f a)) (ok-of {r = nt factor ∷ nt terms ∷ [] ↠ λ a f. f a} γ here o);
+      wrote = p .reads ts holds .wrote;
+    };
+  }
+
+  pub signed-sign : {before after : Arrays} {r : Pos} → kindIn kinds n (q .at) ≡ 12 → BehindOver factor postfix 12 4 kinds long n q d before r after → PartlyOver sum kinds long n q d before r after
+  unfolding compose postfix
+  signed-sign e b = record {
+    moves = b .moves;
+    reads = λ ts holds.
+        let p : pick (productions simple) (tokenAt ts (q .at) .kind) ≡ take signRule = ap (pick (productions simple)) (sym (kind-is holds (q .at)) ∙ e) ∙ pick-sign in
+        record {
+          value = sign (tokenAt ts (q .at)) (b .reads ts holds .value);
+          goes = λ S s l h fine γ κ o.
+              rule-at ts S s l h q d simple γ κ signRule p (let z = holds .count in let i = b .inside in omega arith)
+              ∙ b .reads ts holds .goes S s l h fine (nt terms ∷ γ) (λ x a f. κ (f (sign x a))) (ok-of γ (pick-rule signRule (tokenAt ts (q .at) .kind) p) o);
+          wrote = b .reads ts holds .wrote;
+        };
+  }
+
+-- an operator with two operands is written with the code of its kind
+binary-items : (q : Pos) {kinds long : List ℕ} {n : ℕ} {ts : List Token} {m p : ℕ} {before after : Arrays} → Holds ts kinds long n → (k : ℕ) → kindIn kinds n (q .at) ≡ k → (xs : List Item)
+    → Wrote ts m p before after (xs ++ (itemOf (k + 7) (tokenAt ts (q .at)) ∷ [])) → Wrote ts m p before after (xs ++ (binaryItem (tokenAt ts (q .at)) ∷ []))
+binary-items q {ts = ts} {m} {p} {before} {after} holds k e xs w =
+    subst (λ (j : ℕ). Wrote ts m p before after (xs ++ (itemOf (j + 7) (tokenAt ts (q .at)) ∷ []))) (sym e ∙ kind-is holds (q .at)) w
+
+-- Where the lists go on, and where they end.
+-- the list's operators
+abbrev pub Operator : Tail → ℕ → Type 0
+Operator sum k = isAdding k
+Operator and-chain k = k ≡ AND
+Operator or-chain k = k ≡ OR
+Operator xor-chain k = k ≡ XOR
+
+module _ {kinds long : List ℕ} {n : ℕ} {q : Pos} {d : ℕ} (k : ℕ) (e : kindIn kinds n (q .at) ≡ k) where
+  one-turn : (t : Tail) {before after : Arrays} {r : Pos} → Moves n q r → (r .fault ≡ 0 → q .at < r .at) → (value : (ts : List Token) → Holds ts kinds long n → Expr)
+      → ((ts : List Token) (holds : Holds ts kinds long n) → r .fault ≡ 0 → Wrote ts (q .n) (r .n) before after (postfix (value ts holds) ++ (itemOf (k + 7) (tokenAt ts (q .at)) ∷ [])))
+      → ((ts : List Token) (holds : Holds ts kinds long n) → (a : Expr) (S : NonTerminal) (s l : ℕ) (h : InHeading) → Fine s h → (γ : List Sym) (κ : Expr → Fun γ (Says S)) → Ok (nt (tailOf t) ∷ γ)
+      → from ts S s l h q d (nt (tailOf t) ∷ γ) (ofTail t S γ κ a) ≡ from ts S s l h r d (nt (tailOf t) ∷ γ) (ofTail t S γ κ (binary (tokenAt ts (q .at)) a (value ts holds))))
+      → OneTurn t kinds long n q d before r after
+  unfolding postfix
+  one-turn t {before} {after} {r} moves further value wrote goes = record {
+    turn = record {
+      moves = moves;
+      reads = λ ts holds. record {
+        grow = λ a. binary (tokenAt ts (q .at)) a (value ts holds);
+        items = postfix (value ts holds) ++ (binaryItem (tokenAt ts (q .at)) ∷ []);
+        grows = λ a. refl;
+        goes = goes ts holds;
+        wrote = λ z. binary-items q holds k e (postfix (value ts holds)) (wrote ts holds z);
+      };
+    };
+    further = further;
+  }
+
+  pub term-turn : {before after : Arrays} {r : Pos} → isAdding k → BehindOver factor postfix k (k + 7) kinds long n q d before r after → OneTurn sum kinds long n q d before r after
+  unfolding compose
+  term-turn adds b = one-turn sum (b .moves) (b .further) (λ ts holds. b .reads ts holds .value) (λ ts holds. b .reads ts holds .wrote) (λ ts holds a S s l h fine γ κ o.
+      let p : pick (productions terms) (tokenAt ts (q .at) .kind) ≡ take (termRule k) = ap (pick (productions terms)) (sym (kind-is holds (q .at)) ∙ e) ∙ either adds in
+      rule-at ts S s l h q d terms γ (λ f. κ (f a)) (termRule k) p (let z = holds .count in let i = b .inside in omega arith)
+      ∙ b .reads ts holds .goes S s l h fine (nt terms ∷ γ) (λ x v f. κ (f (binary x a v))) (ok-of γ (pick-rule (termRule k) (tokenAt ts (q .at) .kind) p) o))
+    where
+      either : isAdding k → pick (productions terms) k ≡ take (termRule k)
+      either (inl z) = rw z pick-plus
+      either (inr z) = rw z pick-minus
+
+  pub joined-turn : {before after : Arrays} {r : Pos} (t : Tail) → operatorOf t k → BehindOver relation postfix k (k + 7) kinds long n q d before r after → OneTurn t kinds long n q d before r after
+  unfolding compose
+  joined-turn sum op b = absurd op
+  joined-turn and-chain op b = one-turn and-chain (b .moves) (b .further) (λ ts holds. b .reads ts holds .value) (λ ts holds. b .reads ts holds .wrote) (λ ts holds a S s l h fine γ κ o.
+      let p : pick (productions ands) (tokenAt ts (q .at) .kind) ≡ take (andRule k) = ap (pick (productions ands)) (sym (kind-is holds (q .at)) ∙ e) ∙ pick-and k op in
+      rule-at ts S s l h q d ands γ (λ f. κ (f a)) (andRule k) p (let z = holds .count in let i = b .inside in omega arith)
+      ∙ b .reads ts holds .goes S s l h fine (nt ands ∷ γ) (λ x v f. κ (f (binary x a v))) (ok-of γ (pick-rule (andRule k) (tokenAt ts (q .at) .kind) p) o))
+  joined-turn or-chain op b = one-turn or-chain (b .moves) (b .further) (λ ts holds. b .reads ts holds .value) (λ ts holds. b .reads ts holds .wrote) (λ ts holds a S s l h fine γ κ o.
+      let p : pick (productions ors) (tokenAt ts (q .at) .kind) ≡ take (orRule k) = ap (pick (productions ors)) (sym (kind-is holds (q .at)) ∙ e) ∙ pick-or k op in
+      rule-at ts S s l h q d ors γ (λ f. κ (f a)) (orRule k) p (let z = holds .count in let i = b .inside in omega arith)
+      ∙ b .reads ts holds .goes S s l h fine (nt ors ∷ γ) (λ x v f. κ (f (binary x a v))) (ok-of γ (pick-rule (orRule k) (tokenAt ts (q .at) .kind) p) o))
+  joined-turn xor-chain op b = one-turn xor-chain (b .moves) (b .further) (λ ts holds. b .reads ts holds .value) (λ ts holds. b .reads ts holds .wrote) (λ ts holds a S s l h fine γ κ o.
+      let p : pick (productions xors) (tokenAt ts (q .at) .kind) ≡ take (xorRule k) = ap (pick (productions xors)) (sym (kind-is holds (q .at)) ∙ e) ∙ pick-xor k op in
+      rule-at ts S s l h q d xors γ (λ f. κ (f a)) (xorRule k) p (let z = holds .count in let i = b .inside in omega arith)
+      ∙ b .reads ts holds .goes S s l h fine (nt xors ∷ γ) (λ x v f. κ (f (binary x a v))) (ok-of γ (pick-rule (xorRule k) (tokenAt ts (q .at) .kind) p) o))
+
+-- no turn, and one turn after others
+pub turn-none : (t : Tail) {kinds long : List ℕ} {n : ℕ} {q : Pos} {d : ℕ} (b : Arrays) → Asks n q → TurnOver t kinds long n q d b q b
+turn-none t {n = n} {q} b a = record {
+  moves = stay-moves n q a;
+  reads = λ ts holds. record { grow = λ v. v; items = []; grows = λ v. sym (append-nil (postfix v)); goes = λ v S s l h fine γ κ o. refl; wrote = λ z. wrote-none ts (q .n) (q .n) b refl };
+}
+
+pub turn-then : {t : Tail} {kinds long : List ℕ} {n : ℕ} {q a r : Pos} {d : ℕ} {before middle after : Arrays} → TurnOver t kinds long n q d before a middle → TurnOver t kinds long n a d middle r after → TurnOver t kinds long n q d before r after
+turn-then u v = record {
+  moves = moves-then (u .moves) (v .moves);
+  reads = λ ts holds.
+      let x = u .reads ts holds in
+      let y = v .reads ts holds in
+      record {
+        grow = λ e. y .grow (x .grow e);
+        items = x .items ++ y .items;
+        grows = λ e. y .grows (x .grow e) ∙ (ap (λ (l : List Item). l ++ y .items) (x .grows e) ∙ append-assoc (postfix e) (x .items) (y .items));
+        goes = λ e S s l h fine γ κ o. x .goes e S s l h fine γ κ o ∙ y .goes (x .grow e) S s l h fine γ κ o;
+        wrote = λ z. wrote-then (x .wrote (v .moves .began z)) (y .wrote z);
+      };
+}
+
+-- the tree so far, and turns after it
+pub partly-then : {t : Tail} {kinds long : List ℕ} {n : ℕ} {q a r : Pos} {d : ℕ} {before middle after : Arrays} → ((γ : List Sym) → Ok (nt (wholeOf t) ∷ γ) → Ok (nt (tailOf t) ∷ γ))
+    → PartlyOver t kinds long n q d before a middle → TurnOver t kinds long n a d middle r after → PartlyOver t kinds long n q d before r after
+partly-then {t} {kinds} {long} {n} {q} {a} {r} {d} {before} {middle} {after} ok u v = record {
+  moves = moves-then (u .moves) (v .moves);
+  reads = λ ts holds.
+      let x = u .reads ts holds in
+      let y = v .reads ts holds in
+      record {
+        value = y .grow (x .value);
+        goes = λ S s l h fine γ κ o. x .goes S s l h fine γ κ o ∙ y .goes (x .value) S s l h fine γ κ (ok γ o);
+        wrote = λ z. subst (λ (l : List Item). Wrote ts (q .n) (r .n) before after l) (sym (y .grows (x .value))) (wrote-then (x .wrote (v .moves .began z)) (y .wrote z));
+      };
+}
+
+ok-terms : (γ : List Sym) → Ok (nt simple ∷ γ) → Ok (nt terms ∷ γ)
+unfolding productions
+ok-terms γ o = ok-of {r = nt factor ∷ nt terms ∷ [] ↠ λ a f. f a} γ here o .2
+
+-- a list ends where its operator does not stand, or where the reader has refused
+tail-end : (t : Tail) (ts : List Token) (S : NonTerminal) (s l : ℕ) (h : InHeading) (r : Pos) (d : ℕ) → (Operator t (tokenAt ts (r .at) .kind) → ⊥) → (γ : List Sym) (κ : Expr → Fun γ (Says S)) (a : Expr) → Ok (nt (tailOf t) ∷ γ)
+    → from ts S s l h r d (nt (tailOf t) ∷ γ) (ofTail t S γ κ a) ≡ from ts S s l h r d γ (κ a)
+unfolding productions first elem
+tail-end sum ts S s l h r d f γ κ a o = left-at ts S s l h r d terms γ (λ g. κ (g a)) o (λ b. b) here (λ z. rw (ne-eqb (tokenAt ts (r .at) .kind) PLUS (λ w. f (inl w)), ne-eqb (tokenAt ts (r .at) .kind) MINUS (λ w. f (inr w))) at z)
+tail-end and-chain ts S s l h r d f γ κ a o = left-at ts S s l h r d ands γ (λ g. κ (g a)) o (λ b. b) here (λ z. rw (ne-eqb (tokenAt ts (r .at) .kind) AND f) at z)
+tail-end or-chain ts S s l h r d f γ κ a o = left-at ts S s l h r d ors γ (λ g. κ (g a)) o (λ b. b) here (λ z. rw (ne-eqb (tokenAt ts (r .at) .kind) OR f) at z)
+tail-end xor-chain ts S s l h r d f γ κ a o = left-at ts S s l h r d xors γ (λ g. κ (g a)) o (λ b. b) here (λ z. rw (ne-eqb (tokenAt ts (r .at) .kind) XOR f) at z)
+
+pub tail-over : (t : Tail) (ts : List Token) (S : NonTerminal) (s l : ℕ) (h : InHeading) (r : Pos) (d : ℕ) → (r .fault ≡ 0 → Operator t (tokenAt ts (r .at) .kind) → ⊥) → (γ : List Sym) (κ : Expr → Fun γ (Says S)) (a : Expr) → Ok (nt (tailOf t) ∷ γ)
+    → from ts S s l h r d (nt (tailOf t) ∷ γ) (ofTail t S γ κ a) ≡ from ts S s l h r d γ (κ a)
+tail-over t ts S s l h r d f γ κ a o = go (eqb (r .fault) 0) refl
+  where
+    go : (b : Bool) → eqb (r .fault) 0 ≡ b → from ts S s l h r d (nt (tailOf t) ∷ γ) (ofTail t S γ κ a) ≡ from ts S s l h r d γ (κ a)
+    go true e = tail-end t ts S s l h r d (f (eqb-true (r .fault) 0 e)) γ κ a o
+    go false e = from-stays ts S s l s l h h r r d d (nt (tailOf t) ∷ γ) γ (ofTail t S γ κ a) (κ a) (eqb-false (r .fault) 0 e) refl refl
+
+-- the tests of the loops
+pub more-terms-true : (f k : ℕ) → moreTerms f k ≡ true → (f ≡ 0) × isAdding k
+unfolding moreTerms
+more-terms-true f k e = go (eqb f 0) refl (eqb k 11) refl e
+  where
+    go : (a : Bool) → eqb f 0 ≡ a → (b : Bool) → eqb k 11 ≡ b → choose a (choose b true (eqb k 12)) false ≡ true → (f ≡ 0) × isAdding k
+    go true u true v z = (eqb-true f 0 u, inl (eqb-true k 11 v))
+    go true u false v z = (eqb-true f 0 u, inr (eqb-true k 12 z))
+    go false u b v z = absurd (let y : _≡_ {A = ℕ} 0 1 = cc in omega arith)
+
+pub more-terms-false : (f k : ℕ) → moreTerms f k ≡ false → f ≡ 0 → isAdding k → ⊥
+unfolding moreTerms
+more-terms-false f k e z (inl w) = let y : true ≡ false = (rw (z, w) at e) in let x : _≡_ {A = ℕ} 0 1 = cc in omega arith
+more-terms-false f k e z (inr w) = let y : true ≡ false = (rw (z, w) at e) in let x : _≡_ {A = ℕ} 0 1 = cc in omega arith
+
+pub goes-on-true : (f k o : ℕ) → goesOn f k o ≡ true → (f ≡ 0) × (k ≡ o)
+unfolding goesOn
+goes-on-true f k o e = go (eqb f 0) refl e
+  where
+    go : (a : Bool) → eqb f 0 ≡ a → choose a (eqb k o) false ≡ true → (f ≡ 0) × (k ≡ o)
+    go true u z = (eqb-true f 0 u, eqb-true k o z)
+    go false u z = absurd (let y : _≡_ {A = ℕ} 0 1 = cc in omega arith)
+
+pub goes-on-false : (f k o : ℕ) → goesOn f k o ≡ false → f ≡ 0 → k ≡ o → ⊥
+unfolding goesOn
+goes-on-false f k o e z w = eqb-false k o (rw z at e) w
+
+-- a sum
+pub sum-read : {kinds long : List ℕ} {n : ℕ} {q r : Pos} {d : ℕ} {before after : Arrays} → PartlyOver sum kinds long n q d before r after → moreTerms (r .fault) (kindIn kinds n (r .at)) ≡ false → ReadsOver simple postfix kinds long n q d before r after
+sum-read {kinds} {long} {n} {q} {r} {d} p e = record {
+  moves = p .moves;
+  reads = λ ts holds. record {
+    value = p .reads ts holds .value;
+    goes = λ S s l h fine γ κ o.
+        p .reads ts holds .goes S s l h fine γ κ o
+        ∙ tail-over sum ts S s l h r d (λ z w. more-terms-false (r .fault) (kindIn kinds n (r .at)) e z (subst isAdding (sym (kind-is holds (r .at))) w)) γ κ (p .reads ts holds .value) (ok-terms γ o);
+    wrote = p .reads ts holds .wrote;
+  };
+}
+
+pub sum-goes-on : {kinds long : List ℕ} {n : ℕ} {q a r : Pos} {d : ℕ} {before middle after : Arrays} → PartlyOver sum kinds long n q d before a middle → TurnOver sum kinds long n a d middle r after → PartlyOver sum kinds long n q d before r after
+sum-goes-on p t = partly-then ok-terms p t
+
+-- a relation
+no-comparison : (k : ℕ) → (k < 13) ⊎ (18 < k) → T (elem k (first compared)) → ⊥
+unfolding first elem
+no-comparison k h t = rw (ne-eqb k 13 (away 13 h (omega arith) (omega arith)), ne-eqb k 14 (away 14 h (omega arith) (omega arith)), ne-eqb k 15 (away 15 h (omega arith) (omega arith)), ne-eqb k 16 (away 16 h (omega arith) (omega arith)), ne-eqb k 17 (away 17 h (omega arith) (omega arith)), ne-eqb k 18 (away 18 h (omega arith) (omega arith))) at t
+  where
+    away : (j : ℕ) → (k < 13) ⊎ (18 < k) → 13 ≤ j → j ≤ 18 → k ≡ j → ⊥
+    away j (inl z) p r e = omega arith
+    away j (inr z) p r e = omega arith
+
+no-chain : (k : ℕ) → (k < 19) ⊎ (21 < k) → T (elem k (first chain)) → ⊥
+unfolding first elem
+no-chain k h t = rw (ne-eqb k 19 (away 19 h (omega arith) (omega arith)), ne-eqb k 20 (away 20 h (omega arith) (omega arith)), ne-eqb k 21 (away 21 h (omega arith) (omega arith))) at t
+  where
+    away : (j : ℕ) → (k < 19) ⊎ (21 < k) → 19 ≤ j → j ≤ 21 → k ≡ j → ⊥
+    away j (inl z) p r e = omega arith
+    away j (inr z) p r e = omega arith
+
+module _ {kinds long : List ℕ} {n : ℕ} {q : Pos} {d : ℕ} where
+  pub relation-plain : {before after : Arrays} {r : Pos} → ReadsOver simple postfix kinds long n q d before r after → (kindIn kinds n (r .at) < 13) ⊎ (18 < kindIn kinds n (r .at)) → ReadsOver relation postfix kinds long n q d before r after
+  unfolding compose productions
+  relation-plain {r = r} p f = record {
+    moves = p .moves;
+    reads = λ ts holds. record {
+      value = p .reads ts holds .value;
+      goes = λ S s l h fine γ κ o.
+          let ok : Ok (nt simple ∷ nt compared ∷ γ) = ok-of {r = nt simple ∷ nt compared ∷ [] ↠ λ a f. f a} γ here o in
+          into-at ts S s l h q d relation simple (nt compared ∷ []) (λ a f. f a) γ κ (into-simple (tokenAt ts (q .at) .kind))
+          ∙ (p .reads ts holds .goes S s l h fine (nt compared ∷ γ) (λ a f. κ (f a)) ok
+          ∙ left-at ts S s l h r d compared γ (λ f. κ (f (p .reads ts holds .value))) (ok .2) (λ a. a) here
+          (no-comparison (tokenAt ts (r .at) .kind) (subst (λ (k : ℕ). (k < 13) ⊎ (18 < k)) (kind-is holds (r .at)) f)));
+      wrote = p .reads ts holds .wrote;
+    };
+  }
+
+  pub relation-compared : {before middle after : Arrays} {a r : Pos} (k : ℕ) → ReadsOver simple postfix kinds long n q d before a middle → EQ ≤ k → k ≤ GE → kindIn kinds n (a .at) ≡ k
+      → BehindOver simple postfix k (k + 7) kinds long n a d middle r after → ReadsOver relation postfix kinds long n q d before r after
+  unfolding compose productions postfix
+  relation-compared {before} {middle} {after} {a} {r} k p low high e b = record {
+    moves = moves-then (p .moves) (b .moves);
+    reads = λ ts holds.
+        let x = p .reads ts holds in
+        let y = b .reads ts holds in
+        record {
+          value = binary (tokenAt ts (a .at)) (x .value) (y .value);
+          goes = λ S s l h fine γ κ o.
+              let ok : Ok (nt simple ∷ nt compared ∷ γ) = ok-of {r = nt simple ∷ nt compared ∷ [] ↠ λ a f. f a} γ here o in
+              let w : pick (productions compared) (tokenAt ts (a .at) .kind) ≡ take (comparedRule k) = ap (pick (productions compared)) (sym (kind-is holds (a .at)) ∙ e) ∙ pick-compared k low high in
+              into-at ts S s l h q d relation simple (nt compared ∷ []) (λ a f. f a) γ κ (into-simple (tokenAt ts (q .at) .kind))
+              ∙ (x .goes S s l h fine (nt compared ∷ γ) (λ a f. κ (f a)) ok
+              ∙ (rule-at ts S s l h a d compared γ (λ f. κ (f (x .value))) (comparedRule k) w (let z = holds .count in let i = b .inside in omega arith)
+              ∙ y .goes S s l h fine γ (λ t v. κ (binary t (x .value) v)) (ok-of γ (pick-rule (comparedRule k) (tokenAt ts (a .at) .kind) w) (ok .2))));
+          wrote = λ z. wrote-then (x .wrote (b .moves .began z)) (binary-items a holds k e (postfix (y .value)) (y .wrote z));
+        };
+  }
+
+  -- an expression
+  pub expression-plain : {before after : Arrays} {r : Pos} → ReadsOver relation postfix kinds long n q d before r after → (kindIn kinds n (r .at) < 19) ⊎ (21 < kindIn kinds n (r .at)) → ReadsOver expression postfix kinds long n q d before r after
+  unfolding compose productions
+  expression-plain {r = r} p f = record {
+    moves = p .moves;
+    reads = λ ts holds. record {
+      value = p .reads ts holds .value;
+      goes = λ S s l h fine γ κ o.
+          let ok : Ok (nt relation ∷ nt chain ∷ γ) = ok-of {r = nt relation ∷ nt chain ∷ [] ↠ λ a f. f a} γ here o in
+          into-at ts S s l h q d expression relation (nt chain ∷ []) (λ a f. f a) γ κ (into-relation (tokenAt ts (q .at) .kind))
+          ∙ (p .reads ts holds .goes S s l h fine (nt chain ∷ γ) (λ a f. κ (f a)) ok
+          ∙ left-at ts S s l h r d chain γ (λ f. κ (f (p .reads ts holds .value))) (ok .2) (λ a. a) here
+          (no-chain (tokenAt ts (r .at) .kind) (subst (λ (k : ℕ). (k < 19) ⊎ (21 < k)) (kind-is holds (r .at)) f)));
+      wrote = p .reads ts holds .wrote;
+    };
+  }
+
+-- at an operator a chain is a chain of that operator
+chain-start : (q : Pos) (d : ℕ) (t : Tail) (k : ℕ) → operatorOf t k → {kinds long : List ℕ} {n : ℕ} {ts : List Token} → Holds ts kinds long n → kindIn kinds n (q .at) ≡ k → (S : NonTerminal) (s l : ℕ) (h : InHeading) (γ : List Sym) (κ : Expr → Fun γ (Says S)) (a : Expr)
+    → from ts S s l h q d (nt chain ∷ γ) (λ f. κ (f a)) ≡ from ts S s l h q d (nt (tailOf t) ∷ γ) (ofTail t S γ κ a)
+unfolding compose
+chain-start q d sum k op holds e S s l h γ κ a = absurd op
+chain-start q d and-chain k op {kinds} {long} {n} {ts} holds e S s l h γ κ a =
+    let i : q .at < length ts = (let z = holds .count in let w = kind-inside kinds n (q .at) k e (omega arith) in omega arith) in
+    let z = sym (kind-is holds (q .at)) ∙ e in
+    rule-at ts S s l h q d chain γ (λ f. κ (f a)) (andRule k .rhs ↠ andRule k .says) (ap (pick (productions chain)) z ∙ chain-and k op) i
+    ∙ sym (rule-at ts S s l h q d ands γ (λ f. κ (f a)) (andRule k) (ap (pick (productions ands)) z ∙ pick-and k op) i)
+chain-start q d or-chain k op {kinds} {long} {n} {ts} holds e S s l h γ κ a =
+    let i : q .at < length ts = (let z = holds .count in let w = kind-inside kinds n (q .at) k e (omega arith) in omega arith) in
+    let z = sym (kind-is holds (q .at)) ∙ e in
+    rule-at ts S s l h q d chain γ (λ f. κ (f a)) (orRule k .rhs ↠ orRule k .says) (ap (pick (productions chain)) z ∙ chain-or k op) i
+    ∙ sym (rule-at ts S s l h q d ors γ (λ f. κ (f a)) (orRule k) (ap (pick (productions ors)) z ∙ pick-or k op) i)
+chain-start q d xor-chain k op {kinds} {long} {n} {ts} holds e S s l h γ κ a =
+    let i : q .at < length ts = (let z = holds .count in let w = kind-inside kinds n (q .at) k e (omega arith) in omega arith) in
+    let z = sym (kind-is holds (q .at)) ∙ e in
+    rule-at ts S s l h q d chain γ (λ f. κ (f a)) (xorRule k .rhs ↠ xorRule k .says) (ap (pick (productions chain)) z ∙ chain-xor k op) i
+    ∙ sym (rule-at ts S s l h q d xors γ (λ f. κ (f a)) (xorRule k) (ap (pick (productions xors)) z ∙ pick-xor k op) i)
+
+ok-chain : (t : Tail) (k : ℕ) → operatorOf t k → (γ : List Sym) → Ok (nt chain ∷ γ) → Ok (nt (tailOf t) ∷ γ)
+ok-chain sum k op γ o = absurd op
+ok-chain and-chain k op γ o = ok-of γ (pick-rule (andRule k .rhs ↠ andRule k .says) k (chain-and k op)) o .2
+ok-chain or-chain k op γ o = ok-of γ (pick-rule (orRule k .rhs ↠ orRule k .says) k (chain-or k op)) o .2
+ok-chain xor-chain k op γ o = ok-of γ (pick-rule (xorRule k .rhs ↠ xorRule k .says) k (chain-xor k op)) o .2
+
+not-operator : (t : Tail) (k j : ℕ) → operatorOf t k → (j ≡ k → ⊥) → Operator t j → ⊥
+not-operator sum k j op f z = op
+not-operator and-chain k j op f z = f (z ∙ sym op)
+not-operator or-chain k j op f z = f (z ∙ sym op)
+not-operator xor-chain k j op f z = f (z ∙ sym op)
+
+-- an operator of a chain
+pub which : (k : ℕ) → 19 ≤ k → k ≤ 21 → (t : Tail) × operatorOf t k
+which k a b = go (eqb k 19) refl (eqb k 20) refl
+  where
+    go : (u : Bool) → eqb k 19 ≡ u → (v : Bool) → eqb k 20 ≡ v → (t : Tail) × operatorOf t k
+    go true u v w = (and-chain, eqb-true k 19 u)
+    go false u true w = (or-chain, eqb-true k 20 w)
+    go false u false w = (xor-chain, let x = eqb-false k 19 u in let y = eqb-false k 20 w in omega arith)
+
+pub expression-chain : {kinds long : List ℕ} {n : ℕ} {q a r : Pos} {d : ℕ} {before middle after : Arrays} (k : ℕ) → 19 ≤ k → k ≤ 21 → ReadsOver relation postfix kinds long n q d before a middle → kindIn kinds n (a .at) ≡ k
+    → ((t : Tail) → operatorOf t k → TurnOver t kinds long n a d middle r after) → goesOn (r .fault) (kindIn kinds n (r .at)) k ≡ false → ReadsOver expression postfix kinds long n q d before r after
+unfolding compose productions
+expression-chain {kinds} {long} {n} {q} {a} {r} {d} {before} {middle} {after} k low high p e turns stop =
+    let t : Tail = which k low high .0 in
+    let op : operatorOf t k = which k low high .1 in
+    let v = turns t op in
+    record {
+      moves = moves-then (p .moves) (v .moves);
+      reads = λ ts holds.
+          let x = p .reads ts holds in
+          let y = v .reads ts holds in
+          record {
+            value = y .grow (x .value);
+            goes = λ S s l h fine γ κ o.
+                let ok : Ok (nt relation ∷ nt chain ∷ γ) = ok-of {r = nt relation ∷ nt chain ∷ [] ↠ λ a f. f a} γ here o in
+                let on : Ok (nt (tailOf t) ∷ γ) = ok-chain t k op γ (ok .2) in
+                into-at ts S s l h q d expression relation (nt chain ∷ []) (λ a f. f a) γ κ (into-relation (tokenAt ts (q .at) .kind))
+                ∙ (x .goes S s l h fine (nt chain ∷ γ) (λ a f. κ (f a)) ok
+                ∙ (chain-start a d t k op holds e S s l h γ κ (x .value)
+                ∙ (y .goes (x .value) S s l h fine γ κ on
+                ∙ tail-over t ts S s l h r d (λ z. not-operator t k (tokenAt ts (r .at) .kind) op (λ w. goes-on-false (r .fault) (kindIn kinds n (r .at)) k stop z (kind-is holds (r .at) ∙ w))) γ κ (y .grow (x .value)) on)));
+            wrote = λ z. subst (λ (l : List Item). Wrote ts (q .n) (r .n) before after l) (sym (y .grows (x .value))) (wrote-then (x .wrote (v .moves .began z)) (y .wrote z));
+          };
+    }
+
+-- What the needs of the calls and loops ask: bounds.
+pub asks-after : {n : ℕ} {q a : Pos} → Asks n q → Moves n q a → Asks n a
+asks-after u v = record { short = omega arith; inside = omega arith; room = omega arith; few = omega arith }
+
+pub adding-bounds : (k : ℕ) → isAdding k → (0 < k) × (k ≤ 12)
+adding-bounds k (inl e) = omega arith
+adding-bounds k (inr e) = omega arith
+
+-- a turn brings the loop nearer to its end: it gets further, or refuses
+pub loop-falls : (n : ℕ) (a r : Pos) → a .at ≤ n → a .fault ≡ 0 → Moves n a r → (r .fault ≡ 0 → a .at < r .at) → (n - r .at) + (1 - r .fault) < (n - a .at) + (1 - a .fault)
+loop-falls n a r i z m f = go (eqb (r .fault) 0) refl
+  where
+    go : (b : Bool) → eqb (r .fault) 0 ≡ b → (n - r .at) + (1 - r .fault) < (n - a .at) + (1 - a .fault)
+    go true e = let w = eqb-true (r .fault) 0 e in let g = f w in omega arith
+    go false e = let w = eqb-false (r .fault) 0 e in omega arith
+
+-- a loop over a chain of the operator with kind k
+pub record Chained (k : ℕ) (kinds long : List ℕ) (n : ℕ) (q : Pos) (d : ℕ) (before : Arrays) (r : Pos) (after : Arrays) : Type 0 where
+  pub moves : Moves n q r
+  pub turns : (t : Tail) → operatorOf t k → TurnOver t kinds long n q d before r after
+
+pub chained-none : {k : ℕ} {kinds long : List ℕ} {n : ℕ} {q : Pos} {d : ℕ} (b : Arrays) → Asks n q → Chained k kinds long n q d b q b
+chained-none {n = n} {q} b a = record { moves = stay-moves n q a; turns = λ t op. turn-none t b a }
+
+-- one turn more, at the operator j
+pub chained-again : {k : ℕ} {kinds long : List ℕ} {n : ℕ} {q a r : Pos} {d : ℕ} {before middle after : Arrays} → (j : ℕ) → 19 ≤ k → k ≤ 21 → j ≡ k → Chained k kinds long n q d before a middle
+    → ((t : Tail) → operatorOf t j → OneTurn t kinds long n a d middle r after) → Chained k kinds long n q d before r after
+chained-again {k} j low high e c f =
+    let w = which k low high in
+    record {
+      moves = moves-then (c .moves) (f (w .0) (subst (operatorOf (w .0)) (sym e) (w .1)) .turn .moves);
+      turns = λ t op. turn-then (c .turns t op) (f t (subst (operatorOf t) (sym e) op) .turn);
+    }
+
+pub chained-falls : {k : ℕ} {kinds long : List ℕ} {n : ℕ} {a r : Pos} {d : ℕ} {middle after : Arrays} → (j : ℕ) → 19 ≤ k → k ≤ 21 → j ≡ k → a .at ≤ n → a .fault ≡ 0
+    → ((t : Tail) → operatorOf t j → OneTurn t kinds long n a d middle r after) → (n - r .at) + (1 - r .fault) < (n - a .at) + (1 - a .fault)
+chained-falls {k} {n = n} {a} {r} j low high e i z f =
+    let w = which k low high in
+    let o = f (w .0) (subst (operatorOf (w .0)) (sym e) (w .1)) in
+    loop-falls n a r i z (o .turn .moves) (o .further)

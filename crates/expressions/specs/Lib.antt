@@ -1,0 +1,4 @@
+pub mod Postfix
+pub mod Written
+pub mod Readers
+pub mod Tests

@@ -1,0 +1,7 @@
+pub mod Lines
+pub mod Steps
+pub mod Picks
+pub mod Simple
+pub mod Assignments
+pub mod Bodies
+pub mod Nested

@@ -1,0 +1,4 @@
+pub mod Entries
+pub mod Rows
+pub mod Places
+pub mod Readers

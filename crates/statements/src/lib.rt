@@ -1,0 +1,408 @@
+// The readers of statements: tokens to rows in a lent array, one for each statement in text order, and items of their expressions.
+// A statement list is a loop; statements in statements are a cycle of calls, the tokens left falling.
+ghost use mathlib.Core.Path.{_≡_};
+ghost use Prim.Native.Nat.{ℕ, _+_, _<_, _≤_};
+ghost use lib.Dec.{eqb};
+ghost use Rattle.grammar.specs.Grammar.{body as bodyPart};
+ghost use Rattle.cursor.specs.Tokens.{kindIn, flagIn};
+ghost use Rattle.cursor.specs.Reading.{expectAt};
+ghost use Rattle.expressions.specs.Written.{Arrays, arrays};
+ghost use Rattle.statements.specs.Entries.{bodyEntries};
+ghost use Rattle.statements.specs.Rows.{row, Small, finishAt, output};
+ghost use Rattle.statements.specs.Places.{cursorOf, placeOf, refusePlace, beginAt, renew, freshAt, isAssigning, rowKind, isStart, moreStatements, AsksPlace};
+ghost use Rattle.statements.specs.Readers.{ReadsLinesOver, StatementOver, ElseOver};
+use cursor::Pos;
+use cursor::expect;
+use cursor::kind_at;
+use expressions::expression;
+
+// Where a reader of statements stands: a cursor, and the statements so far.
+pub struct Place {
+    pub fault: u8,
+    pub at: usize,
+    pub items: usize,
+    pub n: usize,
+    pub s: usize,
+}
+
+// The cursor of a place.
+fn cursor_of(p: Place) -> Pos
+    ensures { λ r. ⌜ r ≡ cursorOf p ⌝ }
+{
+    Pos {
+        fault: p.fault,
+        at: p.at,
+        items: p.items,
+        n: p.n,
+    }
+}
+
+// A cursor, and the statements so far.
+fn place_of(q: Pos, s: usize) -> Place
+    ensures { λ r. ⌜ r ≡ placeOf q s ⌝ }
+{
+    Place {
+        fault: q.fault,
+        at: q.at,
+        items: q.items,
+        n: q.n,
+        s,
+    }
+}
+
+// The same place, refused by a number.
+fn refuse(p: Place, number: u8) -> Place
+    ensures { λ r. ⌜ r ≡ refusePlace number p ⌝ }
+{
+    Place {
+        fault: number,
+        at: p.at,
+        items: p.items,
+        n: p.n,
+        s: p.s,
+    }
+}
+
+// Takes the token if it has the kind; refuses it otherwise, or by a limit.
+pub fn take(kinds: &[u8; 16384], long: &[u8; 16384], n: usize, p: Place, kind: u8) -> Place
+    requires { ⌜ (0 < kind) × AsksPlace n p ⌝ }
+    ensures { λ r. ⌜ r ≡ placeOf (expectAt (eqb (kindIn (now (kinds .entry)) n (p .at)) kind) (flagIn (now (long .entry)) (p .at)) (cursorOf p)) (p .s) ⌝ }
+{
+    let q = expect(kinds, long, n, cursor_of(p), kind);
+    place_of(q, p.s)
+}
+
+// Takes the first token of a statement, or refuses it by a limit; items is what the count of items is then.
+fn begin(long: &[u8; 16384], p: Place, depth: usize, items: usize) -> Place
+    requires { ⌜ (p .at < 16384) × (p .s ≤ 512) ⌝ }
+    ensures { λ r. ⌜ r ≡ beginAt (flagIn (now (long .entry)) (p .at)) depth items p ⌝ }
+{
+    if p.fault != 0 {
+        return p;
+    }
+    let at = p.at;
+    if long[at] == 1 {
+        return refuse(p, 4);
+    }
+    if p.s >= 512 {
+        return refuse(p, 4);
+    }
+    if depth > 16 {
+        return refuse(p, 4);
+    }
+    Place {
+        fault: p.fault,
+        at: at + 1,
+        items,
+        n: p.n,
+        s: p.s + 1,
+    }
+}
+
+// Stores the row of statement number s, unless the reader has refused.
+fn finish(
+    rows: &mut [u16; 3072],
+    r: Place,
+    s: usize,
+    kind: u16,
+    index: usize,
+    from: usize,
+    to: usize,
+    other: usize,
+    end: usize,
+)
+    requires { ⌜ (r .fault ≡ 0 → s < 512) × Small index from to other end ⌝ }
+    ensures { λ _. ⌜ now (rows .exit) ≡ finishAt (r .fault) s (row kind index from to other end) (now (rows .entry)) ⌝ }
+{
+    if r.fault != 0 {
+        return;
+    }
+    rows[6 * s] = kind;
+    rows[6 * s + 1] = index as u16;
+    rows[6 * s + 2] = from as u16;
+    rows[6 * s + 3] = to as u16;
+    rows[6 * s + 4] = other as u16;
+    rows[6 * s + 5] = end as u16;
+}
+
+// `null ;`
+fn null_statement(
+    kinds: &[u8; 16384],
+    long: &[u8; 16384],
+    n: usize,
+    p: Place,
+    depth: usize,
+    rows: &mut [u16; 3072],
+) -> Place
+    requires { ⌜ AsksPlace n p × (p .fault ≡ 0) × (kindIn (now kinds) n (p .at) ≡ 34) ⌝ }
+    ensures { λ r. ⌜ ((a : Arrays) → StatementOver (now (kinds .entry)) (now (long .entry)) n p depth (output a (now (rows .entry))) r (output a (now (rows .exit)))) ⌝ }
+{
+    let a = begin(long, p, depth, p.items);
+    let b = take(kinds, long, n, a, 7);
+    finish(rows, b, p.s, 4, 16384, p.n, p.n, p.s + 1, p.s + 1);
+    b
+}
+
+// `wait until clk = '1' ;`
+fn wait_statement(
+    kinds: &[u8; 16384],
+    long: &[u8; 16384],
+    n: usize,
+    p: Place,
+    depth: usize,
+    rows: &mut [u16; 3072],
+) -> Place
+    requires { ⌜ AsksPlace n p × (p .fault ≡ 0) × (kindIn (now kinds) n (p .at) ≡ 35) ⌝ }
+    ensures { λ r. ⌜ ((a : Arrays) → StatementOver (now (kinds .entry)) (now (long .entry)) n p depth (output a (now (rows .entry))) r (output a (now (rows .exit)))) ⌝ }
+{
+    let a = begin(long, p, depth, p.items);
+    let b = take(kinds, long, n, a, 36);
+    let c = take(kinds, long, n, b, 1);
+    let d = take(kinds, long, n, c, 13);
+    let e = take(kinds, long, n, d, 4);
+    let f = take(kinds, long, n, e, 7);
+    finish(rows, f, p.s, 0, b.at, p.n, p.n, p.s + 1, p.s + 1);
+    f
+}
+
+// `o <= e ;` or `v := e ;`
+fn assignment(
+    kinds: &[u8; 16384],
+    long: &[u8; 16384],
+    n: usize,
+    p: Place,
+    depth: usize,
+    codes: &mut [u8; 16384],
+    tokens: &mut [u16; 16384],
+    rows: &mut [u16; 3072],
+) -> Place
+    requires { ⌜ AsksPlace n p × (p .fault ≡ 0) × (kindIn (now kinds) n (p .at) ≡ 1) ⌝ }
+    ensures { λ r. ⌜ StatementOver (now (kinds .entry)) (now (long .entry)) n p depth (output (arrays (now (codes .entry)) (now (tokens .entry))) (now (rows .entry))) r (output (arrays (now (codes .exit)) (now (tokens .exit))) (now (rows .exit))) ⌝ }
+{
+    let a = begin(long, p, depth, p.items);
+    let at = a.at;
+    let kind = kind_at(kinds, n, at);
+    let b = fresh(a, kind);
+    let e = expression(kinds, long, n, cursor_of(b), 0, codes, tokens);
+    let c = take(kinds, long, n, place_of(e, b.s), 7);
+    finish(
+        rows,
+        c,
+        p.s,
+        row_kind(kind),
+        p.at,
+        p.n,
+        e.n,
+        p.s + 1,
+        p.s + 1,
+    );
+    c
+}
+
+// The row's kind of an assignment: 1 for <=, 2 for :=.
+fn row_kind(kind: u8) -> u16
+    ensures { λ r. ⌜ r ≡ rowKind kind ⌝ }
+{
+    if kind == 16 {
+        return 1;
+    }
+    2
+}
+
+// Takes <= or :=, behind which an expression begins.
+fn fresh(p: Place, kind: u8) -> Place
+    requires { ⌜ p .at < 65536 ⌝ }
+    ensures { λ r. ⌜ r ≡ freshAt (isAssigning kind) p ⌝ }
+{
+    if p.fault != 0 {
+        return p;
+    }
+    if kind == 16 {
+        return renewed(p);
+    }
+    if kind == 10 {
+        return renewed(p);
+    }
+    refuse(p, 3)
+}
+
+// One token on, where an expression begins.
+fn renewed(p: Place) -> Place
+    requires { ⌜ p .at < 65536 ⌝ }
+    ensures { λ r. ⌜ r ≡ renew p ⌝ }
+{
+    Place {
+        fault: p.fault,
+        at: p.at + 1,
+        items: 0,
+        n: p.n,
+        s: p.s,
+    }
+}
+
+// `if e then S else S end if ;`, the else part being optional.
+fn if_statement(
+    kinds: &[u8; 16384],
+    long: &[u8; 16384],
+    n: usize,
+    p: Place,
+    depth: usize,
+    codes: &mut [u8; 16384],
+    tokens: &mut [u16; 16384],
+    rows: &mut [u16; 3072],
+) -> Place
+    requires { ⌜ (depth ≤ 17) × AsksPlace n p × (p .fault ≡ 0) × (kindIn (now kinds) n (p .at) ≡ 37) ⌝ }
+    ensures { λ r. ⌜ StatementOver (now (kinds .entry)) (now (long .entry)) n p depth (output (arrays (now (codes .entry)) (now (tokens .entry))) (now (rows .entry))) r (output (arrays (now (codes .exit)) (now (tokens .exit))) (now (rows .exit))) ⌝ }
+{
+    let a = begin(long, p, depth, 0);
+    if a.fault != 0 {
+        return a;
+    }
+    let e = expression(kinds, long, n, cursor_of(a), 0, codes, tokens);
+    let b = take(kinds, long, n, place_of(e, a.s), 38);
+    let c = body(kinds, long, n, b, depth + 1, codes, tokens, rows);
+    let d = else_part(kinds, long, n, c, depth + 1, codes, tokens, rows);
+    let f = take(kinds, long, n, d, 26);
+    let g = take(kinds, long, n, f, 37);
+    let i = take(kinds, long, n, g, 7);
+    finish(rows, i, p.s, 3, p.at, p.n, e.n, c.s, d.s);
+    i
+}
+
+// `while e loop S end loop ;`
+fn while_statement(
+    kinds: &[u8; 16384],
+    long: &[u8; 16384],
+    n: usize,
+    p: Place,
+    depth: usize,
+    codes: &mut [u8; 16384],
+    tokens: &mut [u16; 16384],
+    rows: &mut [u16; 3072],
+) -> Place
+    requires { ⌜ (depth ≤ 17) × AsksPlace n p × (p .fault ≡ 0) × (kindIn (now kinds) n (p .at) ≡ 40) ⌝ }
+    ensures { λ r. ⌜ StatementOver (now (kinds .entry)) (now (long .entry)) n p depth (output (arrays (now (codes .entry)) (now (tokens .entry))) (now (rows .entry))) r (output (arrays (now (codes .exit)) (now (tokens .exit))) (now (rows .exit))) ⌝ }
+{
+    let a = begin(long, p, depth, 0);
+    if a.fault != 0 {
+        return a;
+    }
+    let e = expression(kinds, long, n, cursor_of(a), 0, codes, tokens);
+    let b = take(kinds, long, n, place_of(e, a.s), 41);
+    let c = body(kinds, long, n, b, depth + 1, codes, tokens, rows);
+    let f = take(kinds, long, n, c, 26);
+    let g = take(kinds, long, n, f, 41);
+    let i = take(kinds, long, n, g, 7);
+    finish(rows, i, p.s, 5, p.at, p.n, e.n, c.s, c.s);
+    i
+}
+
+// `else S`, or nothing.
+fn else_part(
+    kinds: &[u8; 16384],
+    long: &[u8; 16384],
+    n: usize,
+    p: Place,
+    depth: usize,
+    codes: &mut [u8; 16384],
+    tokens: &mut [u16; 16384],
+    rows: &mut [u16; 3072],
+) -> Place
+    requires { ⌜ (depth ≤ 17) × AsksPlace n p ⌝ }
+    ensures { λ r. ⌜ ElseOver (now (kinds .entry)) (now (long .entry)) n p depth (output (arrays (now (codes .entry)) (now (tokens .entry))) (now (rows .entry))) r (output (arrays (now (codes .exit)) (now (tokens .exit))) (now (rows .exit))) ⌝ }
+{
+    let at = p.at;
+    if kind_at(kinds, n, at) != 39 {
+        return p;
+    }
+    let a = take(kinds, long, n, p, 39);
+    body(kinds, long, n, a, depth, codes, tokens, rows)
+}
+
+// A statement, by the kind of its first token.
+fn statement(
+    kinds: &[u8; 16384],
+    long: &[u8; 16384],
+    n: usize,
+    p: Place,
+    depth: usize,
+    codes: &mut [u8; 16384],
+    tokens: &mut [u16; 16384],
+    rows: &mut [u16; 3072],
+) -> Place
+    requires { ⌜ (depth ≤ 17) × AsksPlace n p ⌝ }
+    ensures { λ r. ⌜ StatementOver (now (kinds .entry)) (now (long .entry)) n p depth (output (arrays (now (codes .entry)) (now (tokens .entry))) (now (rows .entry))) r (output (arrays (now (codes .exit)) (now (tokens .exit))) (now (rows .exit))) ⌝ }
+{
+    if p.fault != 0 {
+        return p;
+    }
+    let at = p.at;
+    let kind = kind_at(kinds, n, at);
+    if kind == 1 {
+        return assignment(kinds, long, n, p, depth, codes, tokens, rows);
+    }
+    if kind == 34 {
+        return null_statement(kinds, long, n, p, depth, rows);
+    }
+    if kind == 35 {
+        return wait_statement(kinds, long, n, p, depth, rows);
+    }
+    if kind == 37 {
+        return if_statement(kinds, long, n, p, depth, codes, tokens, rows);
+    }
+    if kind == 40 {
+        return while_statement(kinds, long, n, p, depth, codes, tokens, rows);
+    }
+    refuse(p, 3)
+}
+
+// A list of statements, at least one.
+pub fn body(
+    kinds: &[u8; 16384],
+    long: &[u8; 16384],
+    n: usize,
+    p: Place,
+    depth: usize,
+    codes: &mut [u8; 16384],
+    tokens: &mut [u16; 16384],
+    rows: &mut [u16; 3072],
+) -> Place
+    requires { ⌜ (depth ≤ 17) × AsksPlace n p ⌝ }
+    ensures { λ r. ⌜ ReadsLinesOver bodyPart bodyEntries (now (kinds .entry)) (now (long .entry)) n p depth (output (arrays (now (codes .entry)) (now (tokens .entry))) (now (rows .entry))) r (output (arrays (now (codes .exit)) (now (tokens .exit))) (now (rows .exit))) ⌝ }
+{
+    let mut a = statement(kinds, long, n, p, depth, codes, tokens, rows);
+    while more_statements(kinds, n, a) {
+        a = statement(kinds, long, n, a, depth, codes, tokens, rows);
+    }
+    a
+}
+
+// Whether a further statement follows.
+fn more_statements(kinds: &[u8; 16384], n: usize, p: Place) -> bool
+    requires { ⌜ n ≤ 16384 ⌝ }
+    ensures { λ r. ⌜ r ≡ moreStatements (p .fault) (kindIn (now (kinds .entry)) n (p .at)) ⌝ }
+{
+    if p.fault != 0 {
+        return false;
+    }
+    begins_statement(kind_at(kinds, n, p.at))
+}
+
+// Whether a statement begins with a token of this kind.
+fn begins_statement(kind: u8) -> bool
+    ensures { λ r. ⌜ r ≡ isStart kind ⌝ }
+{
+    if kind == 1 {
+        return true;
+    }
+    if kind == 34 {
+        return true;
+    }
+    if kind == 35 {
+        return true;
+    }
+    if kind == 37 {
+        return true;
+    }
+    kind == 40
+}
