@@ -1,7 +1,5 @@
 -- A cycle over the sections of an opened image, by their bytes: the lines followed from the place on, for at most the first line's reach and one more.
 -- Assumes nothing.
-use mathlib.Core.Path.{_≡_}
-use mathlib.Core.Bool.{true}
 use mathlib.Core.List.{List}
 use Prim.Native.Nat.{ℕ, suc}
 use lib.IntN.{ℤ}
@@ -9,7 +7,7 @@ use Rattle.format.specs.Signature.{types, typeBytes}
 use Rattle.format.specs.Lines.{reach}
 use Rattle.format.specs.Walk.{from}
 use Rattle.format.specs.Image.{Table}
-use Rattle.format.specs.State.{placeOk}
+use Rattle.lines.specs.declared.Followed.{Followed}
 use Rattle.lines.specs.Follow.{Went, followAt}
 use Rattle.lines.specs.Held.{Held}
 use Rattle.table.specs.Places.{Opens}
@@ -24,6 +22,6 @@ unfoldable pub ranFor : Table → List ℕ → List ℕ → ℕ → List ℤ →
 ranFor t l c p i o v =
     followAt l c (typeBytes (t .signature .inputs)) (typeBytes (types (t .signature .variables))) i (suc (reach (t .reaches) (from (t .lines) p))) (from (t .lines) p) 0 o v
 
--- what a function leaves that runs a cycle of the table t: its answer, the output slots and the variable slots
-abbrev pub Ran : Table → List ℕ → List ℕ → ℕ → List ℤ → List ℤ → List ℤ → Went → Type 0
-Ran t l c p i o v w = placeOk (t .lines) p ≡ true → w ≡ ranFor t l c p i o v
+-- where the lines lead, and the slots as they are left
+abbrev pub went : Followed → List ℤ → List ℤ → Went
+went r o v = record { answer = r; outputs = o; variables = v }

@@ -4,7 +4,9 @@ ghost use mathlib.Core.List.{List};
 ghost use Prim.Native.Nat.{ℕ};
 ghost use lib.ListN.{take};
 ghost use Rattle.format.specs.Image.{Table};
-ghost use Rattle.cycle.specs.Ran.{Checked, Ran};
+ghost use mathlib.Core.Bool.{true};
+ghost use Rattle.format.specs.State.{placeOk};
+ghost use Rattle.cycle.specs.Ran.{Checked, went, ranFor};
 use lines::Followed;
 
 // The first n bytes.
@@ -27,9 +29,8 @@ pub fn follow_from(
     outputs: &mut [i32],
     variables: &mut [i32],
 ) -> Followed
-    ensures { λ r. ⌜ ((t : Table) → Checked (now (signature .entry)) (now (lines .entry)) (now (code .entry)) t
-        → Ran t (now (lines .entry)) (now (code .entry)) place (now (inputs .entry)) (now (outputs .entry)) (now (variables .entry))
-        (record { answer = r; outputs = now (outputs .exit); variables = now (variables .exit) })) ⌝ }
+    ensures { λ r. ⌜ ((t : Table) → Checked (now (signature .entry)) (now (lines .entry)) (now (code .entry)) t → placeOk (t .lines) place ≡ true
+        → went r (now (outputs .exit)) (now (variables .exit)) ≡ ranFor t (now (lines .entry)) (now (code .entry)) place (now (inputs .entry)) (now (outputs .entry)) (now (variables .entry))) ⌝ }
 {
     let x = table::lines::first_line(lines, place) as u32;
     let limit = lines::field(lines, x, 10) + 1;
