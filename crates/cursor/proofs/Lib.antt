@@ -1,3 +1,4 @@
+pub mod Measures
 pub mod Steps
 pub mod Arms
 pub mod Whole

@@ -22,6 +22,7 @@ use Rattle.grammar.proofs.Laws.{by-rule, taken, not-taken, missing, left-out, r
 use Rattle.cursor.specs.declared.Pos.{Pos}
 use Rattle.cursor.specs.Tokens.{tokenAt, noToken, alone, kindIn, Holds}
 use Rattle.cursor.specs.Reading.{meter, ending, from, Fine, Asks, Moves, refuse, step, stepItem, itemAt, expectAt}
+use Rattle.cursor.proofs.Measures.{three, or-true}
 use Rattle.cursor.proofs.Arms.{item-stays, item-long, item-full, item-taken, expect-stays, expect-not, expect-long, expect-taken}
 
 -- What a Meter says of the last token alone is set anew by the next one, so the reader does not depend on it.
@@ -71,13 +72,6 @@ kind-inside kinds n at k e p = go (ltb at n) refl e
     go false w z = absurd (let u : k ≡ 0 = sym z in omega arith)
 
 -- What the limits say of a token that is an item, or moves no count.
-three : (a b c : Bool) → a || (b || c) ≡ (a || c) || b
-three true b c = refl
-three false true true = refl
-three false true false = refl
-three false false true = refl
-three false false false = refl
-
 module _ (s l : ℕ) (h : InHeading) (f : Fine s h) (d : ℕ) (g : d ≤ 16) (x : Token) where
   over-item : (i : ℕ) → over (tick (meter i d s l h) item x) ≡ alone x || ltb 64 (suc i)
   unfolding over tick alone
@@ -184,10 +178,6 @@ module _ (ts : List Token) (S : NonTerminal) (s l : ℕ) (h : InHeading) (q : Po
 
       below : (i : ℕ) → i < 64 → ltb 64 (suc i) ≡ false
       below i lt = le-ltb 64 (suc i) (omega arith)
-
-      or-true : (u : Bool) → u || true ≡ true
-      or-true true = refl
-      or-true false = refl
 
       go : (w : Bool) → eqb (q .fault) 0 ≡ w → (u : Bool) → b ≡ u → (v : Bool) → leb 64 (q .items) ≡ v → To (itemAt b q)
       go false w u bu v vu = subst To (item-stays q b (eqb-false (q .fault) 0 w)) (from-stays ts S s l s l h h q q d d (tk item k ∷ γ) γ κ (κ x) (eqb-false (q .fault) 0 w) refl refl)

@@ -1,13 +1,28 @@
 // A cycle on the sections of an opened image.
 ghost use mathlib.Core.Path.{_≡_};
 ghost use mathlib.Core.List.{List};
-ghost use Prim.Native.Nat.{ℕ};
-ghost use lib.ListN.{take};
+ghost use Prim.Native.Nat.{_≤_, _<_};
+ghost use mathlib.Core.Option.{none};
+ghost use lib.ListN.{length, take};
 ghost use Rattle.format.specs.Image.{Table};
 ghost use mathlib.Core.Bool.{true};
 ghost use Rattle.format.specs.State.{placeOk};
+ghost use Rattle.answers.specs.declared.Cycled.the-variants.{Performed, NotPerformed};
+ghost use Rattle.format.specs.Cycle.{rowPlace, rowOf};
+ghost use Rattle.format.specs.State.{stateOk};
+ghost use Rattle.cycle.specs.Advances.{Advances};
 ghost use Rattle.cycle.specs.Ran.{Checked, went, ranFor};
+use answers::Cycled;
+use answers::Refusal;
+use answers::State;
 use lines::Followed;
+use table::RowCheck;
+
+// A cycle's answer, and the state after it.
+pub struct Advanced {
+    pub state: State,
+    pub answer: Cycled,
+}
 
 // The first n bytes.
 fn first<'a>(s: &'a [u8], n: usize) -> &'a [u8]
@@ -47,4 +62,114 @@ pub fn follow_from(
         outputs,
         variables,
     )
+}
+
+// A refused cycle: the state as it came.
+fn refused(s: State, r: Refusal) -> Advanced
+    ensures { λ a. ⌜ a ≡ record { state = s; answer = NotPerformed r } ⌝ }
+{
+    Advanced {
+        state: s,
+        answer: Cycled::NotPerformed(r),
+    }
+}
+
+// A performed cycle: the wait reached, the slots, the output row. The two tests hold for no opened image.
+fn performed(
+    s: State,
+    p: u32,
+    n: u32,
+    outputs: [i32; 16],
+    variables: [i32; 32],
+    row: &mut [i32],
+) -> Advanced
+    ensures { λ a. ⌜ (p < 65536 → length (now (row .entry)) ≤ 16
+        → (a ≡ record { state = record { place = p; outputs = outputs; variables = variables }; answer = Performed n }) × (now (row .exit) ≡ take (length (now (row .entry))) outputs)) ⌝ }
+{
+    if 16 < row.len() {
+        return refused(s, Refusal::BadState);
+    }
+    if 65535 < p {
+        return refused(s, Refusal::BadState);
+    }
+    table::rows::write_row(&outputs, row);
+    let state = State {
+        place: p as u16,
+        outputs: outputs,
+        variables: variables,
+    };
+    Advanced {
+        state: state,
+        answer: Cycled::Performed(n as usize),
+    }
+}
+
+// One cycle, where rows and state are right.
+fn run(
+    signature: &[u8],
+    lines: &[u8],
+    code: &[u8],
+    inputs: &[i32],
+    s: State,
+    row: &mut [i32],
+) -> Advanced
+    ensures { λ a. ⌜ ((t : Table) → Checked (now (signature .entry)) (now (lines .entry)) (now (code .entry)) t
+        → rowPlace (t .signature) (now (inputs .entry)) (length (now (row .entry))) ≡ none → stateOk t s ≡ true
+        → Advances (rowOf t s (now (inputs .entry)) (now (row .entry))) a (now (row .exit))) ⌝ }
+{
+    let mut outputs = s.outputs;
+    let mut variables = s.variables;
+    let f = follow_from(
+        signature,
+        lines,
+        code,
+        s.place,
+        inputs,
+        &mut outputs,
+        &mut variables,
+    );
+    match f {
+        Followed::Reached(p, n) => performed(s, p, n, outputs, variables, row),
+        Followed::Stopped(_, x) => refused(s, Refusal::OutOfRange(x as usize)),
+        Followed::Spent => refused(s, Refusal::BadState),
+    }
+}
+
+// One cycle, where the rows are right: refusal 15, or the cycle.
+fn judged(
+    signature: &[u8],
+    lines: &[u8],
+    code: &[u8],
+    inputs: &[i32],
+    s: State,
+    row: &mut [i32],
+) -> Advanced
+    ensures { λ a. ⌜ ((t : Table) → Checked (now (signature .entry)) (now (lines .entry)) (now (code .entry)) t
+        → rowPlace (t .signature) (now (inputs .entry)) (length (now (row .entry))) ≡ none
+        → Advances (rowOf t s (now (inputs .entry)) (now (row .entry))) a (now (row .exit))) ⌝ }
+{
+    let right = table::states::state_ok(signature, lines, s);
+    if right {
+        return run(signature, lines, code, inputs, s, row);
+    }
+    refused(s, Refusal::BadState)
+}
+
+// One cycle on the sections of an opened image: 14, then 15, then the lines. A refused one hands back the state, and the output row is as it was.
+pub fn advance(
+    signature: &[u8],
+    lines: &[u8],
+    code: &[u8],
+    inputs: &[i32],
+    s: State,
+    row: &mut [i32],
+) -> Advanced
+    ensures { λ a. ⌜ ((t : Table) → Checked (now (signature .entry)) (now (lines .entry)) (now (code .entry)) t
+        → Advances (rowOf t s (now (inputs .entry)) (now (row .entry))) a (now (row .exit))) ⌝ }
+{
+    let check = table::rows::row_place(signature, inputs, row.len());
+    match check {
+        RowCheck::Right => judged(signature, lines, code, inputs, s, row),
+        RowCheck::WrongAt(k) => refused(s, Refusal::BadRow(k)),
+    }
 }

@@ -20,6 +20,7 @@ use Rattle.grammar.proofs.Tables.{inside-ok, pick-rule}
 use Rattle.cursor.specs.declared.Pos.{Pos}
 use Rattle.cursor.specs.Tokens.{tokenAt, noToken, alone, kindIn, flagIn, Holds}
 use Rattle.cursor.specs.Reading.{meter, from, Fine, Asks, Moves, refuse, step, itemAt, expectAt}
+use Rattle.cursor.proofs.Measures.{or-true}
 use Rattle.cursor.proofs.Steps.{settle, kind-is, kind-inside, from-stays, from-same, rule-at, refused-at, token-over, token-taken, item-at, expect-at, expect-moves, expect-n}
 use Rattle.expressions.specs.Postfix.{Item, itemOf, postfix}
 use Rattle.expressions.specs.Written.{Arrays, Wrote, putAt, Put}
@@ -50,10 +51,6 @@ pub refuse-moves : (n : ℕ) (q : Pos) (k : ℕ) → Asks n q → q .fault ≡ 0
 refuse-moves n q k a z = record { on = omega arith; inside = omega arith; room = omega arith; few = omega arith; began = λ e. z }
 
 -- the limits at a parenthesis
-or-true : (u : Bool) → u || true ≡ true
-or-true true = refl
-or-true false = refl
-
 module _ (s l : ℕ) (h : InHeading) (f : Fine s h) (d : ℕ) (x : Token) (i : ℕ) (few : i ≤ 64) where
   over-full : 16 ≤ d → over (tick (meter i d s l h) opens x) ≡ true
   unfolding over tick

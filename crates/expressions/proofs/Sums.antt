@@ -19,6 +19,7 @@ use Rattle.grammar.proofs.Tables.{pick-rule}
 use Rattle.cursor.specs.declared.Pos.{Pos}
 use Rattle.cursor.specs.Tokens.{tokenAt, kindIn, Holds}
 use Rattle.cursor.specs.Reading.{from, Fine, Asks, Moves}
+use Rattle.cursor.proofs.Measures.{turn-falls}
 use Rattle.cursor.proofs.Steps.{kind-is, kind-inside, from-stays, rule-at, left-at, into-at}
 use Rattle.expressions.specs.Postfix.{Item, itemOf, binaryItem, postfix}
 use Rattle.expressions.specs.Written.{Arrays, Wrote}
@@ -404,11 +405,7 @@ adding-bounds k (inr e) = omega arith
 
 -- a turn brings the loop nearer to its end: it gets further, or refuses
 pub loop-falls : (n : ℕ) (a r : Pos) → a .at ≤ n → a .fault ≡ 0 → Moves n a r → (r .fault ≡ 0 → a .at < r .at) → (n - r .at) + (1 - r .fault) < (n - a .at) + (1 - a .fault)
-loop-falls n a r i z m f = go (eqb (r .fault) 0) refl
-  where
-    go : (b : Bool) → eqb (r .fault) 0 ≡ b → (n - r .at) + (1 - r .fault) < (n - a .at) + (1 - a .fault)
-    go true e = let w = eqb-true (r .fault) 0 e in let g = f w in omega arith
-    go false e = let w = eqb-false (r .fault) 0 e in omega arith
+loop-falls n a r i z m f = turn-falls n (a .at) (r .at) (a .fault) (r .fault) (m .inside) z (m .on) f
 
 -- a loop over a chain of the operator with kind k
 pub record Chained (k : ℕ) (kinds long : List ℕ) (n : ℕ) (q : Pos) (d : ℕ) (before : Arrays) (r : Pos) (after : Arrays) : Type 0 where

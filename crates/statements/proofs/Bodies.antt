@@ -16,6 +16,7 @@ use Rattle.grammar.specs.Reader.{choose, compose, elem, first, pick, take, no-r
 use Rattle.grammar.proofs.Steps.{Ok}
 use Rattle.grammar.proofs.Tables.{pick-rule}
 use Rattle.cursor.specs.Tokens.{tokenAt, kindIn, Holds}
+use Rattle.cursor.proofs.Measures.{turn-falls}
 use Rattle.cursor.proofs.Steps.{kind-is, kind-inside, from-stays, rule-at, left-at, into-at, refused-at}
 use Rattle.expressions.proofs.Primaries.{ok-of}
 use Rattle.statements.specs.declared.Place.{Place}
@@ -159,8 +160,4 @@ body-read {kinds} {long} {n} {p} {a} {r} {depth} {before} {middle} {after} u v e
 
 -- a turn brings the loop nearer to its end
 pub body-falls : (n : ℕ) (a r : Place) → a .at ≤ n → a .fault ≡ 0 → MovesPlace n a r → (r .fault ≡ 0 → a .at < r .at) → (n - r .at) + (1 - r .fault) < (n - a .at) + (1 - a .fault)
-body-falls n a r i z m f = go (eqb (r .fault) 0) refl
-  where
-    go : (b : Bool) → eqb (r .fault) 0 ≡ b → (n - r .at) + (1 - r .fault) < (n - a .at) + (1 - a .fault)
-    go true e = let w = eqb-true (r .fault) 0 e in let g = f w in omega arith
-    go false e = let w = eqb-false (r .fault) 0 e in omega arith
+body-falls n a r i z m f = turn-falls n (a .at) (r .at) (a .fault) (r .fault) (m .inside) z (m .on) f

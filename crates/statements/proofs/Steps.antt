@@ -17,6 +17,7 @@ use Rattle.grammar.proofs.Steps.{Ok}
 use Rattle.cursor.specs.declared.Pos.{Pos}
 use Rattle.cursor.specs.Tokens.{tokenAt, alone, kindIn, flagIn, Holds}
 use Rattle.cursor.specs.Reading.{meter, from, Fine, Asks, Moves, expectAt}
+use Rattle.cursor.proofs.Measures.{three, or-assoc, or-true}
 use Rattle.cursor.proofs.Steps.{settle, kind-is, kind-inside, from-stays, from-same, expect-at, expect-moves, expect-n, token-over, token-taken, over-plain}
 use Rattle.expressions.specs.Postfix.{postfix}
 use Rattle.expressions.specs.Written.{Arrays, Wrote}
@@ -140,21 +141,6 @@ begin-depth p {r} b depth items e z = go (eqb (p .fault) 0) refl b (leb 512 (p .
     go true w false true x q y = absurd (four y)
     go true w false false true q y = absurd (four y)
     go true w false false false q y = ltb-false 16 depth q
-
-three : (a b c : Bool) → a || (b || c) ≡ (a || c) || b
-three true b c = refl
-three false true true = refl
-three false true false = refl
-three false false true = refl
-three false false false = refl
-
-or-assoc : (a b c : Bool) → a || (b || c) ≡ (a || b) || c
-or-assoc true b c = refl
-or-assoc false b c = refl
-
-or-true : (u : Bool) → u || true ≡ true
-or-true true = refl
-or-true false = refl
 
 module _ (s l : ℕ) (h : InHeading) (f : FineHeading h) (x : Token) (i : ℕ) (few : i ≤ 64) where
   over-stmt : over (tick (meter i 0 s l h) stmt x) ≡ alone x || (ltb 512 (suc s) || ltb 16 l)

@@ -1,0 +1,177 @@
+-- What the code's steps come to is the format's call: the state is the layout of a memory, the lines followed from it are the table's cycle, and a row on a
+-- good table is performed or refused by 16 where rows and state are right. Assumes nothing.
+use Prim.Native.Nat.{ℕ, zero, suc, _≤_, _<_}
+use native.Mathlib.Omega.{arith}
+use mathlib.Core.Path.{_≡_, refl, sym, ap, subst, _∙_}
+use mathlib.Core.Bool.{true, false}
+use mathlib.Core.Option.{Option, none, some}
+use mathlib.Core.List.{List, [], _∷_}
+use lib.ListN.{length, take}
+use lib.IntN.{ℤ}
+use Rattle.answers.specs.declared.State.{State}
+use Rattle.answers.specs.declared.Cycled.the-variants.{Performed, NotPerformed}
+use Rattle.answers.specs.declared.Refusal.the-variants.{BadRow, BadState, OutOfRange}
+use Rattle.semantics.specs.Equations.{Memory, Run, Result, reached, refused}
+use Rattle.semantics.specs.Values.{Values}
+use Rattle.semantics.proofs.Basic.{none-some, and-left}
+use Rattle.semantics.proofs.Values.{values-length}
+use Rattle.format.specs.Signature.{types}
+use Rattle.format.specs.Walk.{tableCycle}
+use Rattle.format.specs.Image.{Table}
+use Rattle.format.specs.State.{placeOk, stateOk, stateFor, memoryOf, pad}
+use Rattle.format.specs.Cycle.{rowPlace, Called, rowOf}
+use Rattle.images.specs.Outcome.{Typed, GoodState, Outcome, row-refused, state-refused, operator-refused, performs}
+use Rattle.images.proofs.InputRows.{row-exactly, row-right}
+use Rattle.images.proofs.States.{state-exactly, memory-back, pad-take, types-length}
+use Rattle.images.proofs.Outcomes.{row-outcome}
+use Rattle.lines.specs.declared.Followed.{Followed}
+use Rattle.lines.specs.declared.Followed.the-variants.{Reached, Stopped, Spent}
+use Rattle.lines.specs.Follow.{Went}
+use Rattle.lines.proofs.Walks.{Shows}
+use Rattle.table.specs.declared.RowCheck.{RowCheck}
+use Rattle.table.specs.declared.RowCheck.the-variants.{Right, WrongAt}
+use Rattle.table.specs.Answers.{checkOf}
+use Rattle.cycle.specs.declared.Advanced.{Advanced}
+use Rattle.cycle.specs.Ran.{Checked, went, ranFor}
+use Rattle.cycle.specs.Advances.{Advances}
+use Rattle.cycle.proofs.Runs.{cycle-ran}
+
+pad-first : (n k : ℕ) (l : List ℤ) → length l ≡ k → k ≤ n → take k (pad n l) ≡ l
+unfolding pad
+pad-first n zero [] e h = refl
+pad-first n zero (z ∷ l) e h = absurd (omega arith)
+pad-first n (suc k) [] e h = absurd (omega arith)
+pad-first zero (suc k) (z ∷ l) e h = absurd (omega arith)
+pad-first (suc n) (suc k) (z ∷ l) e h = ap (λ (m : List ℤ). z ∷ m) (pad-first n k l (omega arith) (omega arith))
+
+module _ (s l c : List ℕ) (t : Table) (h : Checked s l c t) (x : State) (i o : List ℤ)
+    (right : rowPlace (t .signature) i (length o) ≡ none) (ok : stateOk t x ≡ true) where
+  good : GoodState t x
+  good = state-exactly t (h .held .good) x .0 ok
+
+  pub place-right : placeOk (t .lines) (x .place) ≡ true
+  unfolding stateOk
+  place-right = and-left (placeOk (t .lines) (x .place)) _ ok
+
+  -- the lines followed from the state are the table's cycle
+  state-shows : Shows (tableCycle (t .lines) (t .reaches) (x .place) i (record { way = []; memory = memoryOf (t .signature) x }))
+      (ranFor t l c (x .place) i (x .outputs) (x .variables))
+  unfolding stateFor
+  state-shows =
+      let k = good in
+      let m : memoryOf (t .signature) x ≡ k .memory =
+      ap (memoryOf (t .signature)) (k .slots) ∙ memory-back (t .signature) (h .held .good .signature) (x .place) (k .memory) (k .typed) in
+      moved m (ap (λ (y : State). y .outputs) (k .slots)) (ap (λ (y : State). y .variables) (k .slots))
+      (cycle-ran s l c t h (x .place) place-right i (row-right (t .signature) i (length o) right .0) (k .memory) (k .typed))
+    where
+      moved : {m m′ : Memory} {a a′ b b′ : List ℤ} → m ≡ m′ → a ≡ a′ → b ≡ b′
+          → Shows (tableCycle (t .lines) (t .reaches) (x .place) i (record { way = []; memory = m′ })) (ranFor t l c (x .place) i a′ b′)
+          → Shows (tableCycle (t .lines) (t .reaches) (x .place) i (record { way = []; memory = m })) (ranFor t l c (x .place) i a b)
+      moved e f g q = rw (e, f, g) q
+
+  -- a wait was reached
+  pub reached-advances : (p n : ℕ) (o′ v′ : List ℤ) → went (Reached p n) o′ v′ ≡ ranFor t l c (x .place) i (x .outputs) (x .variables)
+      → (p < 65536) × ((length o ≤ 16) × ((a : Advanced) (row : List ℤ) → a ≡ record { state = record { place = p; outputs = o′; variables = v′ }; answer = Performed n }
+      → row ≡ take (length o) o′ → Advances (rowOf t x i o) a row))
+  unfolding stateFor
+  reached-advances p n o′ v′ e = on (rowOf t x i o) refl (row-outcome t (h .held .good) x i o)
+    where
+      few : length o ≤ 16
+      few = omega (arith, row-right (t .signature) i (length o) right .1, h .held .good .signature .outputs)
+
+      on : (r : Called) → rowOf t x i o ≡ r → Outcome t x i o r
+          → (p < 65536) × ((length o ≤ 16) × ((a : Advanced) (row : List ℤ) → a ≡ record { state = record { place = p; outputs = o′; variables = v′ }; answer = Performed n }
+          → row ≡ take (length o) o′ → Advances (rowOf t x i o) a row))
+      on r q (row-refused k m) = none-some k (sym right ∙ row-exactly (t .signature) i (length o) k .1 m)
+      on r q (state-refused m g) = absurd (g good)
+      on r q (operator-refused y m g b z) =
+          let w : ranFor t l c (x .place) i (x .outputs) (x .variables) .answer ≡ Stopped 16 y = rw z at state-shows in
+          let f : Reached p n ≡ Stopped 16 y = ap (λ (u : Went). u .answer) e ∙ w in
+          absurd (let d : _≡_ {A = ℕ} 0 1 = cc in omega arith)
+      on r q (performs p′ τ m g z w y gs lo) =
+          let u : ranFor t l c (x .place) i (x .outputs) (x .variables) ≡ record { answer = Reached p′ (length (τ .way)); outputs = pad 16 (τ .memory .outputs); variables = pad 32 (τ .memory .variables) } = rw z at state-shows in
+          let a : went (Reached p n) o′ v′ ≡ record { answer = Reached p′ (length (τ .way)); outputs = pad 16 (τ .memory .outputs); variables = pad 32 (τ .memory .variables) } = e ∙ u in
+          let b : Reached p n ≡ Reached p′ (length (τ .way)) = ap (λ (k : Went). k .answer) a in
+          let pe : p ≡ p′ = cc in
+          let ne : n ≡ length (τ .way) = cc in
+          let oe : o′ ≡ pad 16 (τ .memory .outputs) = ap (λ (k : Went). k .outputs) a in
+          let ve : v′ ≡ pad 32 (τ .memory .variables) = ap (λ (k : Went). k .variables) a in
+          let lt : p < 65536 = omega (arith, w .inside, h .held .good .few-lines) in (
+            lt,
+            (
+              few,
+              λ A row ea er. subst (λ (k : Called). Advances k A row) (sym q) (record {
+                answer = ap (λ (k : Advanced). k .answer) ea ∙ ap Performed ne;
+                state = ap (λ (k : Advanced). k .state) ea ∙ (λ j. record { place = pe j; outputs = oe j; variables = ve j });
+                row = er ∙ ap (take (length o)) oe ∙ pad-first 16 (length o) (τ .memory .outputs) lo few;
+              }),
+            ),
+          )
+
+  -- an operator was refused
+  pub stopped-advances : (z y : ℕ) (o′ v′ : List ℤ) → went (Stopped z y) o′ v′ ≡ ranFor t l c (x .place) i (x .outputs) (x .variables)
+      → (a : Advanced) → a ≡ record { state = x; answer = NotPerformed (OutOfRange y) } → Advances (rowOf t x i o) a o
+  stopped-advances z y o′ v′ e a ea = on (rowOf t x i o) refl (row-outcome t (h .held .good) x i o)
+    where
+      on : (r : Called) → rowOf t x i o ≡ r → Outcome t x i o r → Advances (rowOf t x i o) a o
+      on r q (row-refused k m) = none-some k (sym right ∙ row-exactly (t .signature) i (length o) k .1 m)
+      on r q (state-refused m g) = absurd (g good)
+      on r q (operator-refused y′ m g b u) =
+          let w : ranFor t l c (x .place) i (x .outputs) (x .variables) .answer ≡ Stopped 16 y′ = rw u at state-shows in
+          let f : Stopped z y ≡ Stopped 16 y′ = ap (λ (k : Went). k .answer) e ∙ w in
+          let ye : y ≡ y′ = cc in
+          subst (λ (k : Called). Advances k a o) (sym q) (record {
+            answer = ap (λ (k : Advanced). k .answer) ea ∙ ap (λ (k : ℕ). NotPerformed (OutOfRange k)) ye;
+            state = ap (λ (k : Advanced). k .state) ea;
+            row = refl;
+          })
+      on r q (performs p τ m g u w d gs lo) =
+          let f = ap (λ (k : Went). k .answer) (e ∙ (rw u at state-shows)) in
+          absurd (let d : _≡_ {A = ℕ} 0 1 = cc in omega arith)
+
+  -- the lines never run out
+  pub spent-never : {A : Type 0} (o′ v′ : List ℤ) → went Spent o′ v′ ≡ ranFor t l c (x .place) i (x .outputs) (x .variables) → A
+  spent-never o′ v′ e = on (rowOf t x i o) (row-outcome t (h .held .good) x i o)
+    where
+      on : {A : Type 0} (r : Called) → Outcome t x i o r → A
+      on r (row-refused k m) = none-some k (sym right ∙ row-exactly (t .signature) i (length o) k .1 m)
+      on r (state-refused m g) = absurd (g good)
+      on r (operator-refused y m g b u) =
+          let w : ranFor t l c (x .place) i (x .outputs) (x .variables) .answer ≡ Stopped 16 y = rw u at state-shows in
+          let f : Spent ≡ Stopped 16 y = ap (λ (k : Went). k .answer) e ∙ w in
+          absurd (let d : _≡_ {A = ℕ} 0 1 = cc in omega arith)
+      on r (performs p τ m g u w d gs lo) =
+          let f = ap (λ (k : Went). k .answer) (e ∙ (rw u at state-shows)) in
+          absurd (let d : _≡_ {A = ℕ} 0 1 = cc in omega arith)
+
+-- Rows and states that are refused.
+module _ (t : Table) (x : State) (i o : List ℤ) where
+  -- 14
+  pub row-advances : (k : ℕ) (q : RowCheck) → q ≡ checkOf (rowPlace (t .signature) i (length o)) → q ≡ WrongAt k
+      → (a : Advanced) → a ≡ record { state = x; answer = NotPerformed (BadRow k) } → Advances (rowOf t x i o) a o
+  unfolding rowOf
+  row-advances k q e f a ea = on (rowPlace (t .signature) i (length o)) refl
+    where
+      on : (b : Option ℕ) → rowPlace (t .signature) i (length o) ≡ b → Advances (rowOf t x i o) a o
+      on none z =
+          let g : WrongAt k ≡ Right = sym f ∙ e ∙ ap checkOf z in
+          absurd (let d : _≡_ {A = ℕ} 0 1 = cc in omega arith)
+      on (some j) z =
+          let g : WrongAt k ≡ WrongAt j = sym f ∙ e ∙ ap checkOf z in
+          let y : k ≡ j = cc in
+          rw z (record { answer = ap (λ (u : Advanced). u .answer) ea ∙ ap (λ (n : ℕ). NotPerformed (BadRow n)) y; state = ap (λ (u : Advanced). u .state) ea; row = refl })
+
+  pub row-is-right : (q : RowCheck) → q ≡ checkOf (rowPlace (t .signature) i (length o)) → q ≡ Right → rowPlace (t .signature) i (length o) ≡ none
+  row-is-right q e f = on (rowPlace (t .signature) i (length o)) refl
+    where
+      on : (b : Option ℕ) → rowPlace (t .signature) i (length o) ≡ b → rowPlace (t .signature) i (length o) ≡ none
+      on none z = z
+      on (some j) z =
+          let g : Right ≡ WrongAt j = sym f ∙ e ∙ ap checkOf z in
+          absurd (let d : _≡_ {A = ℕ} 0 1 = cc in omega arith)
+
+  -- 15
+  pub state-advances : rowPlace (t .signature) i (length o) ≡ none → stateOk t x ≡ false → (a : Advanced) → a ≡ record { state = x; answer = NotPerformed BadState }
+      → Advances (rowOf t x i o) a o
+  unfolding rowOf
+  state-advances z f a ea = rw (z, f) (record { answer = ap (λ (u : Advanced). u .answer) ea; state = ap (λ (u : Advanced). u .state) ea; row = refl })
