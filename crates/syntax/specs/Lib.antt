@@ -1,0 +1,5 @@
+pub mod Lowest
+pub mod Arrays
+pub mod Kinded
+pub mod Headings
+pub mod Entries

@@ -1,0 +1,44 @@
+// What the stages after parsing share: a token's place, and the lowest place of a stage as one number (0 for none, else the place plus 1).
+ghost use mathlib.Core.Path.{_≡_};
+ghost use Rattle.language.specs.Lists.{unless};
+ghost use Rattle.syntax.specs.Lowest.{lowestOf, lower as lowerOf};
+ghost use Rattle.syntax.specs.Arrays.{numberIn};
+
+// The place of the token at an index, or 0 past the last.
+pub fn place_at(places: &[u16; 16384], n: usize, i: usize) -> u16
+    ensures { λ r. ⌜ r ≡ numberIn (now (places .entry)) n i ⌝ }
+{
+    if i < n {
+        if i < 16384 {
+            return places[i];
+        }
+        return 0;
+    }
+    0
+}
+
+// The lower of two places.
+pub fn lower(a: usize, b: usize) -> usize
+    ensures { λ r. ⌜ r ≡ lowerOf a b ⌝ }
+{
+    if a == 0 {
+        return b;
+    }
+    if b == 0 {
+        return a;
+    }
+    if a < b {
+        return a;
+    }
+    b
+}
+
+// The place of an offence where the test fails.
+pub fn offence(ok: bool, place: u16) -> usize
+    ensures { λ r. ⌜ r ≡ lowestOf (unless ok place) ⌝ }
+{
+    if ok {
+        return 0;
+    }
+    place as usize + 1
+}
