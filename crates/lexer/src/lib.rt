@@ -1,7 +1,10 @@
 // The lexer: the tokens of a text into lent arrays, and the token at a place.
 ghost use mathlib.Core.Path.{_≡_};
 ghost use mathlib.Core.List.{[]};
+ghost use Prim.Native.Nat.{_-_, _≤_};
+ghost use lib.ListN.{length};
 ghost use Rattle.language.specs.Lexer.{tokenAt};
+ghost use Rattle.lexer.specs.Places.{part};
 ghost use Rattle.lexer.specs.Tokens.{Lexing};
 
 mod bytes;
@@ -63,6 +66,14 @@ fn empty<'a>(text: &'a [u8]) -> &'a [u8]
     &text[0..0]
 }
 
+// The bytes from a place up to an end.
+fn between<'a>(text: &'a [u8], start: usize, end: usize) -> &'a [u8]
+    requires { ⌜ (start ≤ end) × (end ≤ length (now text)) ⌝ }
+    ensures { λ r. ⌜ now r ≡ part (now (text .entry)) start (end - start) ⌝ }
+{
+    parts::part_of(text, start, end - start)
+}
+
 // The token that starts at a place, as that part of the text, or an empty part. Pieces after the place are not read.
 pub fn token_at<'a>(text: &'a [u8], place: usize) -> &'a [u8]
     ensures { λ r. ⌜ now r ≡ tokenAt (now (text .entry)) place ⌝ }
@@ -78,7 +89,7 @@ pub fn token_at<'a>(text: &'a [u8], place: usize) -> &'a [u8]
             }
             Piece::Token(_, end) => {
                 if i == place {
-                    return &text[i..end];
+                    return between(text, i, end);
                 }
                 i = end;
             }

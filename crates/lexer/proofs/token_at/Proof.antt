@@ -43,22 +43,16 @@ loop-again c = let g = gapped _ _ _ (c .before .before .before .before .before .
 enum-known-end-2 : tie.Need-enum-known-end-2 Inv-loop μ-loop
 enum-known-end-2 c = search needs
 
-sub-result : tie.Need-sub-result Inv-loop μ-loop
-sub-result c = let g = tokened _ _ _ (c .before .before .before .before .before .before .loop-test .taken)
-    (c .before .before .before .before .piece-at .ensures) _ _ (c .before .before .end2 .given .1) in omega arith
-
-part-result-start : tie.Need-part-result-start Inv-loop μ-loop
-part-result-start c = let g = tokened _ _ _ (c .before .before .before .before .before .before .loop-test .taken)
-    (c .before .before .before .before .piece-at .ensures) _ _ (c .before .before .end2 .given .1) in omega arith
-
-part-result-end : tie.Need-part-result-end Inv-loop μ-loop
-part-result-end c = let g = tokened _ _ _ (c .before .before .before .before .before .before .loop-test .taken)
-    (c .before .before .before .before .piece-at .ensures) _ _ (c .before .before .end2 .given .1) in omega arith
+between-requires : tie.Need-between-requires Inv-loop μ-loop
+between-requires c κs =
+    let g = tokened _ _ _ (c .before .before .before .before .before .before .loop-test .taken)
+    (c .before .before .before .before .piece-at .ensures) _ _ (c .before .before .end2 .given .1) in
+    (omega arith, g .within)
 
 returns-2 : tie.Need-returns-2 Inv-loop μ-loop
 returns-2 c = let g = tokened _ _ _ (c .before .before .before .before .before .before .before .loop-test .taken)
     (c .before .before .before .before .before .piece-at .ensures) _ _ (c .before .before .before .end2 .given .1) in
-    sym (g .hands _ ∙ rw (eq-eqb _ _ (c .before .if2 .taken))) ∙ c .before .before .before .before .before .before .before .before .loop .inv .1
+    c .between .ensures ∙ (sym (g .hands _ ∙ rw (eq-eqb _ _ (c .before .if2 .taken))) ∙ c .before .before .before .before .before .before .before .before .loop .inv .1)
 
 loop-less-2 : tie.Need-loop-less-2 Inv-loop μ-loop
 loop-less-2 c = let g = tokened _ _ _ (c .before .before .before .before .before .before .loop-test .taken)
@@ -99,9 +93,7 @@ token-at-spec =
     loop-less
     loop-again
     enum-known-end-2
-    sub-result
-    part-result-start
-    part-result-end
+    between-requires
     returns-2
     loop-less-2
     loop-again-2
