@@ -1,0 +1,145 @@
+-- In the tree of a derivation every token has the kind that its place in the grammar asks for: a property of what each nonterminal says, kept by
+-- every production. Assumes nothing.
+use mathlib.Core.Path.{_≡_, refl, subst}
+use mathlib.Core.Logic.{_⊎_, inl, inr}
+use mathlib.Core.List.{List, [], _∷_}
+use Prim.Native.Nat.{ℕ, _≤_}
+use native.Mathlib.Omega.{arith}
+use Rattle.grammar.specs.Token.{Token, NAME, NUMBER, PLUS, XOR}
+use Rattle.grammar.specs.Tree.{Expr, binary, Stmt, Body, Init, Group, Text}
+use Rattle.grammar.specs.Grammar.{NonTerminal, text, ports, morePorts, port, names, moreNames, mode, type, init, value, vars, body, more, statement, target, else-part, expression, chain, ands, ors, xors, relation, compared, simple, terms, factor, primary}
+use Rattle.grammar.specs.Grammar.{Says, Mark, Sym, tk, nt, Fun, Production, productions, textProduction}
+use Rattle.grammar.specs.Derivation.{_∈_, here, there, Tree, by, Trees, empty, token, child, says, saysAll, Reads}
+use Rattle.grammar.specs.Limits.{Each}
+use Rattle.syntax.specs.Kinded.{IsBit, IsType, IsOperator, KindedExpr, KindedStmt, KindedBody, KindedInit, KindedGroup, Kinded}
+
+-- what goes on after an operand keeps it
+abbrev Goes : (Expr → Expr) → Type 0
+Goes f = (a : Expr) → KindedExpr a → KindedExpr (f a)
+
+-- what is kept
+abbrev Kept : (M : NonTerminal) → Says M → Type 0
+Kept text t = Kinded t
+Kept ports gs = Each KindedGroup gs
+Kept morePorts gs = Each KindedGroup gs
+Kept port g = KindedGroup g
+Kept names v = Each (λ (x : Token). x .kind ≡ NAME) v
+Kept moreNames v = Each (λ (x : Token). x .kind ≡ NAME) v
+Kept mode m = Unit {0}
+Kept type v = IsType v
+Kept init v = KindedInit v
+Kept value v = KindedInit v
+Kept vars gs = Each KindedGroup gs
+Kept body v = KindedBody v
+Kept more f = (s : Stmt) → KindedStmt s → KindedBody (f s)
+Kept statement v = KindedStmt v
+Kept target f = (x : Token) → x .kind ≡ NAME → KindedStmt (f x)
+Kept else-part f = (i : Token) (e : Expr) (a : Body) → i .kind ≡ 37 → KindedExpr e → KindedBody a → KindedStmt (f i e a)
+Kept expression v = KindedExpr v
+Kept chain f = Goes f
+Kept ands f = Goes f
+Kept ors f = Goes f
+Kept xors f = Goes f
+Kept relation v = KindedExpr v
+Kept compared f = Goes f
+Kept simple v = KindedExpr v
+Kept terms f = Goes f
+Kept factor v = KindedExpr v
+Kept primary v = KindedExpr v
+
+-- a production keeps it: where its symbols have it, what it says has it
+abbrev Keeps : (γ : List Sym) (M : NonTerminal) → Fun γ (Says M) → Type 0
+Keeps [] M f = Kept M f
+Keeps (tk m k ∷ γ) M f = (x : Token) → x .kind ≡ k → Keeps γ M (f x)
+Keeps (nt A ∷ γ) M f = (v : Says A) → Kept A v → Keeps γ M (f v)
+
+abbrev KeepAll : (M : NonTerminal) → List (Production M) → Type 0
+KeepAll M [] = Unit {0}
+KeepAll M (r ∷ rs) = Keeps (r .rhs) M (r .says) × KeepAll M rs
+
+-- an operator's kind is one of eleven
+operator : (x : Token) (k : ℕ) → PLUS ≤ k → k ≤ XOR → x .kind ≡ k → IsOperator x
+operator x k l h e = (omega arith, omega arith)
+
+joined : (x : Token) (k : ℕ) → PLUS ≤ k → k ≤ XOR → x .kind ≡ k → (b : Expr) → KindedExpr b → (f : Expr → Expr) → Goes f → Goes (λ (a : Expr). f (binary x a b))
+joined x k l h e b kb f g a ka = g _ (operator x k l h e, ka, kb)
+
+all-keep : (M : NonTerminal) → KeepAll M (productions M)
+unfolding productions textProduction
+all-keep text = (
+  λ _ _ e he _ _ _ _ _ _ ps hp _ _ _ _ _ _ e′ he′ _ _ _ _ a ha _ _ o ho _ _ _ _ p hpr vs hv _ _ b hb _ _ _ _ _ _ _ _ a′ ha′ _ _.
+      record { entity = he; ports = hp; entityEnd = he′; arch = ha; archOf = ho; process = hpr; vars = hv; body = hb; archEnd = ha′ },
+  tt,
+)
+all-keep ports = (λ g h gs k. (h, k), tt)
+all-keep morePorts = (tt, (λ _ _ g h gs k. (h, k), tt))
+all-keep port = (λ ns hn _ _ m _ t ht i hi. record { names = hn; type = ht; init = hi }, tt)
+all-keep names = (λ n h ns k. (h, k), tt)
+all-keep moreNames = (tt, (λ _ _ n h ns k. (h, k), tt))
+all-keep mode = (λ _ _. tt, (λ _ _. tt, tt))
+all-keep type = (λ x h. inl h, (λ x h. inr h, tt))
+all-keep init = (tt, (λ _ _ i h. h, tt))
+all-keep value = (λ x h. h, (λ s hs x hx. (hs, hx), (λ x h. inl h, (λ x h. inr h, tt))))
+all-keep vars = (tt, (λ _ _ ns hn _ _ t ht i hi _ _ vs hv. (record { names = hn; type = ht; init = hi }, hv), tt))
+all-keep body = (λ s hs f hf. hf s hs, tt)
+all-keep more = (λ s hs. hs, (λ t ht f hf s hs. (hs, hf t ht), tt))
+all-keep statement = (
+  λ x hx f hf. hf x hx,
+  (λ _ _ _ _. tt, (λ _ _ _ _ n hn _ _ _ _ _ _. hn, (λ i hi e he _ _ a ha f hf _ _ _ _ _ _. hf i e a hi he ha, (λ w hw e he _ _ a ha _ _ _ _ _ _. (hw, he, ha), tt)))),
+)
+all-keep target = (λ _ _ e he _ _ x hx. (hx, he), (λ _ _ e he _ _ x hx. (hx, he), tt))
+all-keep else-part = (λ i e a hi he ha. (hi, he, ha), (λ _ _ b hb i e a hi he ha. (hi, he, ha, hb), tt))
+all-keep expression = (λ a ha f hf. hf a ha, tt)
+all-keep chain = (
+  λ a ha. ha,
+  (
+    λ x hx b hb f hf. joined x _ (omega arith) (omega arith) hx b hb f hf,
+    (
+      λ x hx b hb f hf. joined x _ (omega arith) (omega arith) hx b hb f hf,
+      (λ x hx b hb f hf. joined x _ (omega arith) (omega arith) hx b hb f hf, tt),
+    ),
+  ),
+)
+all-keep ands = (λ a ha. ha, (λ x hx b hb f hf. joined x _ (omega arith) (omega arith) hx b hb f hf, tt))
+all-keep ors = (λ a ha. ha, (λ x hx b hb f hf. joined x _ (omega arith) (omega arith) hx b hb f hf, tt))
+all-keep xors = (λ a ha. ha, (λ x hx b hb f hf. joined x _ (omega arith) (omega arith) hx b hb f hf, tt))
+all-keep relation = (λ a ha f hf. hf a ha, tt)
+all-keep compared = (
+  λ a ha. ha,
+  (
+    λ x hx b hb a ha. (operator x _ (omega arith) (omega arith) hx, ha, hb),
+    (
+      λ x hx b hb a ha. (operator x _ (omega arith) (omega arith) hx, ha, hb),
+      (
+        λ x hx b hb a ha. (operator x _ (omega arith) (omega arith) hx, ha, hb),
+        (
+          λ x hx b hb a ha. (operator x _ (omega arith) (omega arith) hx, ha, hb),
+          (λ x hx b hb a ha. (operator x _ (omega arith) (omega arith) hx, ha, hb), (λ x hx b hb a ha. (operator x _ (omega arith) (omega arith) hx, ha, hb), tt)),
+        ),
+      ),
+    ),
+  ),
+)
+all-keep simple = (λ a ha f hf. hf a ha, (λ s hs a ha f hf. hf _ (hs, ha), tt))
+all-keep terms = (λ a ha. ha, (λ x hx b hb f hf. joined x _ (omega arith) (omega arith) hx b hb f hf, (λ x hx b hb f hf. joined x _ (omega arith) (omega arith) hx b hb f hf, tt)))
+all-keep factor = (λ a ha. ha, (λ x hx a ha. (hx, ha), tt))
+all-keep primary = (λ x h. h, (λ x h. inl h, (λ x h. inr h, (λ x h. h, (λ _ _ e he _ _. he, tt)))))
+
+picked : (M : NonTerminal) (r : Production M) (rs : List (Production M)) → r ∈ rs → KeepAll M rs → Keeps (r .rhs) M (r .says)
+picked M r rs here h = h .0
+picked M r rs (there {q} {rs = qs} m) h = picked M r qs m (h .1)
+
+mutual
+  unfolding says
+
+  tree-keeps : {M : NonTerminal} (d : Tree M) → Kept M (says d)
+  tree-keeps {M} (by r m ds) = trees-keep ds M (r .says) (picked M r (productions M) m (all-keep M))
+
+  trees-keep : {γ : List Sym} (ds : Trees γ) (S : NonTerminal) (f : Fun γ (Says S)) → Keeps γ S f → Kept S (saysAll ds S f)
+  trees-keep empty S f k = k
+  trees-keep (token x e ds) S f k = trees-keep ds S (f x) (k x e)
+  trees-keep (child d ds) S f k = trees-keep ds S (f (says d)) (k (says d) (tree-keeps d))
+
+-- every tree that the grammar reads has its tokens' kinds
+pub kinded : {ts : List Token} {es : List Mark} {t : Text} → Reads text ts es t → Kinded t
+kinded r = subst Kinded (r .said) (tree-keeps (r .tree))
