@@ -3,8 +3,9 @@
 use mathlib.Core.Path.{_≡_, refl, subst}
 use mathlib.Core.Logic.{_⊎_, inl, inr}
 use mathlib.Core.List.{List, [], _∷_}
-use Prim.Native.Nat.{ℕ, _≤_}
+use Prim.Native.Nat.{ℕ, _≤_, _<_}
 use native.Mathlib.Omega.{arith}
+use lib.ListN.{length}
 use Rattle.grammar.specs.Token.{Token, NAME, NUMBER, PLUS, XOR}
 use Rattle.grammar.specs.Tree.{Expr, binary, Stmt, Body, Init, Group, Text}
 use Rattle.grammar.specs.Grammar.{NonTerminal, text, ports, morePorts, port, names, moreNames, mode, type, init, value, vars, body, more, statement, target, else-part, expression, chain, ands, ors, xors, relation, compared, simple, terms, factor, primary}
@@ -23,7 +24,7 @@ Kept text t = Kinded t
 Kept ports gs = Each KindedGroup gs
 Kept morePorts gs = Each KindedGroup gs
 Kept port g = KindedGroup g
-Kept names v = Each (λ (x : Token). x .kind ≡ NAME) v
+Kept names v = Each (λ (x : Token). x .kind ≡ NAME) v × (0 < length v)
 Kept moreNames v = Each (λ (x : Token). x .kind ≡ NAME) v
 Kept mode m = Unit {0}
 Kept type v = IsType v
@@ -73,14 +74,14 @@ all-keep text = (
 )
 all-keep ports = (λ g h gs k. (h, k), tt)
 all-keep morePorts = (tt, (λ _ _ g h gs k. (h, k), tt))
-all-keep port = (λ ns hn _ _ m _ t ht i hi. record { names = hn; type = ht; init = hi }, tt)
-all-keep names = (λ n h ns k. (h, k), tt)
+all-keep port = (λ ns hn _ _ m _ t ht i hi. record { names = hn .0; some = hn .1; type = ht; init = hi }, tt)
+all-keep names = (λ n h ns k. ((h, k), omega arith), tt)
 all-keep moreNames = (tt, (λ _ _ n h ns k. (h, k), tt))
 all-keep mode = (λ _ _. tt, (λ _ _. tt, tt))
 all-keep type = (λ x h. inl h, (λ x h. inr h, tt))
 all-keep init = (tt, (λ _ _ i h. h, tt))
 all-keep value = (λ x h. h, (λ s hs x hx. (hs, hx), (λ x h. inl h, (λ x h. inr h, tt))))
-all-keep vars = (tt, (λ _ _ ns hn _ _ t ht i hi _ _ vs hv. (record { names = hn; type = ht; init = hi }, hv), tt))
+all-keep vars = (tt, (λ _ _ ns hn _ _ t ht i hi _ _ vs hv. (record { names = hn .0; some = hn .1; type = ht; init = hi }, hv), tt))
 all-keep body = (λ s hs f hf. hf s hs, tt)
 all-keep more = (λ s hs. hs, (λ t ht f hf s hs. (hs, hf t ht), tt))
 all-keep statement = (

@@ -2,7 +2,8 @@
 use mathlib.Core.Path.{_≡_}
 use mathlib.Core.List.{List}
 use mathlib.Core.Logic.{_⊎_}
-use Prim.Native.Nat.{ℕ, _≤_}
+use Prim.Native.Nat.{ℕ, _≤_, _<_}
+use lib.ListN.{length}
 use Rattle.grammar.specs.Token.{Token, NAME, NUMBER, ZERO, ONE, PLUS, MINUS, XOR, NOT, IF, WHILE, PROCESS, STD-LOGIC, INTEGER}
 use Rattle.grammar.specs.Tree.{Expr, number, bit, name, sign, negate, binary, parens, Stmt, output, assign, null, wait, if-then, if-else, while, Body, only, andThen, Init, without, integer-literal, logic-literal, minus, Group, Text}
 use Rattle.grammar.specs.Limits.{Each}
@@ -48,6 +49,7 @@ KindedInit (minus s x) = (s .kind ≡ MINUS) × (x .kind ≡ NUMBER)
 
 pub record KindedGroup (g : Group) : Type 0 where
   pub names : Each (λ (x : Token). x .kind ≡ NAME) (g .names)
+  pub some : 0 < length (g .names)
   pub type : IsType (g .type)
   pub init : KindedInit (g .init)
 
