@@ -1,0 +1,138 @@
+-- The items and entries of a tree become those of its design. Assumes nothing.
+use mathlib.Core.Path.{_≡_, refl, sym, _∙_, ap}
+use mathlib.Core.Bool.{Bool, true, false, cond}
+use mathlib.Core.Option.{Option, none, some}
+use mathlib.Core.List.{List, [], _∷_, _++_, map, map-append}
+use Prim.Native.Nat.{ℕ, zero, suc, _+_, _-_, _≤_, _<_}
+use native.Mathlib.Omega.{arith}
+use lib.ListN.{length, length-map, length-append}
+use lib.Dec.{eqb}
+use lib.IntN.{pos}
+use borrow.Author.Tests.{ne-eqb}
+use Rattle.grammar.specs.Token.{Token, PLUS, XOR}
+use Rattle.grammar.specs.Tree as T
+use Rattle.grammar.specs.Tree.{Body, Mode}
+use Rattle.design.specs.Expression as E
+use Rattle.design.specs.Expression.{Expr, leaf}
+use Rattle.design.specs.Statement as D
+use Rattle.design.specs.Statement.{Stmt, size}
+use Rattle.language.specs.Declarations.{Decl, Scope, find}
+use Rattle.language.specs.Typing.{operatorOf}
+use Rattle.language.specs.Elaboration.{nameCode, named, orPlus, code, stmt, stmts}
+use Rattle.expressions.specs.Postfix.{Item, itemOf, binaryItem, postfix}
+use Rattle.statements.specs.Entries.{stmtEntries, bodyEntries}
+use Rattle.syntax.specs.Kinded.{IsOperator, KindedExpr, KindedStmt, KindedBody}
+use Rattle.ir.specs.Operations.{Op, op, ops, binaryCode}
+use Rattle.ir.specs.Entries.{Entry, entry, entries, Single, single-act, single-wait, single-if, single-else, single-while, Block, only, andThen}
+use Rattle.ir.proofs.Held.{entries-size}
+use Rattle.elaborator.specs.Elaborated.{modeOp, foundOp, opOf, targetOf, entryOf}
+
+-- the eleven operators, by their kinds
+by-kind : (d : ℕ) → d ≤ 10 → binaryCode (orPlus (operatorOf (11 + d))) ≡ 18 + d
+unfolding operatorOf orPlus
+by-kind zero h = refl
+by-kind (suc zero) h = refl
+by-kind (suc (suc zero)) h = refl
+by-kind (suc (suc (suc zero))) h = refl
+by-kind (suc (suc (suc (suc zero)))) h = refl
+by-kind (suc (suc (suc (suc (suc zero))))) h = refl
+by-kind (suc (suc (suc (suc (suc (suc zero)))))) h = refl
+by-kind (suc (suc (suc (suc (suc (suc (suc zero))))))) h = refl
+by-kind (suc (suc (suc (suc (suc (suc (suc (suc zero)))))))) h = refl
+by-kind (suc (suc (suc (suc (suc (suc (suc (suc (suc zero))))))))) h = refl
+by-kind (suc (suc (suc (suc (suc (suc (suc (suc (suc (suc zero)))))))))) h = refl
+by-kind (suc (suc (suc (suc (suc (suc (suc (suc (suc (suc (suc d))))))))))) h = absurd (omega arith)
+
+operator-code : (k : ℕ) → PLUS ≤ k → k ≤ XOR → binaryCode (orPlus (operatorOf k)) ≡ k + 7
+operator-code k l h =
+    let z : k ≡ 11 + (k - 11) = omega arith in
+    let y : 18 + (k - 11) ≡ k + 7 = omega arith in
+    ap (λ (q : ℕ). binaryCode (orPlus (operatorOf q))) z ∙ (by-kind (k - 11) (omega arith) ∙ y)
+
+-- EXPRESSIONS
+
+named-op : (Γ : Scope) (v : ℕ) (m : Option Decl) → ops (named Γ v m) ≡ foundOp Γ v m ∷ []
+unfolding ops named nameCode
+named-op Γ v none = refl
+named-op Γ v (some d) = go (d .mode)
+  where
+    go : (m : Mode) → ops (nameCode Γ v m) ≡ modeOp Γ v m ∷ []
+    go T.input = refl
+    go T.output-port = refl
+    go T.variable-mode = refl
+
+-- an operator's item
+binary-op : (Δ : List Decl) (Γ : Scope) (x : Token) → IsOperator x → opOf Δ Γ (binaryItem x) ≡ op (binaryCode (orPlus (operatorOf (x .kind)))) (pos 0)
+unfolding opOf
+binary-op Δ Γ x h = let c = operator-code (x .kind) (h .0) (h .1) in
+    rw (c, no 1 (omega arith), no 2 (omega arith), no 3 (omega arith), no 4 (omega arith), no 5 (omega arith))
+  where
+    no : (k : ℕ) → k < x .kind + 7 → eqb (x .kind + 7) k ≡ false
+    no k l = ne-eqb (x .kind + 7) k (λ e. omega arith)
+
+pub ops-mapped : (Δ : List Decl) (Γ : Scope) (e : T.Expr) → KindedExpr e → ops (code Δ Γ e) ≡ map (opOf Δ Γ) (postfix e)
+unfolding ops code postfix opOf
+ops-mapped Δ Γ (T.number x) h = refl
+ops-mapped Δ Γ (T.bit x) h = refl
+ops-mapped Δ Γ (T.name x) h = named-op Γ (x .value) (find Δ (x .value))
+ops-mapped Δ Γ (T.sign x a) h = rw (ops-mapped Δ Γ a (h .1)) (sym (map-append (opOf Δ Γ) (postfix a) (itemOf 4 x ∷ [])))
+ops-mapped Δ Γ (T.negate x a) h = rw (ops-mapped Δ Γ a (h .1)) (sym (map-append (opOf Δ Γ) (postfix a) (itemOf 5 x ∷ [])))
+ops-mapped Δ Γ (T.binary x a b) h =
+    rw (ops-mapped Δ Γ a (h .1), ops-mapped Δ Γ b (h .2), sym (binary-op Δ Γ x (h .0))) (
+    sym (map-append (opOf Δ Γ) (postfix a) (postfix b ++ (binaryItem x ∷ [])) ∙ ap (λ (l : List Op). map (opOf Δ Γ) (postfix a) ++ l) (map-append (opOf Δ Γ) (postfix b) (binaryItem x ∷ [])))
+    )
+ops-mapped Δ Γ (T.parens a) h = ops-mapped Δ Γ a h
+
+-- STATEMENTS
+
+-- a design's statement has as many numbers as the tree's has entries
+mutual
+  unfolding stmt size stmtEntries
+
+  pub size-stmt : (Δ : List Decl) (Γ : Scope) (s : T.Stmt) → size (stmt Δ Γ s) ≡ length (stmtEntries s)
+  size-stmt Δ Γ (T.output x e) = refl
+  size-stmt Δ Γ (T.assign x e) = refl
+  size-stmt Δ Γ T.null = refl
+  size-stmt Δ Γ (T.wait x) = refl
+  size-stmt Δ Γ (T.if-then i e a) = ap suc (size-body Δ Γ a)
+  size-stmt Δ Γ (T.if-else i e a b) = ap suc (rw (size-body Δ Γ a, size-body Δ Γ b) (sym (length-append (bodyEntries a) (bodyEntries b))))
+  size-stmt Δ Γ (T.while w e a) = ap suc (size-body Δ Γ a)
+
+  pub size-body : (Δ : List Decl) (Γ : Scope) (b : Body) → size (stmts Δ Γ b) ≡ length (bodyEntries b)
+  size-body Δ Γ (T.only s) = size-stmt Δ Γ s
+  size-body Δ Γ (T.andThen s b) = rw (size-stmt Δ Γ s, size-body Δ Γ b) (sym (length-append (stmtEntries s) (bodyEntries b)))
+
+mutual
+  unfolding stmt entries stmtEntries entryOf targetOf
+
+  entries-stmt : (Δ : List Decl) (Γ : Scope) (s : T.Stmt) → KindedStmt s → entries (stmt Δ Γ s) ≡ map (entryOf Δ Γ) (stmtEntries s)
+  entries-stmt Δ Γ (T.output x e) h = rw (ops-mapped Δ Γ e (h .1))
+  entries-stmt Δ Γ (T.assign x e) h = rw (ops-mapped Δ Γ e (h .1))
+  entries-stmt Δ Γ T.null h = refl
+  entries-stmt Δ Γ (T.wait x) h = refl
+  entries-stmt Δ Γ (T.if-then i e a) h = rw (ops-mapped Δ Γ e (h .1), size-body Δ Γ a, entries-body Δ Γ a (h .2))
+  entries-stmt Δ Γ (T.if-else i e a b) h =
+      rw (ops-mapped Δ Γ e (h .1), size-body Δ Γ a, size-body Δ Γ b, entries-body Δ Γ a (h .2), entries-body Δ Γ b (h .3), map-append (entryOf Δ Γ) (bodyEntries a) (bodyEntries b))
+  entries-stmt Δ Γ (T.while w e a) h = rw (ops-mapped Δ Γ e (h .1), size-body Δ Γ a, entries-body Δ Γ a (h .2))
+
+  -- the entries of a body become those of its design
+  pub entries-body : (Δ : List Decl) (Γ : Scope) (b : Body) → KindedBody b → entries (stmts Δ Γ b) ≡ map (entryOf Δ Γ) (bodyEntries b)
+  entries-body Δ Γ (T.only s) h = entries-stmt Δ Γ s h
+  entries-body Δ Γ (T.andThen s b) h = rw (entries-stmt Δ Γ s (h .0), entries-body Δ Γ b (h .1), map-append (entryOf Δ Γ) (stmtEntries s) (bodyEntries b))
+
+mutual
+  unfolding stmt
+
+  single : (Δ : List Decl) (Γ : Scope) (s : T.Stmt) → Single (stmt Δ Γ s)
+  single Δ Γ (T.output x e) = single-act _
+  single Δ Γ (T.assign x e) = single-act _
+  single Δ Γ T.null = single-act _
+  single Δ Γ (T.wait x) = single-wait
+  single Δ Γ (T.if-then i e a) = single-if (block Δ Γ a)
+  single Δ Γ (T.if-else i e a b) = single-else (block Δ Γ a) (block Δ Γ b)
+  single Δ Γ (T.while w e a) = single-while (block Δ Γ a)
+
+  -- a body's design is a statement list
+  pub block : (Δ : List Decl) (Γ : Scope) (b : Body) → Block (stmts Δ Γ b)
+  block Δ Γ (T.only s) = only (single Δ Γ s)
+  block Δ Γ (T.andThen s b) = andThen (single Δ Γ s) (block Δ Γ b)

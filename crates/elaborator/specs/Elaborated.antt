@@ -1,0 +1,39 @@
+-- What an item, a statement's entry and a declared name become in the design: by the declarations and by what names stand for. Assumes nothing.
+use mathlib.Core.Bool.{Bool, true, false}
+use mathlib.Core.Option.{Option, none, some}
+use mathlib.Core.List.{List, map}
+use Prim.Native.Nat.{ℕ}
+use lib.Dec.{eqb}
+use lib.IntN.{ℤ, pos}
+use Rattle.grammar.specs.Tree.{Mode, input, output-port, variable-mode}
+use Rattle.grammar.specs.Reader.{choose}
+use Rattle.language.specs.Declarations.{Decl, Scope, find}
+use Rattle.language.specs.Elaboration.{position}
+use Rattle.expressions.specs.Postfix.{Item}
+use Rattle.statements.specs.Entries as S
+use Rattle.ir.specs.Operations.{Op, op, bitArg}
+use Rattle.ir.specs.Entries.{Entry, entry}
+
+-- a name in an expression: the k-th data input or variable; where it may not be read, '0'
+abbrev pub modeOp : Scope → ℕ → Mode → Op
+modeOp Γ v input = op 3 (pos (position (Γ .inputs) v))
+modeOp Γ v output-port = op 2 (pos 0)
+modeOp Γ v variable-mode = op 4 (pos (position (Γ .variables) v))
+
+abbrev pub foundOp : Scope → ℕ → Option Decl → Op
+foundOp Γ v none = op 2 (pos 0)
+foundOp Γ v (some d) = modeOp Γ v (d .mode)
+
+-- an item: 1 a name, 2 a number, 3 '0' or '1', 4 a sign, 5 not; an operator with two operands keeps its code
+unfoldable pub opOf : List Decl → Scope → Item → Op
+opOf Δ Γ i =
+    choose (eqb (i .code) 1) (foundOp Γ (i .token .value) (find Δ (i .token .value))) (choose (eqb (i .code) 2) (op 1 (pos (i .token .value)))
+    (choose (eqb (i .code) 3) (op 2 (bitArg (eqb (i .token .value) 1))) (choose (eqb (i .code) 4) (op 16 (pos 0)) (choose (eqb (i .code) 5) (op 17 (pos 0)) (op (i .code) (pos 0))))))
+
+-- a target: the k-th output of <=, the k-th variable of :=; others have none
+unfoldable pub targetOf : Scope → ℕ → ℕ → ℕ
+targetOf Γ k v = choose (eqb k 1) (position (Γ .outputs) v) (choose (eqb k 2) (position (Γ .variables) v) 0)
+
+-- a statement
+unfoldable pub entryOf : List Decl → Scope → S.Entry → Entry
+entryOf Δ Γ e = entry (e .kind) (targetOf Γ (e .kind) (e .token .value)) (map (opOf Δ Γ) (e .items)) (e .part) (e .inside)

@@ -1,0 +1,1 @@
+// From the arrays of a parsed text to those of its design.
