@@ -1,1 +1,2 @@
 pub mod Elaborated
+pub mod Positions

@@ -1,1 +1,3 @@
 // From the arrays of a parsed text to those of its design.
+mod arrays;
+pub mod items;

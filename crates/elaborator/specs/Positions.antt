@@ -1,0 +1,56 @@
+-- What an item becomes, read off the arrays by position. Assumes nothing.
+use mathlib.Core.List.{List, [], _∷_}
+use Prim.Native.Nat.{ℕ, zero, suc, _+_, _*_}
+use lib.Dec.{eqb, leb, ltb}
+use lib.ListN.{getD}
+use lib.IntN.{ℤ, pos}
+use Rattle.grammar.specs.Reader.{choose}
+use Rattle.language.specs.Words.{value}
+use Rattle.lexer.specs.Places.{part}
+use Rattle.ir.specs.Operations.{Op, op}
+
+-- the number at an index of an array of 16384, 0 past its end
+abbrev pub numberAt : List ℕ → ℕ → ℕ
+numberAt l i = choose (ltb i 16384) (getD l i 0) 0
+
+-- field c of declaration q, and its index among the names of its kind; 0 where there is no such declaration
+abbrev pub fieldAt : List ℕ → ℕ → ℕ → ℕ
+fieldAt decls q c = choose (ltb q 65) (choose (ltb c 6) (getD decls (6 * q + c) 0) 0) 0
+
+abbrev pub slotAt : List ℕ → ℕ → ℕ
+slotAt slots q = choose (ltb q 65) (getD slots q 0) 0
+
+-- a literal's value, 0 where it passes the limit
+abbrev pub within : ℕ → ℕ
+within v = choose (leb v 2147483647) v 0
+
+-- the value of the number that token i is
+abbrev pub literalAt : List ℕ → List ℕ → List ℕ → ℕ → ℕ
+literalAt text starts sizes i = within (value 0 (part text (numberAt starts i) (numberAt sizes i)))
+
+-- a name's code by its declaration's mode: 3 an input, 4 a variable; an output is never read, '0' stands in its place
+abbrev pub nameCode : ℕ → ℕ
+nameCode m = choose (eqb m 0) 3 (choose (eqb m 2) 4 2)
+
+abbrev pub nameArg : ℕ → ℕ → ℕ
+nameArg m s = choose (eqb m 1) 0 s
+
+-- '0' or '1', by its token's kind
+abbrev pub bitAt : List ℕ → ℕ → ℕ
+bitAt kinds i = choose (eqb (numberAt kinds i) 4) 1 0
+
+-- the code of an item's operation, for the item's code c and its token's index i
+unfoldable pub codeAt : List ℕ → List ℕ → ℕ → ℕ → ℕ
+codeAt owners decls c i =
+    choose (eqb c 1) (nameCode (fieldAt decls (numberAt owners i) 1)) (choose (eqb c 2) 1 (choose (eqb c 3) 2 (choose (eqb c 4) 16 (choose (eqb c 5) 17 c))))
+
+-- its argument
+unfoldable pub argAt : List ℕ → List ℕ → List ℕ → List ℕ → List ℕ → List ℕ → List ℕ → ℕ → ℕ → ℕ
+argAt text starts sizes kinds owners decls slots c i =
+    choose (eqb c 1) (nameArg (fieldAt decls (numberAt owners i) 1) (slotAt slots (numberAt owners i))) (choose (eqb c 2) (literalAt text starts sizes i)
+    (choose (eqb c 3) (bitAt kinds i) 0))
+
+-- the operations from item m on, n of them
+unfoldable pub opsAt : (ℕ → ℕ → ℕ) → (ℕ → ℕ → ℕ) → List ℕ → List ℕ → ℕ → ℕ → List Op
+opsAt f g codes indices m zero = []
+opsAt f g codes indices m (suc n) = op (f (getD codes m 0) (getD indices m 0)) (pos (within (g (getD codes m 0) (getD indices m 0)))) ∷ opsAt f g codes indices (m + 1) n

@@ -1,0 +1,102 @@
+// The operations of all expressions, from the items.
+ghost use mathlib.Core.Path.{_≡_};
+ghost use lib.IntN.{pos};
+ghost use Rattle.elaborator.specs.Positions.{numberAt, fieldAt, slotAt, within, literalAt, nameCode, nameArg, bitAt, codeAt, argAt};
+use crate::arrays;
+use lexer::parts;
+
+// A name's code, by its declaration's mode.
+fn name_code(mode: u16) -> u8
+    ensures { λ r. ⌜ r ≡ nameCode mode ⌝ }
+{
+    if mode == 0 {
+        return 3;
+    }
+    if mode == 2 {
+        return 4;
+    }
+    2
+}
+
+// The code of an item's operation.
+fn code_at(owners: &[u8; 16384], decls: &[u16; 390], c: u8, i: usize) -> u8
+    ensures { λ r. ⌜ r ≡ codeAt (now (owners .entry)) (now (decls .entry)) c i ⌝ }
+{
+    match c {
+        1 => name_code(arrays::field_at(decls, arrays::byte_at(owners, i) as usize, 1)),
+        2 => 1,
+        3 => 2,
+        4 => 16,
+        5 => 17,
+        _ => c,
+    }
+}
+
+// The value of a number.
+fn literal_at(text: &[u8], starts: &[u16; 16384], sizes: &[u16; 16384], i: usize) -> u32
+    ensures { λ r. ⌜ r ≡ literalAt (now (text .entry)) (now (starts .entry)) (now (sizes .entry)) i ⌝ }
+{
+    let v = parts::number_value(
+        text,
+        arrays::number_at(starts, i) as usize,
+        arrays::number_at(sizes, i) as usize,
+    );
+    if v <= 2147483647 {
+        return v as u32;
+    }
+    0
+}
+
+// The index of a name that is read.
+fn name_arg(owners: &[u8; 16384], decls: &[u16; 390], slots: &[u8; 65], i: usize) -> u32
+    ensures { λ r. ⌜ r ≡ nameArg (fieldAt (now (decls .entry)) (numberAt (now (owners .entry)) i) 1) (slotAt (now (slots .entry)) (numberAt (now (owners .entry)) i)) ⌝ }
+{
+    let q = arrays::byte_at(owners, i) as usize;
+    let mode = arrays::field_at(decls, q, 1);
+    if mode == 1 {
+        return 0;
+    }
+    arrays::slot_at(slots, q) as u32
+}
+
+// '0' or '1'.
+fn bit_at(kinds: &[u8; 16384], i: usize) -> u32
+    ensures { λ r. ⌜ r ≡ bitAt (now (kinds .entry)) i ⌝ }
+{
+    if arrays::byte_at(kinds, i) == 4 {
+        return 1;
+    }
+    0
+}
+
+// The argument of an item's operation.
+fn arg_at(
+    text: &[u8],
+    starts: &[u16; 16384],
+    sizes: &[u16; 16384],
+    kinds: &[u8; 16384],
+    owners: &[u8; 16384],
+    decls: &[u16; 390],
+    slots: &[u8; 65],
+    c: u8,
+    i: usize,
+) -> u32
+    ensures { λ r. ⌜ r ≡ argAt (now (text .entry)) (now (starts .entry)) (now (sizes .entry)) (now (kinds .entry)) (now (owners .entry)) (now (decls .entry)) (now (slots .entry)) c i ⌝ }
+{
+    match c {
+        1 => name_arg(owners, decls, slots, i),
+        2 => literal_at(text, starts, sizes, i),
+        3 => bit_at(kinds, i),
+        _ => 0,
+    }
+}
+
+// A number that fits, as a value.
+fn whole(n: u32) -> i32
+    ensures { λ r. ⌜ r ≡ pos (within n) ⌝ }
+{
+    if n <= 2147483647 {
+        return n as i32;
+    }
+    0
+}
