@@ -1,0 +1,26 @@
+-- What is found of rows, for whatever statements stand in them. Assumes nothing.
+use mathlib.Core.Path.{_≡_}
+use mathlib.Core.List.{List}
+use Prim.Native.Nat.{ℕ}
+use Rattle.grammar.specs.Token.{Token}
+use Rattle.grammar.specs.Tree.{Stmt, Text}
+use Rattle.language.specs.Classes.{loops}
+use Rattle.cursor.specs.Tokens.{tokenAt}
+use Rattle.statements.specs.Entries.{stmtEntries, bodyEntries}
+use Rattle.syntax.specs.Lowest.{lowestOf}
+use Rattle.syntax.specs.Arrays.{TokensIn, RowsIn}
+use Rattle.classes.specs.declared.Summary.{Summary}
+use Rattle.classes.specs.Lists.{listEntries, ofStatement, ofList}
+use Rattle.classes.specs.Held.{Held}
+
+-- of the statement whose rows these are
+pub record StatementFound (rows places : List ℕ) (n at end : ℕ) (r : Summary) : Type 0 where
+  pub is : (ts : List Token) (kinds : List ℕ) (s : Stmt) → Held ts kinds places n rows at end (stmtEntries s) → r ≡ ofStatement s
+
+-- of the list of statements whose rows these are
+pub record BlockFound (rows places : List ℕ) (n from to : ℕ) (r : Summary) : Type 0 where
+  pub is : (ts : List Token) (kinds : List ℕ) (l : List Stmt) → Held ts kinds places n rows from to (listEntries l) → r ≡ ofList l
+
+-- "while with a classed body that is not C; if none, process body not C": the lowest place for every text that the arrays hold
+pub record Judged (rows places : List ℕ) (n s process r : ℕ) : Type 0 where
+  pub is : (ts : List Token) (kinds : List ℕ) (t : Text) → TokensIn ts kinds places n → RowsIn ts (bodyEntries (t .body)) rows s → tokenAt ts process ≡ t .process → r ≡ lowestOf (loops t)
