@@ -1,8 +1,10 @@
 -- What an item becomes, read off the arrays by position. Assumes nothing.
-use mathlib.Core.List.{List, [], _∷_}
-use Prim.Native.Nat.{ℕ, zero, suc, _+_, _*_}
+use mathlib.Core.Path.{_≡_}
+use mathlib.Core.List.{List, [], _∷_, map}
+use Prim.Native.Nat.{ℕ, zero, suc, _+_, _*_, min}
 use lib.Dec.{eqb, leb, ltb}
 use lib.ListN.{getD}
+use lib.Seq.{sets}
 use lib.IntN.{ℤ, pos}
 use Rattle.grammar.specs.Reader.{choose}
 use Rattle.language.specs.Words.{value}
@@ -54,3 +56,8 @@ argAt text starts sizes kinds owners decls slots c i =
 unfoldable pub opsAt : (ℕ → ℕ → ℕ) → (ℕ → ℕ → ℕ) → List ℕ → List ℕ → ℕ → ℕ → List Op
 opsAt f g codes indices m zero = []
 opsAt f g codes indices m (suc n) = op (f (getD codes m 0) (getD indices m 0)) (pos (within (g (getD codes m 0) (getD indices m 0)))) ∷ opsAt f g codes indices (m + 1) n
+
+-- the arrays of operations after the call (₁) from those before it (₀): the operations of k items, at most 16384, stand in them from the first place on, all else is as it was
+pub record Elaborates (f g : ℕ → ℕ → ℕ) (codes indices : List ℕ) (k : ℕ) (ops₀ ops₁ : List ℕ) (args₀ args₁ : List ℤ) : Type 0 where
+  pub ops : ops₁ ≡ sets ops₀ 0 (map (λ (o : Op). o .code) (opsAt f g codes indices 0 (min k 16384)))
+  pub args : args₁ ≡ sets args₀ 0 (map (λ (o : Op). o .arg) (opsAt f g codes indices 0 (min k 16384)))

@@ -1,7 +1,8 @@
 // The operations of all expressions, from the items.
 ghost use mathlib.Core.Path.{_≡_};
+ghost use Prim.Native.Nat.{min};
 ghost use lib.IntN.{pos};
-ghost use Rattle.elaborator.specs.Positions.{numberAt, fieldAt, slotAt, within, literalAt, nameCode, nameArg, bitAt, codeAt, argAt};
+ghost use Rattle.elaborator.specs.Positions.{numberAt, fieldAt, slotAt, within, literalAt, nameCode, nameArg, bitAt, codeAt, argAt, Elaborates};
 use crate::arrays;
 use lexer::parts;
 
@@ -99,4 +100,51 @@ fn whole(n: u32) -> i32
         return n as i32;
     }
     0
+}
+
+// An index of the array, as wide as indices are.
+fn wide(x: u16) -> usize
+    ensures { λ r. ⌜ r ≡ x ⌝ }
+{
+    x as usize
+}
+
+// As many items as the arrays have room for.
+fn at_most(k: usize) -> usize
+    ensures { λ r. ⌜ r ≡ min k 16384 ⌝ }
+{
+    if k < 16384 {
+        return k;
+    }
+    16384
+}
+
+// The operations of all items, in their order.
+pub fn operations(
+    text: &[u8],
+    starts: &[u16; 16384],
+    sizes: &[u16; 16384],
+    kinds: &[u8; 16384],
+    owners: &[u8; 16384],
+    decls: &[u16; 390],
+    slots: &[u8; 65],
+    codes: &[u8; 16384],
+    indices: &[u16; 16384],
+    k: usize,
+    ops: &mut [u8; 16384],
+    args: &mut [i32; 16384],
+)
+    ensures { λ _. ⌜ Elaborates (codeAt (now (owners .entry)) (now (decls .entry)))
+        (argAt (now (text .entry)) (now (starts .entry)) (now (sizes .entry)) (now (kinds .entry)) (now (owners .entry)) (now (decls .entry)) (now (slots .entry)))
+        (now (codes .entry)) (now (indices .entry)) k (now (ops .entry)) (now (ops .exit)) (now (args .entry)) (now (args .exit)) ⌝ }
+{
+    let n = at_most(k);
+    let mut j = 0;
+    while j < n {
+        let c = codes[j];
+        let i = wide(indices[j]);
+        ops[j] = code_at(owners, decls, c, i);
+        args[j] = whole(arg_at(text, starts, sizes, kinds, owners, decls, slots, c, i));
+        j += 1;
+    }
 }
