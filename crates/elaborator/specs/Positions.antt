@@ -9,6 +9,7 @@ use lib.IntN.{ℤ, pos}
 use Rattle.grammar.specs.Reader.{choose}
 use Rattle.language.specs.Words.{value}
 use Rattle.lexer.specs.Places.{part}
+use Rattle.statements.specs.Rows.{Row, row}
 use Rattle.ir.specs.Operations.{Op, op}
 
 -- the number at an index of an array of 16384, 0 past its end
@@ -61,3 +62,17 @@ opsAt f g codes indices m (suc n) = op (f (getD codes m 0) (getD indices m 0)) (
 pub record Elaborates (f g : ℕ → ℕ → ℕ) (codes indices : List ℕ) (k : ℕ) (ops₀ ops₁ : List ℕ) (args₀ args₁ : List ℤ) : Type 0 where
   pub ops : ops₁ ≡ sets ops₀ 0 (map (λ (o : Op). o .code) (opsAt f g codes indices 0 (min k 16384)))
   pub args : args₁ ≡ sets args₀ 0 (map (λ (o : Op). o .arg) (opsAt f g codes indices 0 (min k 16384)))
+
+-- a target's index, for the row's kind k and its token's index i; what has no target has 0
+abbrev pub targetAt : List ℕ → List ℕ → ℕ → ℕ → ℕ
+targetAt owners slots k i = choose (eqb k 1) (slotAt slots (numberAt owners i)) (choose (eqb k 2) (slotAt slots (numberAt owners i)) 0)
+
+-- row j with its target in place of its token, and those from row j on, c of them
+abbrev pub rowAt : List ℕ → List ℕ → List ℕ → ℕ → Row
+rowAt owners slots rows j =
+    row (getD rows (6 * j) 0) (targetAt owners slots (getD rows (6 * j) 0) (getD rows (6 * j + 1) 0)) (getD rows (6 * j + 2) 0) (getD rows (6 * j + 3) 0)
+    (getD rows (6 * j + 4) 0) (getD rows (6 * j + 5) 0)
+
+unfoldable pub rowsAt : List ℕ → List ℕ → List ℕ → ℕ → ℕ → List Row
+rowsAt owners slots rows j zero = []
+rowsAt owners slots rows j (suc c) = rowAt owners slots rows j ∷ rowsAt owners slots rows (j + 1) c

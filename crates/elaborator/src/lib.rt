@@ -1,3 +1,4 @@
 // From the arrays of a parsed text to those of its design.
 mod arrays;
 pub mod items;
+pub mod rows;
