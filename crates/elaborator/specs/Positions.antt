@@ -9,6 +9,7 @@ use lib.IntN.{ℤ, pos}
 use Rattle.grammar.specs.Reader.{choose}
 use Rattle.language.specs.Words.{value}
 use Rattle.lexer.specs.Places.{part}
+use Rattle.offences.specs.Positions.{modeIn}
 use Rattle.statements.specs.Rows.{Row, row}
 use Rattle.ir.specs.Operations.{Op, op}
 
@@ -36,21 +37,21 @@ abbrev pub nameCode : ℕ → ℕ
 nameCode m = choose (eqb m 0) 3 (choose (eqb m 2) 4 2)
 
 abbrev pub nameArg : ℕ → ℕ → ℕ
-nameArg m s = choose (eqb m 1) 0 s
+nameArg m s = choose (eqb (nameCode m) 2) 0 s
 
 -- '0' or '1', by its token's kind
 abbrev pub bitAt : List ℕ → ℕ → ℕ
 bitAt kinds i = choose (eqb (numberAt kinds i) 4) 1 0
 
 -- the code of an item's operation, for the item's code c and its token's index i
-unfoldable pub codeAt : List ℕ → List ℕ → ℕ → ℕ → ℕ
-codeAt owners decls c i =
-    choose (eqb c 1) (nameCode (fieldAt decls (numberAt owners i) 1)) (choose (eqb c 2) 1 (choose (eqb c 3) 2 (choose (eqb c 4) 16 (choose (eqb c 5) 17 c))))
+unfoldable pub codeAt : List ℕ → List ℕ → ℕ → ℕ → ℕ → ℕ
+codeAt owners decls d c i =
+    choose (eqb c 1) (nameCode (modeIn decls d (numberAt owners i))) (choose (eqb c 2) 1 (choose (eqb c 3) 2 (choose (eqb c 4) 16 (choose (eqb c 5) 17 c))))
 
 -- its argument
-unfoldable pub argAt : List ℕ → List ℕ → List ℕ → List ℕ → List ℕ → List ℕ → List ℕ → ℕ → ℕ → ℕ
-argAt text starts sizes kinds owners decls slots c i =
-    choose (eqb c 1) (nameArg (fieldAt decls (numberAt owners i) 1) (slotAt slots (numberAt owners i))) (choose (eqb c 2) (literalAt text starts sizes i)
+unfoldable pub argAt : List ℕ → List ℕ → List ℕ → List ℕ → List ℕ → List ℕ → ℕ → List ℕ → ℕ → ℕ → ℕ
+argAt text starts sizes kinds owners decls d slots c i =
+    choose (eqb c 1) (nameArg (modeIn decls d (numberAt owners i)) (slotAt slots (numberAt owners i))) (choose (eqb c 2) (literalAt text starts sizes i)
     (choose (eqb c 3) (bitAt kinds i) 0))
 
 -- the operations from item m on, n of them

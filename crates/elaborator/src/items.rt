@@ -2,9 +2,11 @@
 ghost use mathlib.Core.Path.{_≡_};
 ghost use Prim.Native.Nat.{min};
 ghost use lib.IntN.{pos};
-ghost use Rattle.elaborator.specs.Positions.{numberAt, fieldAt, slotAt, within, literalAt, nameCode, nameArg, bitAt, codeAt, argAt, Elaborates};
+ghost use Rattle.offences.specs.Positions.{modeIn};
+ghost use Rattle.elaborator.specs.Positions.{numberAt, slotAt, within, literalAt, nameCode, nameArg, bitAt, codeAt, argAt, Elaborates};
 use crate::arrays;
 use lexer::parts;
+use offences::mode_at;
 
 // A name's code, by its declaration's mode.
 fn name_code(mode: u16) -> u8
@@ -20,11 +22,11 @@ fn name_code(mode: u16) -> u8
 }
 
 // The code of an item's operation.
-fn code_at(owners: &[u8; 16384], decls: &[u16; 390], c: u8, i: usize) -> u8
-    ensures { λ r. ⌜ r ≡ codeAt (now (owners .entry)) (now (decls .entry)) c i ⌝ }
+fn code_at(owners: &[u8; 16384], decls: &[u16; 390], d: usize, c: u8, i: usize) -> u8
+    ensures { λ r. ⌜ r ≡ codeAt (now (owners .entry)) (now (decls .entry)) d c i ⌝ }
 {
     match c {
-        1 => name_code(arrays::field_at(decls, arrays::byte_at(owners, i) as usize, 1)),
+        1 => name_code(mode_at(decls, d, arrays::byte_at(owners, i) as usize)),
         2 => 1,
         3 => 2,
         4 => 16,
@@ -49,12 +51,12 @@ fn literal_at(text: &[u8], starts: &[u16; 16384], sizes: &[u16; 16384], i: usize
 }
 
 // The index of a name that is read.
-fn name_arg(owners: &[u8; 16384], decls: &[u16; 390], slots: &[u8; 65], i: usize) -> u32
-    ensures { λ r. ⌜ r ≡ nameArg (fieldAt (now (decls .entry)) (numberAt (now (owners .entry)) i) 1) (slotAt (now (slots .entry)) (numberAt (now (owners .entry)) i)) ⌝ }
+fn name_arg(owners: &[u8; 16384], decls: &[u16; 390], d: usize, slots: &[u8; 65], i: usize) -> u32
+    ensures { λ r. ⌜ r ≡ nameArg (modeIn (now (decls .entry)) d (numberAt (now (owners .entry)) i)) (slotAt (now (slots .entry)) (numberAt (now (owners .entry)) i)) ⌝ }
 {
     let q = arrays::byte_at(owners, i) as usize;
-    let mode = arrays::field_at(decls, q, 1);
-    if mode == 1 {
+    let code = name_code(mode_at(decls, d, q));
+    if code == 2 {
         return 0;
     }
     arrays::slot_at(slots, q) as u32
@@ -78,14 +80,15 @@ fn arg_at(
     kinds: &[u8; 16384],
     owners: &[u8; 16384],
     decls: &[u16; 390],
+    d: usize,
     slots: &[u8; 65],
     c: u8,
     i: usize,
 ) -> u32
-    ensures { λ r. ⌜ r ≡ argAt (now (text .entry)) (now (starts .entry)) (now (sizes .entry)) (now (kinds .entry)) (now (owners .entry)) (now (decls .entry)) (now (slots .entry)) c i ⌝ }
+    ensures { λ r. ⌜ r ≡ argAt (now (text .entry)) (now (starts .entry)) (now (sizes .entry)) (now (kinds .entry)) (now (owners .entry)) (now (decls .entry)) d (now (slots .entry)) c i ⌝ }
 {
     match c {
-        1 => name_arg(owners, decls, slots, i),
+        1 => name_arg(owners, decls, d, slots, i),
         2 => literal_at(text, starts, sizes, i),
         3 => bit_at(kinds, i),
         _ => 0,
@@ -127,6 +130,7 @@ pub fn operations(
     kinds: &[u8; 16384],
     owners: &[u8; 16384],
     decls: &[u16; 390],
+    d: usize,
     slots: &[u8; 65],
     codes: &[u8; 16384],
     indices: &[u16; 16384],
@@ -134,8 +138,8 @@ pub fn operations(
     ops: &mut [u8; 16384],
     args: &mut [i32; 16384],
 )
-    ensures { λ _. ⌜ Elaborates (codeAt (now (owners .entry)) (now (decls .entry)))
-        (argAt (now (text .entry)) (now (starts .entry)) (now (sizes .entry)) (now (kinds .entry)) (now (owners .entry)) (now (decls .entry)) (now (slots .entry)))
+    ensures { λ _. ⌜ Elaborates (codeAt (now (owners .entry)) (now (decls .entry)) d)
+        (argAt (now (text .entry)) (now (starts .entry)) (now (sizes .entry)) (now (kinds .entry)) (now (owners .entry)) (now (decls .entry)) d (now (slots .entry)))
         (now (codes .entry)) (now (indices .entry)) k (now (ops .entry)) (now (ops .exit)) (now (args .entry)) (now (args .exit)) ⌝ }
 {
     let n = at_most(k);
@@ -143,8 +147,8 @@ pub fn operations(
     while j < n {
         let c = codes[j];
         let i = wide(indices[j]);
-        ops[j] = code_at(owners, decls, c, i);
-        args[j] = whole(arg_at(text, starts, sizes, kinds, owners, decls, slots, c, i));
+        ops[j] = code_at(owners, decls, d, c, i);
+        args[j] = whole(arg_at(text, starts, sizes, kinds, owners, decls, d, slots, c, i));
         j += 1;
     }
 }

@@ -14,16 +14,16 @@ bit-at-requires : tie.Need-bit-at-requires
 bit-at-requires c κs = search needs
 
 returns : tie.Need-returns
-returns c = arg-name _ _ _ _ _ _ _ _ _ (c .before .match .keys1) (c .name-arg .ensures)
+returns c = arg-name _ _ _ _ _ _ _ _ _ _ (c .before .match .keys1) (c .name-arg .ensures)
 
 returns-2 : tie.Need-returns-2
-returns-2 c = arg-number _ _ _ _ _ _ _ _ _ (c .before .match .keys2) (c .literal-at .ensures)
+returns-2 c = arg-number _ _ _ _ _ _ _ _ _ _ (c .before .match .keys2) (c .literal-at .ensures)
 
 returns-3 : tie.Need-returns-3
-returns-3 c = arg-bit _ _ _ _ _ _ _ _ _ (c .before .match .keys3) (c .bit-at .ensures)
+returns-3 c = arg-bit _ _ _ _ _ _ _ _ _ _ (c .before .match .keys3) (c .bit-at .ensures)
 
 returns-4 : tie.Need-returns-4
-returns-4 c = arg-none _ _ _ _ _ _ _ _ _ (c .match .rest .0 .0 .1) (c .match .rest .0 .1) (c .match .rest .1)
+returns-4 c = arg-none _ _ _ _ _ _ _ _ _ _ (c .match .rest .0 .0 .1) (c .match .rest .0 .1) (c .match .rest .1)
 
 pub arg-at-spec : {M : Type 1} → statement M
 arg-at-spec =

@@ -1,5 +1,6 @@
 -- `elaborator::items::code_at` meets its contract. Assumes nothing.
 use Rattle.elaborator.proofs.ItemLaws.{code-name, code-number, code-bit, code-sign, code-not, code-other}
+use denote.Ref.{now}
 use borrow.Author.Needs.{needs}
 use Rattle.elaborator.proofs.items.code_at.Statement.{statement}
 use Rattle.elaborator.proofs.items.code_at.Tie as tie
@@ -7,40 +8,40 @@ use Rattle.elaborator.proofs.items.code_at.Tie as tie
 byte-at-requires : tie.Need-byte-at-requires
 byte-at-requires c κs = search needs
 
-cast-field-at : tie.Need-cast-field-at
-cast-field-at c = search needs
+cast-mode-at : tie.Need-cast-mode-at
+cast-mode-at c = search needs
 
-field-at-requires : tie.Need-field-at-requires
-field-at-requires c κs = search needs
+mode-at-requires : tie.Need-mode-at-requires
+mode-at-requires c κs = search needs
 
 name-code-requires : tie.Need-name-code-requires
 name-code-requires c κs = search needs
 
 returns : tie.Need-returns
-returns c = code-name _ _ _ _ (c .before .before .before .match .keys1) (c .before .before .byte-at .ensures) (c .before .field-at .ensures) (c .name-code .ensures)
+returns c = code-name (now (c .before .before .before .before .args .owners)) (now (c .before .before .before .before .args .decls)) (c .before .before .before .before .args .d) (c .before .before .before .before .args .c) (c .before .before .before .before .args .i) (c .before .before .before .match .keys1) (c .before .before .byte-at .ensures) (c .before .mode-at .ensures) (c .name-code .ensures)
 
 returns-2 : tie.Need-returns-2
-returns-2 c = code-number _ _ _ _ (c .match .keys2)
+returns-2 c = code-number (now (c .before .args .owners)) (now (c .before .args .decls)) (c .before .args .d) (c .before .args .c) (c .before .args .i) (c .match .keys2)
 
 returns-3 : tie.Need-returns-3
-returns-3 c = code-bit _ _ _ _ (c .match .keys3)
+returns-3 c = code-bit (now (c .before .args .owners)) (now (c .before .args .decls)) (c .before .args .d) (c .before .args .c) (c .before .args .i) (c .match .keys3)
 
 returns-4 : tie.Need-returns-4
-returns-4 c = code-sign _ _ _ _ (c .match .keys4)
+returns-4 c = code-sign (now (c .before .args .owners)) (now (c .before .args .decls)) (c .before .args .d) (c .before .args .c) (c .before .args .i) (c .match .keys4)
 
 returns-5 : tie.Need-returns-5
-returns-5 c = code-not _ _ _ _ (c .match .keys5)
+returns-5 c = code-not (now (c .before .args .owners)) (now (c .before .args .decls)) (c .before .args .d) (c .before .args .c) (c .before .args .i) (c .match .keys5)
 
 returns-6 : tie.Need-returns-6
-returns-6 c = code-other _ _ _ _ (c .match .rest .0 .0 .0 .0 .1) (c .match .rest .0 .0 .0 .1) (c .match .rest .0 .0 .1) (c .match .rest .0 .1) (c .match .rest .1)
+returns-6 c = code-other (now (c .before .args .owners)) (now (c .before .args .decls)) (c .before .args .d) (c .before .args .c) (c .before .args .i) (c .match .rest .0 .0 .0 .0 .1) (c .match .rest .0 .0 .0 .1) (c .match .rest .0 .0 .1) (c .match .rest .0 .1) (c .match .rest .1)
 
 pub code-at-spec : {M : Type 1} → statement M
 code-at-spec =
     tie.close
     (tie.spec
     byte-at-requires
-    cast-field-at
-    field-at-requires
+    cast-mode-at
+    mode-at-requires
     name-code-requires
     returns
     returns-2

@@ -1,5 +1,5 @@
 -- `elaborator::items::name_arg` meets its contract. Assumes nothing.
-use Rattle.elaborator.proofs.ItemLaws.{arg-output, arg-slot}
+use Rattle.elaborator.proofs.ItemLaws.{arg-unread, arg-slot}
 use denote.Ref.{now}
 use borrow.Author.Needs.{needs}
 use Rattle.elaborator.proofs.items.name_arg.Statement.{statement}
@@ -11,11 +11,14 @@ byte-at-requires c κs = search needs
 cast-q : tie.Need-cast-q
 cast-q c = search needs
 
-field-at-requires : tie.Need-field-at-requires
-field-at-requires c κs = search needs
+mode-at-requires : tie.Need-mode-at-requires
+mode-at-requires c κs = search needs
+
+name-code-requires : tie.Need-name-code-requires
+name-code-requires c κs = search needs
 
 returns : tie.Need-returns
-returns c = arg-output (now (c .before .before .before .args .decls)) (now (c .before .before .before .args .slots)) (c .before .before .byte-at .ensures) (c .before .field-at .ensures) (c .if1 .taken)
+returns c = arg-unread (now (c .before .before .before .before .args .decls)) (now (c .before .before .before .before .args .slots)) (c .before .before .before .before .args .d) (c .before .before .before .byte-at .ensures) (c .before .before .mode-at .ensures) (c .before .name-code .ensures) (c .if1 .taken)
 
 slot-at-requires : tie.Need-slot-at-requires
 slot-at-requires c κs = search needs
@@ -24,7 +27,7 @@ cast-result : tie.Need-cast-result
 cast-result c = search needs
 
 returns-2 : tie.Need-returns-2
-returns-2 c = arg-slot (now (c .before .before .before .before .args .decls)) (now (c .before .before .before .before .args .slots)) (c .before .before .before .byte-at .ensures) (c .before .before .field-at .ensures) (c .before .if1 .left) (c .slot-at .ensures)
+returns-2 c = arg-slot (now (c .before .before .before .before .before .args .decls)) (now (c .before .before .before .before .before .args .slots)) (c .before .before .before .before .before .args .d) (c .before .before .before .before .byte-at .ensures) (c .before .before .before .mode-at .ensures) (c .before .before .name-code .ensures) (c .before .if1 .left) (c .slot-at .ensures)
 
 pub name-arg-spec : {M : Type 1} → statement M
 name-arg-spec =
@@ -32,7 +35,8 @@ name-arg-spec =
     (tie.spec
     byte-at-requires
     cast-q
-    field-at-requires
+    mode-at-requires
+    name-code-requires
     returns
     slot-at-requires
     cast-result

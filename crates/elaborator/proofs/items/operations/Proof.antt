@@ -12,10 +12,10 @@ use Rattle.elaborator.proofs.items.operations.Statement.{statement}
 use Rattle.elaborator.proofs.items.operations.Tie as tie
 
 abbrev Inv-loop : tie.InvT-loop
-Inv-loop text starts sizes kinds owners decls slots codes indices k ops₀ args₀ n j₀ ops args j = (n ≡ min k 16384) × Filling (codeAt owners decls) (argAt text starts sizes kinds owners decls slots) codes indices n ops₀ ops args₀ args j
+Inv-loop text starts sizes kinds owners decls d slots codes indices k ops₀ args₀ n j₀ ops args j = (n ≡ min k 16384) × Filling (codeAt owners decls d) (argAt text starts sizes kinds owners decls d slots) codes indices n ops₀ ops args₀ args j
 
 abbrev μ-loop : tie.MeasureT-loop
-μ-loop text starts sizes kinds owners decls slots codes indices k ops₀ args₀ n j₀ ops args j = n - j
+μ-loop text starts sizes kinds owners decls d slots codes indices k ops₀ args₀ n j₀ ops args j = n - j
 
 at-most-requires : tie.Need-at-most-requires Inv-loop μ-loop
 at-most-requires c κs = search needs
@@ -47,8 +47,8 @@ arg-at-requires c κs = search needs
 whole-requires : tie.Need-whole-requires Inv-loop μ-loop
 whole-requires c κs = search needs
 
-mul-t21 : tie.Need-mul-t21 Inv-loop μ-loop
-mul-t21 c = let i = c .before .before .before .before .before .before .before .loop .inv .0 in let t = c .before .before .before .before .before .before .loop-test .taken in search needs
+mul-t22 : tie.Need-mul-t22 Inv-loop μ-loop
+mul-t22 c = let i = c .before .before .before .before .before .before .before .loop .inv .0 in let t = c .before .before .before .before .before .before .loop-test .taken in search needs
 
 element-set-from-args : tie.Need-element-set-from-args Inv-loop μ-loop
 element-set-from-args c = let i = c .before .before .before .before .before .before .before .loop .inv .0 in let t = c .before .before .before .before .before .before .loop-test .taken in search needs
@@ -81,7 +81,7 @@ operations-spec =
     element-write-ops
     arg-at-requires
     whole-requires
-    mul-t21
+    mul-t22
     element-set-from-args
     add-j
     loop-less

@@ -1,0 +1,30 @@
+-- What the stage of the clock answers, on any arrays and on those of a tree. Assumes nothing.
+use mathlib.Core.Path.{_≡_}
+use mathlib.Core.Option.{Option, none, some}
+use mathlib.Core.List.{List, []}
+use Prim.Native.Nat.{ℕ}
+use Rattle.grammar.specs.Token.{Token}
+use Rattle.grammar.specs.Tree.{Text}
+use Rattle.language.specs.Declarations.{Decl, declared, clockOf}
+use Rattle.language.specs.Elaboration.{position}
+use Rattle.language.specs.Names.{names}
+use Rattle.language.specs.Clock.{clock}
+use Rattle.syntax.specs.Lowest.{lowestOf}
+use Rattle.offences.specs.Laid.{Laid}
+use Rattle.clock.specs.Positions.{ownerIn, judgeIn}
+
+-- the answer by position; and for a tree that the arrays hold, with no offence of refusal 5, the lowest offence of refusal 8
+pub record Judges (rows : List ℕ) (s : ℕ) (codes indices : List ℕ) (k : ℕ) (places owners : List ℕ) (n : ℕ) (decls : List ℕ) (d r : ℕ) : Type 0 where
+  pub answer : r ≡ judgeIn rows s codes indices k places owners n decls d
+  pub lowest : (ts : List Token) (t : Text) (kinds : List ℕ) → Laid ts t kinds places n codes indices k rows s decls d owners → names t ≡ [] → r ≡ lowestOf (clock t)
+
+-- the number of the declaration of the clock's name; 65 without a wait
+unfoldable pub ownerOf : List Decl → Option Token → ℕ
+ownerOf Δ none = 65
+ownerOf Δ (some w) = position Δ (w .value)
+
+-- the same for the clock's number
+pub record Owns (rows : List ℕ) (s : ℕ) (owners : List ℕ) (n r : ℕ) : Type 0 where
+  pub answer : r ≡ ownerIn rows s owners n
+  pub clocks : (ts : List Token) (t : Text) (kinds places codes indices : List ℕ) (k : ℕ) (decls : List ℕ) (d : ℕ)
+      → Laid ts t kinds places n codes indices k rows s decls d owners → r ≡ ownerOf (declared t) (clockOf t)

@@ -1,0 +1,56 @@
+-- Refusal 8 by position: "the first wait's name is no std_logic input, another wait differs, clock (if that input exists) read", at that name.
+-- A wait's row has kind 0 and the index of its name; an item that is a name has code 1. Assumes nothing.
+use mathlib.Core.Bool.{Bool, false, not}
+use mathlib.Core.List.{List}
+use Prim.Native.Nat.{ℕ, zero, suc, _+_, _*_, min}
+use lib.Dec.{eqb, ltb}
+use lib.ListN.{getD}
+use Rattle.grammar.specs.Reader.{choose}
+use Rattle.language.specs.Lists.{unless}
+use Rattle.syntax.specs.Lowest.{lowestOf, lower}
+use Rattle.syntax.specs.Arrays.{numberIn}
+use Rattle.offences.specs.Positions.{lowestFrom, modeIn, typeIn}
+
+-- the index of the first wait's name, from row j on, c rows; 16384 for none
+unfoldable pub waitFrom : List ℕ → ℕ → ℕ → ℕ
+waitFrom rows j zero = 16384
+waitFrom rows j (suc c) = choose (eqb (getD rows (6 * j) 0) 0) (getD rows (6 * j + 1) 0) (waitFrom rows (j + 1) c)
+
+-- "the first wait's name", among at most 512 statements
+abbrev pub waitIn : List ℕ → ℕ → ℕ
+waitIn rows s = waitFrom rows 0 (min s 512)
+
+-- the number of the clock's declaration; 65 without a wait
+abbrev pub ownerIn : List ℕ → ℕ → List ℕ → ℕ → ℕ
+ownerIn rows s owners n = choose (ltb (waitIn rows s) n) (numberIn owners n (waitIn rows s)) 65
+
+-- "another wait differs": row j is a wait whose name stands for another declaration than o
+unfoldable pub strayAt : List ℕ → List ℕ → List ℕ → ℕ → ℕ → ℕ → ℕ
+strayAt rows places owners n o j =
+    choose (eqb (getD rows (6 * j) 0) 0)
+    (lowestOf (unless (eqb (numberIn owners n (getD rows (6 * j + 1) 0)) o) (numberIn places n (getD rows (6 * j + 1) 0)))) 0
+
+-- "clock read": item j is a name that stands for o
+unfoldable pub readAt : List ℕ → List ℕ → List ℕ → List ℕ → ℕ → ℕ → ℕ → ℕ
+readAt codes indices places owners n o j =
+    choose (eqb (getD codes j 0) 1)
+    (lowestOf (unless (not (eqb (numberIn owners n (getD indices j 0)) o)) (numberIn places n (getD indices j 0)))) 0
+
+-- a std_logic input is declared under the number o
+abbrev pub isClockIn : List ℕ → ℕ → ℕ → Bool
+isClockIn decls d o = choose (eqb (modeIn decls d o) 0) (eqb (typeIn decls d o) 0) false
+
+-- the lowest place of a wait that differs, and of a read
+abbrev pub straysIn : List ℕ → ℕ → List ℕ → List ℕ → ℕ → ℕ → ℕ
+straysIn rows s places owners n o = lowestFrom (strayAt rows places owners n o) 0 (min s 512)
+
+abbrev pub readsIn : List ℕ → List ℕ → ℕ → List ℕ → List ℕ → ℕ → ℕ → ℕ
+readsIn codes indices k places owners n o = lowestFrom (readAt codes indices places owners n o) 0 (min k 16384)
+
+-- the lowest of all; "(if that input exists)": else no read is judged, and the first wait's name is refused; without a wait nothing is
+unfoldable pub judgeIn : List ℕ → ℕ → List ℕ → List ℕ → ℕ → List ℕ → List ℕ → ℕ → List ℕ → ℕ → ℕ
+judgeIn rows s codes indices k places owners n decls d =
+    let w = waitIn rows s in
+    let o = numberIn owners n w in
+    let strays = straysIn rows s places owners n o in
+    choose (ltb w n) (choose (isClockIn decls d o) (lower strays (readsIn codes indices k places owners n o)) (lower (numberIn places n w + 1) strays)) 0

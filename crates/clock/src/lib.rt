@@ -1,0 +1,154 @@
+// Refusal 8: "the first wait's name is no std_logic input, another wait differs, clock (if that input exists) read".
+// The answer is 0, or the lowest place plus 1.
+ghost use mathlib.Core.Path.{_≡_};
+ghost use Prim.Native.Nat.{_<_};
+ghost use Rattle.clock.specs.Positions.{waitIn, strayAt, readAt, isClockIn, straysIn, readsIn};
+ghost use Rattle.clock.specs.Judges.{Judges, Owns};
+
+// The index of the first wait's name, or 16384.
+fn first_wait(rows: &[u16; 3072], s: usize) -> usize
+    ensures { λ r. ⌜ r ≡ waitIn (now (rows .entry)) s ⌝ }
+{
+    let end = offences::at_most(s, 512);
+    let mut j = 0;
+    while j < end {
+        if rows[6 * j] == 0 {
+            return offences::wide(rows[6 * j + 1]);
+        }
+        j += 1;
+    }
+    16384
+}
+
+// A wait whose name stands for another declaration than o.
+fn stray_at(
+    rows: &[u16; 3072],
+    places: &[u16; 16384],
+    owners: &[u8; 16384],
+    n: usize,
+    o: usize,
+    j: usize,
+) -> usize
+    requires { ⌜ j < 512 ⌝ }
+    ensures { λ r. ⌜ r ≡ strayAt (now (rows .entry)) (now (places .entry)) (now (owners .entry)) n o j ⌝ }
+{
+    if rows[6 * j] != 0 {
+        return 0;
+    }
+    let i = offences::wide(rows[6 * j + 1]);
+    let same = offences::owner_at(owners, n, i) == o;
+    syntax::offence(same, syntax::place_at(places, n, i))
+}
+
+// The lowest of those.
+fn strays(
+    rows: &[u16; 3072],
+    s: usize,
+    places: &[u16; 16384],
+    owners: &[u8; 16384],
+    n: usize,
+    o: usize,
+) -> usize
+    ensures { λ r. ⌜ r ≡ straysIn (now (rows .entry)) s (now (places .entry)) (now (owners .entry)) n o ⌝ }
+{
+    let end = offences::at_most(s, 512);
+    let mut low = 0;
+    let mut j = 0;
+    while j < end {
+        low = syntax::lower(low, stray_at(rows, places, owners, n, o, j));
+        j += 1;
+    }
+    low
+}
+
+// An item that is a name and stands for o.
+fn read_at(
+    codes: &[u8; 16384],
+    indices: &[u16; 16384],
+    places: &[u16; 16384],
+    owners: &[u8; 16384],
+    n: usize,
+    o: usize,
+    j: usize,
+) -> usize
+    requires { ⌜ j < 16384 ⌝ }
+    ensures { λ r. ⌜ r ≡ readAt (now (codes .entry)) (now (indices .entry)) (now (places .entry)) (now (owners .entry)) n o j ⌝ }
+{
+    if codes[j] != 1 {
+        return 0;
+    }
+    let i = offences::wide(indices[j]);
+    let other = offences::owner_at(owners, n, i) != o;
+    syntax::offence(other, syntax::place_at(places, n, i))
+}
+
+// The lowest of those.
+fn reads(
+    codes: &[u8; 16384],
+    indices: &[u16; 16384],
+    k: usize,
+    places: &[u16; 16384],
+    owners: &[u8; 16384],
+    n: usize,
+    o: usize,
+) -> usize
+    ensures { λ r. ⌜ r ≡ readsIn (now (codes .entry)) (now (indices .entry)) k (now (places .entry)) (now (owners .entry)) n o ⌝ }
+{
+    let end = offences::at_most(k, 16384);
+    let mut low = 0;
+    let mut j = 0;
+    while j < end {
+        low = syntax::lower(low, read_at(codes, indices, places, owners, n, o, j));
+        j += 1;
+    }
+    low
+}
+
+// A std_logic input is declared under the number.
+fn is_clock(decls: &[u16; 390], d: usize, o: usize) -> bool
+    ensures { λ r. ⌜ r ≡ isClockIn (now (decls .entry)) d o ⌝ }
+{
+    if offences::mode_at(decls, d, o) == 0 {
+        return offences::type_at(decls, d, o) == 0;
+    }
+    false
+}
+
+// The number of the clock's declaration, or 65 without a wait.
+pub fn clock_owner(rows: &[u16; 3072], s: usize, owners: &[u8; 16384], n: usize) -> usize
+    ensures { λ r. ⌜ Owns (now (rows .entry)) s (now (owners .entry)) n r ⌝ }
+{
+    let w = first_wait(rows, s);
+    if w < n {
+        return offences::owner_at(owners, n, w);
+    }
+    65
+}
+
+// The lowest place of refusal 8 plus 1, or 0.
+pub fn judge(
+    rows: &[u16; 3072],
+    s: usize,
+    codes: &[u8; 16384],
+    indices: &[u16; 16384],
+    k: usize,
+    places: &[u16; 16384],
+    owners: &[u8; 16384],
+    n: usize,
+    decls: &[u16; 390],
+    d: usize,
+) -> usize
+    ensures { λ r. ⌜ Judges (now (rows .entry)) s (now (codes .entry)) (now (indices .entry)) k (now (places .entry)) (now (owners .entry)) n (now (decls .entry)) d r ⌝ }
+{
+    let w = first_wait(rows, s);
+    if w >= n {
+        return 0;
+    }
+    let o = offences::owner_at(owners, n, w);
+    let stray = strays(rows, s, places, owners, n, o);
+    if is_clock(decls, d, o) {
+        return syntax::lower(stray, reads(codes, indices, k, places, owners, n, o));
+    }
+    let first = syntax::offence(false, syntax::place_at(places, n, w));
+    syntax::lower(first, stray)
+}

@@ -1,0 +1,1 @@
+// All stages of the front end in table order.

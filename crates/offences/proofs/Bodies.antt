@@ -1,0 +1,235 @@
+-- A rule over the statements of a body, or over the names in its expressions, and the same over the rows and the items of the arrays. Assumes nothing.
+use mathlib.Core.Path.{_≡_, refl, sym, _∙_, ap, subst}
+use mathlib.Core.Bool.{Bool, true, false}
+use mathlib.Core.List.{List, [], _∷_, _++_, map, map-append, append-assoc, append-nil}
+use Prim.Native.Nat.{ℕ, zero, suc, _+_, _*_, _<_}
+use native.Mathlib.Omega.{arith}
+use borrow.Author.Tests.{ne-eqb}
+use lib.Dec.{eqb}
+use lib.ListN.{length, getD}
+use Rattle.grammar.specs.Token.{Token, NAME}
+use Rattle.grammar.specs.Reader.{choose}
+use Rattle.grammar.specs.Tree.{Expr, number, bit, name, sign, negate, binary, parens, Stmt, output, assign, null, wait, if-then, if-else, while, Body, only, andThen}
+use Rattle.grammar.specs.Limits.{Each}
+use Rattle.language.specs.Lists.{each}
+use Rattle.language.specs.Declarations.{within, statements}
+use Rattle.language.proofs.Facts.{each-append}
+use Rattle.cursor.specs.Tokens.{tokenAt}
+use Rattle.expressions.specs.Postfix.{Item, itemOf, binaryItem, postfix}
+use Rattle.expressions.specs.Written.{itemAtIndex}
+use Rattle.statements.specs.Entries.{Entry, entry, stmtEntries, bodyEntries, entryItems}
+use Rattle.statements.specs.Rows.{Line, seen, linesFrom}
+use Rattle.syntax.specs.Arrays.{placedFrom, ItemsIn, rowIn, rowsFrom, RowsIn}
+use Rattle.syntax.specs.Entries.{stmtEntry}
+use Rattle.syntax.specs.Kinded.{KindedExpr, KindedStmt, KindedBody}
+use Rattle.syntax.specs.Lowest.{lowestOf}
+use Rattle.offences.specs.Positions.{lowestFrom}
+use Rattle.offences.proofs.Loops.{listFrom, list-lowest, each-same, each-map, all-map, all-imply}
+
+-- the entries of a body are those of its statements, one for each
+mutual
+  unfolding stmtEntries bodyEntries within statements stmtEntry
+
+  entries-stmt : (s : Stmt) → stmtEntries s ≡ map stmtEntry (within s)
+  entries-stmt (output x e) = refl
+  entries-stmt (assign x e) = refl
+  entries-stmt null = refl
+  entries-stmt (wait x) = refl
+  entries-stmt (if-then i e a) = ap (λ (l : List Entry). entry 3 i (postfix e) (length (bodyEntries a)) (length (bodyEntries a)) ∷ l) (entries-are a)
+  entries-stmt (if-else i e a b) =
+      ap (λ (l : List Entry). entry 3 i (postfix e) (length (bodyEntries a)) (length (bodyEntries a) + length (bodyEntries b)) ∷ l)
+      (ap (λ (l : List Entry). l ++ bodyEntries b) (entries-are a) ∙ (ap (λ (l : List Entry). map stmtEntry (statements a) ++ l) (entries-are b)
+      ∙ sym (map-append stmtEntry (statements a) (statements b))))
+  entries-stmt (while w e a) = ap (λ (l : List Entry). entry 5 w (postfix e) (length (bodyEntries a)) (length (bodyEntries a)) ∷ l) (entries-are a)
+
+  pub entries-are : (b : Body) → bodyEntries b ≡ map stmtEntry (statements b)
+  entries-are (only s) = entries-stmt s
+  entries-are (andThen s b) =
+      ap (λ (l : List Entry). l ++ bodyEntries b) (entries-stmt s)
+      ∙ (ap (λ (l : List Entry). map stmtEntry (within s) ++ l) (entries-are b) ∙ sym (map-append stmtEntry (within s) (statements b)))
+
+-- every statement of a body has tokens of the right kinds
+all-append : {A : Type 0} (P : A → Type 0) (a b : List A) → Each P a → Each P b → Each P (a ++ b)
+all-append P [] b p q = q
+all-append P (x ∷ a) b p q = (p .0, all-append P a b (p .1) q)
+
+mutual
+  unfolding within statements
+
+  kinded-within : (s : Stmt) → KindedStmt s → Each KindedStmt (within s)
+  kinded-within (output x e) k = (k, tt)
+  kinded-within (assign x e) k = (k, tt)
+  kinded-within null k = (k, tt)
+  kinded-within (wait x) k = (k, tt)
+  kinded-within (if-then i e a) k = (k, kinded-statements a (k .2))
+  kinded-within (if-else i e a b) k = (k, all-append KindedStmt (statements a) (statements b) (kinded-statements a (k .2)) (kinded-statements b (k .3)))
+  kinded-within (while w e a) k = (k, kinded-statements a (k .2))
+
+  pub kinded-statements : (b : Body) → KindedBody b → Each KindedStmt (statements b)
+  kinded-statements (only s) k = kinded-within s k
+  kinded-statements (andThen s b) k = all-append KindedStmt (within s) (statements b) (kinded-within s (k .0)) (kinded-statements b (k .1))
+
+-- a wait and an assignment have a name
+abbrev pub NamedRow : ℕ → Token → Type 0
+NamedRow k x = k < 3 → x .kind ≡ NAME
+
+named-row : (s : Stmt) → KindedStmt s → NamedRow (stmtEntry s .kind) (stmtEntry s .token)
+unfolding stmtEntry
+named-row (output x e) k h = k .0
+named-row (assign x e) k h = k .0
+named-row null k h = absurd (omega arith)
+named-row (wait x) k h = k
+named-row (if-then i e a) k h = absurd (omega arith)
+named-row (if-else i e a b) k h = absurd (omega arith)
+named-row (while w e a) k h = absurd (omega arith)
+
+-- The rows.
+rows-list : (ts : List Token) (rows : List ℕ) (j c : ℕ) → listFrom (λ (i : ℕ). seen ts (rowIn rows i)) j c ≡ map (seen ts) (rowsFrom rows j c)
+unfolding listFrom rowsFrom
+rows-list ts rows j zero = refl
+rows-list ts rows j (suc c) = ap (λ (l : List Line). seen ts (rowIn rows j) ∷ l) (rows-list ts rows (j + 1) c)
+
+lines-each : (h : ℕ → Token → List ℕ) (s m : ℕ) (es : List Entry) → each (λ (l : Line). h (l .kind) (l .token)) (linesFrom s m es) ≡ each (λ (e : Entry). h (e .kind) (e .token)) es
+unfolding each linesFrom
+lines-each h s m [] = refl
+lines-each h s m (e ∷ es) = ap (λ (l : List ℕ). h (e .kind) (e .token) ++ l) (lines-each h (s + 1) (m + length (e .items)) es)
+
+lines-named : (s m : ℕ) (es : List Entry) → Each (λ (e : Entry). NamedRow (e .kind) (e .token)) es → Each (λ (l : Line). NamedRow (l .kind) (l .token)) (linesFrom s m es)
+unfolding linesFrom
+lines-named s m [] p = tt
+lines-named s m (e ∷ es) p = (p .0, lines-named (s + 1) (m + length (e .items)) es (p .1))
+
+entries-named : (b : Body) → KindedBody b → Each (λ (e : Entry). NamedRow (e .kind) (e .token)) (bodyEntries b)
+entries-named b k =
+    subst (λ (l : List Entry). Each (λ (e : Entry). NamedRow (e .kind) (e .token)) l) (sym (entries-are b))
+    (all-map stmtEntry (λ (e : Entry). NamedRow (e .kind) (e .token)) (statements b)
+    (all-imply KindedStmt (λ (s : Stmt). NamedRow (stmtEntry s .kind) (stmtEntry s .token)) named-row (statements b) (kinded-statements b k)))
+
+-- a rule that goes by a statement's kind and token, over the rows
+pub rows-lowest : (ts : List Token) (b : Body) (rows : List ℕ) (s : ℕ) → RowsIn ts (bodyEntries b) rows s → KindedBody b
+    → (g : Stmt → List ℕ) (h : ℕ → Token → List ℕ) → ((x : Stmt) → g x ≡ h (stmtEntry x .kind) (stmtEntry x .token))
+    → (f : ℕ → ℕ) → ((j : ℕ) → NamedRow (getD rows (6 * j) 0) (tokenAt ts (getD rows (6 * j + 1) 0)) → f j ≡ lowestOf (h (getD rows (6 * j) 0) (tokenAt ts (getD rows (6 * j + 1) 0))))
+    → lowestFrom f 0 s ≡ lowestOf (each g (statements b))
+rows-lowest ts b rows s r k g h e f q =
+    list-lowest (λ (i : ℕ). seen ts (rowIn rows i)) rule (λ (l : Line). NamedRow (l .kind) (l .token)) f q 0 s
+    (subst (λ (l : List Line). Each (λ (l : Line). NamedRow (l .kind) (l .token)) l) (sym lines) (lines-named 0 0 (bodyEntries b) (entries-named b k)))
+    ∙ ap lowestOf (ap (each rule) lines ∙ (lines-each h 0 0 (bodyEntries b)
+    ∙ (ap (each (λ (e : Entry). h (e .kind) (e .token))) (entries-are b) ∙ (each-map stmtEntry (λ (e : Entry). h (e .kind) (e .token)) (statements b)
+    ∙ sym (each-same g (λ (x : Stmt). h (stmtEntry x .kind) (stmtEntry x .token)) e (statements b))))))
+  where
+    rule : Line → List ℕ
+    rule l = h (l .kind) (l .token)
+
+    lines : listFrom (λ (i : ℕ). seen ts (rowIn rows i)) 0 s ≡ linesFrom 0 0 (bodyEntries b)
+    lines = rows-list ts rows 0 s ∙ r .are
+
+-- A rule for names in expressions.
+unfoldable pub ofNames : (Token → List ℕ) → Expr → List ℕ
+ofNames r (number x) = []
+ofNames r (bit x) = []
+ofNames r (name x) = r x
+ofNames r (sign x a) = ofNames r a
+ofNames r (negate x a) = ofNames r a
+ofNames r (binary x a b) = ofNames r a ++ ofNames r b
+ofNames r (parens a) = ofNames r a
+
+unfoldable pub ofReads : (Token → List ℕ) → Stmt → List ℕ
+ofReads r (output x e) = ofNames r e
+ofReads r (assign x e) = ofNames r e
+ofReads r null = []
+ofReads r (wait x) = []
+ofReads r (if-then i e a) = ofNames r e
+ofReads r (if-else i e a b) = ofNames r e
+ofReads r (while w e a) = ofNames r e
+
+-- the same of an item
+abbrev pub ofItem : (Token → List ℕ) → ℕ → Token → List ℕ
+ofItem r c x = choose (eqb c 1) (r x) []
+
+itemRule : (Token → List ℕ) → Item → List ℕ
+itemRule r i = ofItem r (i .code) (i .token)
+
+names-postfix : (r : Token → List ℕ) (e : Expr) → each (itemRule r) (postfix e) ≡ ofNames r e
+unfolding each postfix ofNames itemRule
+names-postfix r (number x) = refl
+names-postfix r (bit x) = refl
+names-postfix r (name x) = append-nil (r x)
+names-postfix r (sign x a) = each-append (itemRule r) (postfix a) (itemOf 4 x ∷ []) ∙ (append-nil (each (itemRule r) (postfix a)) ∙ names-postfix r a)
+names-postfix r (negate x a) = each-append (itemRule r) (postfix a) (itemOf 5 x ∷ []) ∙ (append-nil (each (itemRule r) (postfix a)) ∙ names-postfix r a)
+names-postfix r (binary x a b) =
+    let z : each (itemRule r) (binaryItem x ∷ []) ≡ [] = rw (ne-eqb (x .kind + 7) 1 (λ e. omega arith)) in
+    each-append (itemRule r) (postfix a) (postfix b ++ (binaryItem x ∷ []))
+    ∙ (ap (λ (l : List ℕ). each (itemRule r) (postfix a) ++ l) (each-append (itemRule r) (postfix b) (binaryItem x ∷ []) ∙ (ap (λ (l : List ℕ). each (itemRule r) (postfix b) ++ l) z
+    ∙ append-nil (each (itemRule r) (postfix b))))
+    ∙ (ap (λ (l : List ℕ). l ++ each (itemRule r) (postfix b)) (names-postfix r a) ∙ ap (λ (l : List ℕ). ofNames r a ++ l) (names-postfix r b)))
+names-postfix r (parens a) = names-postfix r a
+
+names-entry : (r : Token → List ℕ) (s : Stmt) → each (itemRule r) (stmtEntry s .items) ≡ ofReads r s
+unfolding stmtEntry ofReads each
+names-entry r (output x e) = names-postfix r e
+names-entry r (assign x e) = names-postfix r e
+names-entry r null = refl
+names-entry r (wait x) = refl
+names-entry r (if-then i e a) = names-postfix r e
+names-entry r (if-else i e a b) = names-postfix r e
+names-entry r (while w e a) = names-postfix r e
+
+items-each : (g : Item → List ℕ) (es : List Entry) → each g (entryItems es) ≡ each (λ (e : Entry). each g (e .items)) es
+unfolding each entryItems
+items-each g [] = refl
+items-each g (e ∷ es) = each-append g (e .items) (entryItems es) ∙ ap (λ (l : List ℕ). each g (e .items) ++ l) (items-each g es)
+
+-- an item that is a name has a name for its token
+abbrev pub NamedItem : ℕ → Token → Type 0
+NamedItem c x = c ≡ 1 → x .kind ≡ NAME
+
+abbrev IsNamed : Item → Type 0
+IsNamed i = NamedItem (i .code) (i .token)
+
+named-postfix : (e : Expr) → KindedExpr e → Each IsNamed (postfix e)
+unfolding postfix
+named-postfix (number x) k = (λ z. absurd (omega arith), tt)
+named-postfix (bit x) k = (λ z. absurd (omega arith), tt)
+named-postfix (name x) k = (λ z. k, tt)
+named-postfix (sign x a) k = all-append IsNamed (postfix a) (itemOf 4 x ∷ []) (named-postfix a (k .1)) (λ z. absurd (omega arith), tt)
+named-postfix (negate x a) k = all-append IsNamed (postfix a) (itemOf 5 x ∷ []) (named-postfix a (k .1)) (λ z. absurd (omega arith), tt)
+named-postfix (binary x a b) k =
+    all-append IsNamed (postfix a) (postfix b ++ (binaryItem x ∷ [])) (named-postfix a (k .1))
+    (all-append IsNamed (postfix b) (binaryItem x ∷ []) (named-postfix b (k .2)) (λ z. absurd (omega arith), tt))
+named-postfix (parens a) k = named-postfix a k
+
+named-entry : (s : Stmt) → KindedStmt s → Each IsNamed (stmtEntry s .items)
+unfolding stmtEntry
+named-entry (output x e) k = named-postfix e (k .1)
+named-entry (assign x e) k = named-postfix e (k .1)
+named-entry null k = tt
+named-entry (wait x) k = tt
+named-entry (if-then i e a) k = named-postfix e (k .1)
+named-entry (if-else i e a b) k = named-postfix e (k .1)
+named-entry (while w e a) k = named-postfix e (k .1)
+
+all-items : (l : List Stmt) → Each KindedStmt l → Each IsNamed (entryItems (map stmtEntry l))
+unfolding entryItems
+all-items [] p = tt
+all-items (s ∷ l) p = all-append IsNamed (stmtEntry s .items) (entryItems (map stmtEntry l)) (named-entry s (p .0)) (all-items l (p .1))
+
+items-list : (ts : List Token) (codes indices : List ℕ) (j c : ℕ) → listFrom (λ (i : ℕ). itemOf (getD codes i 0) (tokenAt ts (getD indices i 0))) j c
+    ≡ map (itemAtIndex ts) (placedFrom codes indices j c)
+unfolding listFrom placedFrom
+items-list ts codes indices j zero = refl
+items-list ts codes indices j (suc c) = ap (λ (l : List Item). itemOf (getD codes j 0) (tokenAt ts (getD indices j 0)) ∷ l) (items-list ts codes indices (j + 1) c)
+
+-- a rule for the names in the expressions, over the items
+pub items-lowest : (ts : List Token) (b : Body) (codes indices : List ℕ) (k : ℕ) → ItemsIn ts (entryItems (bodyEntries b)) codes indices k → KindedBody b
+    → (r : Token → List ℕ) (f : ℕ → ℕ) → ((j : ℕ) → NamedItem (getD codes j 0) (tokenAt ts (getD indices j 0)) → f j ≡ lowestOf (ofItem r (getD codes j 0) (tokenAt ts (getD indices j 0))))
+    → lowestFrom f 0 k ≡ lowestOf (each (ofReads r) (statements b))
+unfolding itemRule
+items-lowest ts b codes indices k i q r f h =
+    list-lowest (λ (j : ℕ). itemOf (getD codes j 0) (tokenAt ts (getD indices j 0))) (itemRule r) IsNamed f h 0 k
+    (subst (λ (l : List Item). Each IsNamed l) (sym items) (all-items (statements b) (kinded-statements b q)))
+    ∙ ap lowestOf (ap (each (itemRule r)) items ∙ (items-each (itemRule r) (map stmtEntry (statements b))
+    ∙ (each-map stmtEntry (λ (e : Entry). each (itemRule r) (e .items)) (statements b)
+    ∙ each-same (λ (s : Stmt). each (itemRule r) (stmtEntry s .items)) (ofReads r) (names-entry r) (statements b))))
+  where
+    items : listFrom (λ (j : ℕ). itemOf (getD codes j 0) (tokenAt ts (getD indices j 0))) 0 k ≡ entryItems (map stmtEntry (statements b))
+    items = items-list ts codes indices 0 k ∙ (i .are ∙ ap entryItems (entries-are b))

@@ -1,0 +1,4 @@
+pub mod Loops
+pub mod Bodies
+pub mod Found
+pub mod Tokens
