@@ -1,2 +1,3 @@
 pub mod Elaborated
 pub mod Positions
+pub mod Sources

@@ -1,0 +1,34 @@
+-- What the elaborator's arrays must hold besides those of the stages: sizes and bytes of tokens, and names' indices. Assumes nothing.
+use mathlib.Core.Path.{_≡_}
+use mathlib.Core.Bool.{true, false}
+use mathlib.Core.Option.{Option, some}
+use mathlib.Core.List.{List}
+use Prim.Native.Nat.{ℕ, _≤_, _<_}
+use lib.ListN.{getD}
+use Rattle.grammar.specs.Token.{Token, NAME, NUMBER}
+use Rattle.language.specs.Declarations.{Decl, Scope, find, isOutput, isVariable, isClock, isData}
+use Rattle.language.specs.Elaboration.{position}
+use Rattle.lexer.specs.TokenValues.{Valued}
+use Rattle.cursor.specs.Tokens.{tokenAt}
+use Rattle.expressions.specs.Postfix.{Item}
+use Rattle.syntax.specs.Kinded.{IsBit}
+use Rattle.elaborator.specs.Positions.{slotAt}
+
+-- the array holds the tokens' sizes, and each token's value is that of its bytes
+pub record SourceIn (text : List ℕ) (ts : List Token) (sizes : List ℕ) (n : ℕ) : Type 0 where
+  pub size : (i : ℕ) → i < n → getD sizes i 0 ≡ tokenAt ts i .size
+  pub valued : (i : ℕ) → i < n → Valued text (tokenAt ts i)
+
+-- the array holds, for each declaration, its index among the data inputs, the outputs or the variables; c is the clock's name
+pub record SlotsIn (Δ : List Decl) (Γ : Scope) (c : Option Token) (slots : List ℕ) : Type 0 where
+  pub input : (v : ℕ) (e : Decl) → find Δ v ≡ some e → isData c e ≡ true → slotAt slots (position Δ v) ≡ position (Γ .inputs) v
+  pub output : (v : ℕ) (e : Decl) → find Δ v ≡ some e → isOutput (e .mode) ≡ true → slotAt slots (position Δ v) ≡ position (Γ .outputs) v
+  pub variable : (v : ℕ) (e : Decl) → find Δ v ≡ some e → isVariable (e .mode) ≡ true → slotAt slots (position Δ v) ≡ position (Γ .variables) v
+
+-- an item of an accepted text: a name that is not the clock's, a number within the limit, '0' or '1', or an operator
+pub record Fine (c : Option Token) (i : Item) : Type 0 where
+  pub name : i .code ≡ 1 → i .token .kind ≡ NAME
+  pub unclocked : i .code ≡ 1 → isClock c (i .token .value) ≡ false
+  pub number : i .code ≡ 2 → i .token .kind ≡ NUMBER
+  pub small : i .code ≡ 2 → i .token .value ≤ 2147483647
+  pub bit : i .code ≡ 3 → IsBit (i .token)
