@@ -3,3 +3,4 @@ pub mod ItemLaws
 pub mod ItemLoop
 pub mod RowLoop
 pub mod ItemHeld
+pub mod TreeFine

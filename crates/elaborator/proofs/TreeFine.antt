@@ -1,0 +1,146 @@
+-- The items of an accepted tree: names that are not the clock's, numbers within the limit. Assumes nothing.
+use mathlib.Core.Path.{_≡_, refl, sym, _∙_, subst}
+use mathlib.Core.Bool.{Bool, true, false, not}
+use mathlib.Core.Option.{Option, none, some}
+use mathlib.Core.List.{List, [], _∷_, _++_}
+use Prim.Native.Nat.{ℕ, _+_, _≤_}
+use native.Mathlib.Omega.{arith}
+use lib.Dec.{eqb}
+use Rattle.grammar.specs.Token.{Token}
+use Rattle.grammar.specs.Tree as T
+use Rattle.grammar.specs.Tree.{Body}
+use Rattle.grammar.specs.Limits.{Each, exprNumbers, exprsNumbers, stmtExprs, bodyExprs}
+use Rattle.language.specs.Lists.{each, unless}
+use Rattle.language.specs.Declarations.{within, statements, isClock}
+use Rattle.language.specs.Clock.{readsIn, readsOf}
+use Rattle.language.proofs.Facts.{both-nil, each-nil, unless-nil, not-true}
+use Rattle.language.proofs.WellTyped.{each-split, each-join}
+use Rattle.expressions.specs.Postfix.{Item, itemOf, binaryItem, postfix}
+use Rattle.statements.specs.Entries.{Entry, stmtEntries, bodyEntries, entryItems}
+use Rattle.statements.proofs.Lines.{entry-items-append}
+use Rattle.syntax.specs.Kinded.{KindedExpr, KindedStmt, KindedBody}
+use Rattle.elaborator.specs.Sources.{Fine}
+
+-- where there is no clock no name is its; else no name in the expression is
+abbrev pub Unread : Option Token → T.Expr → Type 0
+Unread none e = Unit {0}
+Unread (some w) e = readsIn (w .value) e ≡ []
+
+abbrev pub UnreadAll : Option Token → List T.Stmt → Type 0
+UnreadAll none l = Unit {0}
+UnreadAll (some w) l = each (readsOf (w .value)) l ≡ []
+
+abbrev pub Small : List Token → Type 0
+Small l = Each (λ (x : Token). x .value ≤ 2147483647) l
+
+unread-name : (c : Option Token) (x : Token) → Unread c (T.name x) → isClock c (x .value) ≡ false
+unfolding isClock readsIn
+unread-name none x h = refl
+unread-name (some w) x h = not-true _ (unless-nil (not (eqb (x .value) (w .value))) (x .place) h)
+
+unread-sign : (c : Option Token) (x : Token) (a : T.Expr) → Unread c (T.sign x a) → Unread c a
+unfolding readsIn
+unread-sign none x a h = tt
+unread-sign (some w) x a h = h
+
+unread-not : (c : Option Token) (x : Token) (a : T.Expr) → Unread c (T.negate x a) → Unread c a
+unfolding readsIn
+unread-not none x a h = tt
+unread-not (some w) x a h = h
+
+unread-parens : (c : Option Token) (a : T.Expr) → Unread c (T.parens a) → Unread c a
+unfolding readsIn
+unread-parens none a h = tt
+unread-parens (some w) a h = h
+
+unread-two : (c : Option Token) (x : Token) (a b : T.Expr) → Unread c (T.binary x a b) → Unread c a × Unread c b
+unfolding readsIn
+unread-two none x a b h = (tt, tt)
+unread-two (some w) x a b h = both-nil (readsIn (w .value) a) (readsIn (w .value) b) h
+
+unread-append : (c : Option Token) (a b : List T.Stmt) → UnreadAll c (a ++ b) → UnreadAll c a × UnreadAll c b
+unread-append none a b h = (tt, tt)
+unread-append (some w) a b h = each-nil (readsOf (w .value)) a b h
+
+-- a statement with the expression e, and those behind it
+unread-own : (c : Option Token) (s : T.Stmt) (e : T.Expr) (l : List T.Stmt) → ((w : ℕ) → readsOf w s ≡ readsIn w e) → UnreadAll c (s ∷ l) → Unread c e × UnreadAll c l
+unfolding each
+unread-own none s e l q h = (tt, tt)
+unread-own (some w) s e l q h = let r = both-nil (readsOf (w .value) s) (each (readsOf (w .value)) l) h in (sym (q (w .value)) ∙ r .0, r .1)
+
+exprs-append : (a b : List T.Expr) → Small (exprsNumbers (a ++ b)) → Small (exprsNumbers a) × Small (exprsNumbers b)
+unfolding exprsNumbers
+exprs-append [] b h = (tt, h)
+exprs-append (e ∷ a) b h =
+    let s = each-split (λ (x : Token). x .value ≤ 2147483647) (exprNumbers e) (exprsNumbers (a ++ b)) h in
+    let r = exprs-append a b (s .1) in
+    (each-join (λ (x : Token). x .value ≤ 2147483647) (exprNumbers e) (exprsNumbers a) (s .0) (r .0), r .1)
+
+exprs-first : (e : T.Expr) (l : List T.Expr) → Small (exprsNumbers (e ∷ l)) → Small (exprNumbers e) × Small (exprsNumbers l)
+unfolding exprsNumbers
+exprs-first e l h = each-split (λ (x : Token). x .value ≤ 2147483647) (exprNumbers e) (exprsNumbers l) h
+
+module _ (c : Option Token) where
+  operator-fine : (k : ℕ) (x : Token) → 4 ≤ k → Fine c (itemOf k x)
+  operator-fine k x h =
+      record {
+        name = λ e. absurd (omega arith);
+        unclocked = λ e. absurd (omega arith);
+        number = λ e. absurd (omega arith);
+        small = λ e. absurd (omega arith);
+        bit = λ e. absurd (omega arith);
+      }
+
+  expr-fine : (e : T.Expr) → KindedExpr e → Unread c e → Small (exprNumbers e) → Each (Fine c) (postfix e)
+  unfolding postfix exprNumbers
+  expr-fine (T.number x) k u s =
+      (record { name = λ e. absurd (omega arith); unclocked = λ e. absurd (omega arith); number = λ e. k; small = λ e. s .0; bit = λ e. absurd (omega arith) }, tt)
+  expr-fine (T.bit x) k u s =
+      (record { name = λ e. absurd (omega arith); unclocked = λ e. absurd (omega arith); number = λ e. absurd (omega arith); small = λ e. absurd (omega arith); bit = λ e. k }, tt)
+  expr-fine (T.name x) k u s =
+      (record { name = λ e. k; unclocked = λ e. unread-name c x u; number = λ e. absurd (omega arith); small = λ e. absurd (omega arith); bit = λ e. absurd (omega arith) }, tt)
+  expr-fine (T.sign x a) k u s = each-join (Fine c) (postfix a) (itemOf 4 x ∷ []) (expr-fine a (k .1) (unread-sign c x a u) s) (operator-fine 4 x (omega arith), tt)
+  expr-fine (T.negate x a) k u s = each-join (Fine c) (postfix a) (itemOf 5 x ∷ []) (expr-fine a (k .1) (unread-not c x a u) s) (operator-fine 5 x (omega arith), tt)
+  expr-fine (T.binary x a b) k u s =
+      let v = unread-two c x a b u in
+      let q = each-split (λ (x : Token). x .value ≤ 2147483647) (exprNumbers a) (exprNumbers b) s in
+      each-join (Fine c) (postfix a) (postfix b ++ (binaryItem x ∷ [])) (expr-fine a (k .1) (v .0) (q .0))
+      (each-join (Fine c) (postfix b) (binaryItem x ∷ []) (expr-fine b (k .2) (v .1) (q .1)) (operator-fine (x .kind + 7) x (omega arith), tt))
+  expr-fine (T.parens a) k u s = expr-fine a k (unread-parens c a u) s
+
+  items-two : (a b : List Entry) → Each (Fine c) (entryItems a) → Each (Fine c) (entryItems b) → Each (Fine c) (entryItems (a ++ b))
+  items-two a b h k = rw (entry-items-append a b) (each-join (Fine c) (entryItems a) (entryItems b) h k)
+
+  -- a statement's own expression, and what holds of the statements inside it
+  parts : (r : T.Stmt) (e : T.Expr) (l : List T.Stmt) (m : List T.Expr) → ((w : ℕ) → readsOf w r ≡ readsIn w e) → KindedExpr e → UnreadAll c (r ∷ l) → Small (exprsNumbers (e ∷ m))
+      → Each (Fine c) (postfix e) × (UnreadAll c l × Small (exprsNumbers m))
+  parts r e l m f k u s = let v = unread-own c r e l f u in let q = exprs-first e m s in (expr-fine e k (v .0) (q .0), (v .1, q .1))
+
+  mutual
+    unfolding stmtEntries entryItems stmtExprs within readsOf
+
+    stmt-fine : (s : T.Stmt) → KindedStmt s → UnreadAll c (within s) → Small (exprsNumbers (stmtExprs s)) → Each (Fine c) (entryItems (stmtEntries s))
+    stmt-fine (T.output x e) k u s = each-join (Fine c) (postfix e) [] (parts (T.output x e) e [] [] (λ w. refl) (k .1) u s .0) tt
+    stmt-fine (T.assign x e) k u s = each-join (Fine c) (postfix e) [] (parts (T.assign x e) e [] [] (λ w. refl) (k .1) u s .0) tt
+    stmt-fine T.null k u s = tt
+    stmt-fine (T.wait x) k u s = tt
+    stmt-fine (T.if-then i e a) k u s =
+        let p = parts (T.if-then i e a) e (statements a) (bodyExprs a) (λ w. refl) (k .1) u s in
+        each-join (Fine c) (postfix e) (entryItems (bodyEntries a)) (p .0) (body-fine a (k .2) (p .1 .0) (p .1 .1))
+    stmt-fine (T.if-else i e a b) k u s =
+        let p = parts (T.if-else i e a b) e (statements a ++ statements b) (bodyExprs a ++ bodyExprs b) (λ w. refl) (k .1) u s in
+        let v = unread-append c (statements a) (statements b) (p .1 .0) in
+        let q = exprs-append (bodyExprs a) (bodyExprs b) (p .1 .1) in
+        each-join (Fine c) (postfix e) (entryItems (bodyEntries a ++ bodyEntries b)) (p .0)
+        (items-two (bodyEntries a) (bodyEntries b) (body-fine a (k .2) (v .0) (q .0)) (body-fine b (k .3) (v .1) (q .1)))
+    stmt-fine (T.while w e a) k u s =
+        let p = parts (T.while w e a) e (statements a) (bodyExprs a) (λ w. refl) (k .1) u s in
+        each-join (Fine c) (postfix e) (entryItems (bodyEntries a)) (p .0) (body-fine a (k .2) (p .1 .0) (p .1 .1))
+
+    -- every item of a body
+    pub body-fine : (b : Body) → KindedBody b → UnreadAll c (statements b) → Small (exprsNumbers (bodyExprs b)) → Each (Fine c) (entryItems (bodyEntries b))
+    body-fine (T.only r) k u s = stmt-fine r k u s
+    body-fine (T.andThen r b) k u s =
+        let v = unread-append c (within r) (statements b) u in
+        let q = exprs-append (stmtExprs r) (bodyExprs b) s in
+        items-two (stmtEntries r) (bodyEntries b) (stmt-fine r (k .0) (v .0) (q .0)) (body-fine b (k .1) (v .1) (q .1))
