@@ -4,3 +4,4 @@ pub mod ItemLoop
 pub mod RowLoop
 pub mod ItemHeld
 pub mod TreeFine
+pub mod RowHeld
