@@ -5,3 +5,4 @@ pub mod RowLoop
 pub mod ItemHeld
 pub mod TreeFine
 pub mod RowHeld
+pub mod Whole
