@@ -1,18 +1,16 @@
 -- The first wait of a tree and the one that the rows have; its name is declared where refusal 5 finds no offence. Assumes nothing.
-use mathlib.Core.Path.{_≡_, refl, sym, _∙_, ap, subst}
-use mathlib.Core.Bool.{Bool, true, false}
+use mathlib.Core.Path.{_≡_, refl, sym, _∙_, ap}
+use mathlib.Core.Bool.{true}
 use mathlib.Core.Option.{Option, none, some}
-use mathlib.Core.List.{List, [], _∷_, _++_, map}
-use Prim.Native.Nat.{ℕ, zero, suc, _+_, _*_, _≤_, _<_}
+use mathlib.Core.List.{List, [], _∷_, map}
+use Prim.Native.Nat.{ℕ, zero, suc, _+_, _*_}
 use native.Mathlib.Omega.{arith}
 use borrow.Author.Tests.{eq-eqb, ne-eqb}
-use lib.Dec.{eqb}
 use lib.ListN.{length, getD}
 use Rattle.grammar.specs.Token.{Token, NAME}
 use Rattle.grammar.specs.Tree.{Stmt, output, assign, null, wait, if-then, if-else, while, Body}
 use Rattle.grammar.specs.Limits.{Each}
-use Rattle.grammar.specs.Reader.{choose}
-use Rattle.language.specs.Lists.{unless, each}
+use Rattle.language.specs.Lists.{each}
 use Rattle.language.specs.Declarations.{Decl, find, isA, statements, orElse, waitName, firstWait}
 use Rattle.language.specs.Names.{namesOf}
 use Rattle.language.proofs.Facts.{both-nil, unless-nil, clash}

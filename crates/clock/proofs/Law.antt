@@ -2,7 +2,7 @@
 use mathlib.Core.Path.{_≡_, refl, sym, _∙_, ap}
 use mathlib.Core.Bool.{Bool, true, false, cond, not, _&&_}
 use mathlib.Core.Option.{Option, none, some}
-use mathlib.Core.List.{List, [], _∷_, _++_}
+use mathlib.Core.List.{List, [], _++_}
 use Prim.Native.Nat.{ℕ, _+_, _*_, _≤_, _<_, min}
 use native.Mathlib.Omega.{arith}
 use borrow.Author.Tests.{lt-ltb, le-ltb, eqb-true}
@@ -13,7 +13,7 @@ use Rattle.grammar.specs.Tree.{Expr, number, bit, name, sign, negate, binary, p
 use Rattle.grammar.specs.Reader.{choose}
 use Rattle.design.specs.Types.{Ty, std-logic, integer}
 use Rattle.language.specs.Lists.{unless, each, lowest}
-use Rattle.language.specs.Declarations.{Decl, declared, find, isA, statements, isInput, isLogic, clockLike, clockOf, firstWait}
+use Rattle.language.specs.Declarations.{Decl, declared, find, isA, statements, isInput, isLogic, clockLike, clockOf}
 use Rattle.language.specs.Elaboration.{position}
 use Rattle.language.specs.Names.{names, differs, doubled, namesOf}
 use Rattle.language.specs.Clock as C
@@ -25,14 +25,14 @@ use Rattle.syntax.specs.Entries.{stmtEntry}
 use Rattle.syntax.specs.Headings.{modeCode, typeCode}
 use Rattle.syntax.specs.Lowest.{lowestOf, lower}
 use Rattle.syntax.specs.Lowest as L
-use Rattle.syntax.proofs.Lowest.{lower-none, lowest-append, lowest-unless, lowest-fine}
+use Rattle.syntax.proofs.Lowest.{lower-none, lowest-append, lowest-unless}
 use Rattle.offences.specs.Laid.{Laid}
-use Rattle.offences.specs.Positions.{lowestFrom, modeIn, typeIn}
+use Rattle.offences.specs.Positions.{lowestFrom}
 use Rattle.offences.proofs.Loops.{each-same}
 use Rattle.offences.proofs.Bodies.{NamedRow, NamedItem, ofNames, ofReads, ofItem, rows-lowest, items-lowest}
 use Rattle.offences.proofs.Found.{modeOf, typeOf, mode-found, type-found, same-owner}
 use Rattle.offences.proofs.Tokens.{kind-inside, place-is, owner-is, picked, passed}
-use Rattle.clock.specs.Positions.{waitFrom, waitIn, ownerIn, strayAt, readAt, isClockIn, straysIn, readsIn, judgeIn}
+use Rattle.clock.specs.Positions.{waitIn, ownerIn, strayAt, readAt, isClockIn, straysIn, readsIn, judgeIn}
 use Rattle.clock.specs.Judges.{ownerOf}
 use Rattle.clock.proofs.First.{First, nowhere, there, rows-first, Declared, by, wait-declared}
 

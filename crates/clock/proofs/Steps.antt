@@ -1,12 +1,10 @@
 -- The tests of the code are those of the definitions by position. Assumes nothing.
 use mathlib.Core.Path.{_≡_, refl, sym, _∙_, ap}
-use mathlib.Core.Bool.{Bool, true, false}
+use mathlib.Core.Bool.{true, false}
 use mathlib.Core.List.{List}
 use Prim.Native.Nat.{ℕ, _+_, _≤_, _<_}
-use native.Mathlib.Omega.{arith}
 use borrow.Author.Tests.{lt-ltb, le-ltb, eq-eqb, ne-eqb}
 use lib.Dec.{eqb, ltb}
-use Rattle.grammar.specs.Reader.{choose}
 use Rattle.language.specs.Lists.{unless}
 use Rattle.syntax.specs.Lowest.{lowestOf, lower}
 use Rattle.syntax.specs.Arrays.{numberIn}

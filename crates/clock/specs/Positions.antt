@@ -40,10 +40,11 @@ readAt codes indices places owners n o j =
 abbrev pub isClockIn : List ℕ → ℕ → ℕ → Bool
 isClockIn decls d o = choose (eqb (modeIn decls d o) 0) (eqb (typeIn decls d o) 0) false
 
--- the lowest place of a wait that differs, and of a read
+-- the lowest place of a wait that differs, of at most 512 statements
 abbrev pub straysIn : List ℕ → ℕ → List ℕ → List ℕ → ℕ → ℕ → ℕ
 straysIn rows s places owners n o = lowestFrom (strayAt rows places owners n o) 0 (min s 512)
 
+-- the lowest place of a read, of at most 16384 items
 abbrev pub readsIn : List ℕ → List ℕ → ℕ → List ℕ → List ℕ → ℕ → ℕ → ℕ
 readsIn codes indices k places owners n o = lowestFrom (readAt codes indices places owners n o) 0 (min k 16384)
 

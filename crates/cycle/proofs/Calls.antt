@@ -5,8 +5,8 @@ use native.Mathlib.Omega.{arith}
 use mathlib.Core.Path.{_≡_, refl, sym, ap, subst, _∙_}
 use mathlib.Core.Bool.{true, false}
 use mathlib.Core.Option.{Option, none, some}
-use mathlib.Core.List.{List, [], _∷_}
-use lib.ListN.{length, take}
+use mathlib.Core.List.{List, [], _∷_, _++_, append-nil}
+use lib.ListN.{length, take, drop, drop-of-length-le}
 use lib.IntN.{ℤ}
 use Rattle.answers.specs.declared.State.{State}
 use Rattle.answers.specs.declared.Cycled.the-variants.{Performed, NotPerformed}
@@ -43,6 +43,10 @@ pad-first n zero (z ∷ l) e h = absurd (omega arith)
 pad-first n (suc k) [] e h = absurd (omega arith)
 pad-first zero (suc k) (z ∷ l) e h = absurd (omega arith)
 pad-first (suc n) (suc k) (z ∷ l) e h = ap (λ (m : List ℤ). z ∷ m) (pad-first n k l (omega arith) (omega arith))
+
+-- a row that has no place for more than the outputs is written whole
+pub row-full : (o row u : List ℤ) → length o ≡ 16 → length row ≤ 16 → u ≡ take (length row) o ++ drop (length o) row → u ≡ take (length row) o
+row-full o row u e h q = q ∙ rw (drop-of-length-le row {i = length o} (omega arith), append-nil)
 
 module _ (s l c : List ℕ) (t : Table) (h : Checked s l c t) (x : State) (i o : List ℤ)
     (right : rowPlace (t .signature) i (length o) ≡ none) (ok : stateOk t x ≡ true) where

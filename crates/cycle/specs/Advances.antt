@@ -8,15 +8,20 @@ use lib.IntN.{ℤ}
 use lib.Dec.{eqb}
 use Rattle.answers.specs.declared.State.{State}
 use Rattle.answers.specs.declared.Refusal.{Refusal}
-use Rattle.answers.specs.declared.Refusal.the-variants.{BadRow, BadState, OutOfRange}
+use Rattle.answers.specs.declared.Refusal.the-variants.{BadSections, BadSignature, BadLine, BadRow, BadState, OutOfRange}
 use Rattle.answers.specs.declared.Cycled.{Cycled}
 use Rattle.answers.specs.declared.Cycled.the-variants.{Performed, NotPerformed}
 use Rattle.format.specs.Cycle.{Answer, performed, not-performed, Called}
 use Rattle.cycle.specs.declared.Advanced.{Advanced}
 
--- the refusal with that number and place, of 14, 15 and 16
+-- the refusal with that number and place, of those that a cycle can meet: 11 to 16
 abbrev pub refusalFor : ℕ → ℕ → Refusal
-refusalFor q k = cond (eqb q 14) (BadRow k) (cond (eqb q 15) BadState (OutOfRange k))
+refusalFor q k =
+    cond (eqb q 11) BadSections
+    (cond (eqb q 12) BadSignature
+    (cond (eqb q 13) (BadLine k)
+    (cond (eqb q 14) (BadRow k)
+    (cond (eqb q 15) BadState (OutOfRange k)))))
 
 -- "answers the number of lines performed": the length of the way; or the refusal
 abbrev pub cycledOf : Answer → Cycled

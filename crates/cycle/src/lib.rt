@@ -10,7 +10,7 @@ ghost use Rattle.format.specs.State.{placeOk};
 ghost use Rattle.answers.specs.declared.Cycled.the-variants.{Performed, NotPerformed};
 ghost use Rattle.format.specs.Cycle.{rowPlace, rowOf};
 ghost use Rattle.format.specs.State.{stateOk};
-ghost use Rattle.cycle.specs.Advances.{Advances};
+ghost use Rattle.cycle.specs.Advances.{cycledOf, Advances};
 ghost use Rattle.cycle.specs.Ran.{Checked, went, ranFor};
 use answers::Cycled;
 use answers::Refusal;
@@ -74,7 +74,7 @@ fn refused(s: State, r: Refusal) -> Advanced
     }
 }
 
-// A performed cycle: the wait reached, the slots, the output row. The two tests hold for no opened image.
+// A performed cycle: the wait reached, the slots, the output row. No line of an opened image is that high.
 fn performed(
     s: State,
     p: u32,
@@ -86,9 +86,6 @@ fn performed(
     ensures { λ a. ⌜ (p < 65536 → length (now (row .entry)) ≤ 16
         → (a ≡ record { state = record { place = p; outputs = outputs; variables = variables }; answer = Performed n }) × (now (row .exit) ≡ take (length (now (row .entry))) outputs)) ⌝ }
 {
-    if 16 < row.len() {
-        return refused(s, Refusal::BadState);
-    }
     if 65535 < p {
         return refused(s, Refusal::BadState);
     }
@@ -117,8 +114,10 @@ fn run(
         → rowPlace (t .signature) (now (inputs .entry)) (length (now (row .entry))) ≡ none → stateOk t s ≡ true
         → Advances (rowOf t s (now (inputs .entry)) (now (row .entry))) a (now (row .exit))) ⌝ }
 {
-    let mut outputs = s.outputs;
-    let mut variables = s.variables;
+    let outputs_before = s.outputs;
+    let variables_before = s.variables;
+    let mut outputs = outputs_before;
+    let mut variables = variables_before;
     let f = follow_from(
         signature,
         lines,
@@ -130,7 +129,10 @@ fn run(
     );
     match f {
         Followed::Reached(p, n) => performed(s, p, n, outputs, variables, row),
-        Followed::Stopped(_, x) => refused(s, Refusal::OutOfRange(x as usize)),
+        Followed::Stopped(_, x) => {
+            let at = x as usize;
+            refused(s, Refusal::OutOfRange(at))
+        }
         Followed::Spent => refused(s, Refusal::BadState),
     }
 }
@@ -165,7 +167,9 @@ pub fn advance(
     row: &mut [i32],
 ) -> Advanced
     ensures { λ a. ⌜ ((t : Table) → Checked (now (signature .entry)) (now (lines .entry)) (now (code .entry)) t
-        → Advances (rowOf t s (now (inputs .entry)) (now (row .entry))) a (now (row .exit))) ⌝ }
+        → (a .answer ≡ cycledOf (rowOf t s (now (inputs .entry)) (now (row .entry)) .answer))
+        × (a .state ≡ rowOf t s (now (inputs .entry)) (now (row .entry)) .state)
+        × (now (row .exit) ≡ rowOf t s (now (inputs .entry)) (now (row .entry)) .row)) ⌝ }
 {
     let check = table::rows::row_place(signature, inputs, row.len());
     match check {

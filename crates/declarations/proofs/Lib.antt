@@ -1,2 +1,7 @@
 pub mod Steps
 pub mod NameLists
+pub mod Values
+pub mod Picks
+pub mod RowLists
+pub mod Groups
+pub mod GroupLists

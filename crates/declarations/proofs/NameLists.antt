@@ -1,28 +1,28 @@
 -- Names with commas, as a loop: its invariant, and its returns. Assumes nothing.
-use mathlib.Core.Path.{_≡_, refl, sym, _∙_, ap, subst}
+use mathlib.Core.Path.{_≡_, refl, sym, _∙_, ap}
 use mathlib.Core.Bool.{Bool, true, false}
+use mathlib.Core.Logic.{inl, inr}
 use mathlib.Core.List.{List, [], _∷_, _++_, append-assoc, append-nil}
 use Prim.Native.Nat.{ℕ, zero, suc, _+_, _-_, _*_, _≤_, _<_}
 use native.Mathlib.Omega.{arith}
-use native.Mathlib.Nat.{add-zero}
+use native.Mathlib.Numerals.{add-one}
 use borrow.Author.Tests.{ne-eqb, eqb-true, eqb-false}
-use lib.Dec.{T, eqb}
-use lib.ListN.{length, List·getD-eq-default}
-use native.Mathlib.Decide.{decLt}
+use lib.Dec.{eqb}
 use Rattle.grammar.specs.Token.{Token, NAME, COMMA}
 use Rattle.grammar.specs.Grammar.{NonTerminal, names, moreNames, Says, declares, Sym, tk, nt, tok, Fun, Production, productions, _↠_}
-use Rattle.grammar.specs.Derivation.{_∈_, here, there}
-use Rattle.grammar.specs.Reader.{choose, compose, elem, first, firsts, follow, nullable, nullables, chosen, pick, take, no-rule}
+use Rattle.grammar.specs.Derivation.{here}
+use Rattle.grammar.specs.Reader.{compose, elem, first, firsts, follow, nullable, nullables, chosen, pick, take, no-rule}
 use Rattle.grammar.proofs.Steps.{Ok, ok-rule}
-use Rattle.grammar.proofs.Tables.{inside-ok, pick-rule}
-use Rattle.cursor.specs.declared.Pos.{Pos}
-use Rattle.cursor.specs.Tokens.{tokenAt, noToken, kindIn, flagIn, Holds}
+use Rattle.grammar.proofs.Tables.{inside-ok}
+use Rattle.cursor.specs.Tokens.{tokenAt, kindIn, flagIn, Holds}
 use Rattle.cursor.proofs.Measures.{turn-falls}
-use Rattle.cursor.proofs.Steps.{kind-is, kind-inside, from-stays, rule-at, left-at, refused-at, token-not}
+use Rattle.cursor.proofs.Steps.{kind-is, kind-inside, from-stays, rule-at, left-at}
 use Rattle.declarations.specs.declared.Head.{Head}
-use Rattle.declarations.specs.Heads.{headingOf, cursorOf, fromHead, refuseHead, nameAt, takeAt, takeName, followsAt, namesFrom, AsksHead, MovesHead}
-use Rattle.declarations.specs.Readers.{NamesRead, NamesOver}
-use Rattle.declarations.proofs.Steps.{asks-head, moves-head, stay-head, took-one, took-moves, took-plain, named, Named, name-moves}
+use Rattle.declarations.specs.Heads.{headingOf, cursorOf, fromHead, nameAt, takeAt, takeName, followsAt, namesFrom, AsksHead, MovesHead, Grown}
+use Rattle.declarations.specs.Readers.{NamesOver}
+use Rattle.declarations.proofs.Steps.{asks-head, moves-head, stay-head, took-one, took-moves, took-plain, named, Named, name-moves, grown-then, grown-none}
+use Rattle.declarations.proofs.Picks.{Begins}
+use Rattle.declarations.proofs.Values.{into-token, took-kept, follows-false}
 
 abbrev namesRule : Production names
 namesRule = tk declares NAME ∷ nt moreNames ∷ [] ↠ λ n ns. n ∷ ns
@@ -46,29 +46,20 @@ ok-names : (γ : List Sym) → Ok (nt names ∷ γ) → Ok (nt moreNames ∷ γ)
 unfolding productions
 ok-names γ o = ok-rule names (tk declares NAME ∷ nt moreNames ∷ []) γ (inside-ok {r = namesRule} here) o
 
-inside-name : (ts : List Token) (at : ℕ) → tokenAt ts at .kind ≡ NAME → at < length ts
-inside-name ts at e = elim (decLt at (length ts)) [
-  | yes i ↦ i
-  | no i ↦ absurd (let z : 0 ≡ 1 = sym (ap (λ (y : Token). y .kind) (List·getD-eq-default ts noToken {n = at} (omega arith))) ∙ e in omega arith)
-]
-
 -- names begin with a name, or not at all
 into-names : (ts : List Token) (S : NonTerminal) (b : Bool) (p : Head) (γ : List Sym) (κ : List Token → Fun γ (Says S)) → fromHead ts S b p (nt names ∷ γ) κ ≡ fromHead ts S b p (tk declares NAME ∷ nt moreNames ∷ γ) (λ x ns. κ (x ∷ ns))
 unfolding compose
-into-names ts S b p γ κ = go (eqb (p .fault) 0) refl (eqb (tokenAt ts (p .at) .kind) NAME) refl
+into-names ts S b p γ κ = into-token ts S b p names declares NAME (nt moreNames ∷ []) (λ x ns. x ∷ ns) γ κ (omega arith) (begins (eqb k NAME) refl)
   where
-    δ : List Sym
-    δ = nt moreNames ∷ γ
+    k : ℕ
+    k = tokenAt ts (p .at) .kind
 
-    go : (w : Bool) → eqb (p .fault) 0 ≡ w → (u : Bool) → eqb (tokenAt ts (p .at) .kind) NAME ≡ u → fromHead ts S b p (nt names ∷ γ) κ ≡ fromHead ts S b p (tk declares NAME ∷ nt moreNames ∷ γ) (λ x ns. κ (x ∷ ns))
-    go false w u eu = from-stays ts S 0 1 0 1 (headingOf b p) (headingOf b p) (cursorOf p) (cursorOf p) 0 0 (nt names ∷ γ) (tk declares NAME ∷ δ) κ (λ x ns. κ (x ∷ ns)) (eqb-false (p .fault) 0 w) refl refl
-    go true w false eu =
-        let f = eqb-false (tokenAt ts (p .at) .kind) NAME eu in
-        refused-at ts S 0 1 (headingOf b p) (cursorOf p) 0 names γ (tk declares NAME ∷ δ) κ (λ x ns. κ (x ∷ ns)) 0 1 0 (headingOf b p) (no-names (tokenAt ts (p .at) .kind) f) (eqb-true (p .fault) 0 w)
-        ∙ sym (token-not ts S 0 1 (headingOf b p) (cursorOf p) 0 declares NAME δ (tk declares NAME ∷ δ) (λ x ns. κ (x ∷ ns)) (λ x ns. κ (x ∷ ns)) 0 1 0 (headingOf b p) f (eqb-true (p .fault) 0 w))
-    go true w true eu =
-        let e = eqb-true (tokenAt ts (p .at) .kind) NAME eu in
-        rule-at ts S 0 1 (headingOf b p) (cursorOf p) 0 names γ κ namesRule (pick-names (tokenAt ts (p .at) .kind) e) (inside-name ts (p .at) e)
+    begins : (u : Bool) → eqb (tokenAt ts (p .at) .kind) NAME ≡ u → Begins names declares NAME (nt moreNames ∷ []) (λ x ns. x ∷ ns) (tokenAt ts (p .at) .kind)
+    begins true u = inl (eqb-true k NAME u, pick-names k (eqb-true k NAME u))
+    begins false u = inr (eqb-false k NAME u, no-names k (eqb-false k NAME u))
+
+one-add : {c : ℕ} → 1 + c ≡ suc c
+one-add {c} = omega arith
 
 names-snoc : (ts : List Token) (f c : ℕ) → namesFrom ts f (suc c) ≡ namesFrom ts f c ++ (tokenAt ts (f + 2 * c) ∷ [])
 unfolding namesFrom
@@ -82,6 +73,7 @@ pub record NamesOn (ts : List Token) (b : Bool) (p r : Head) : Type 0 where
   pub goes : (S : NonTerminal) (γ : List Sym) (φ : List Token → Fun γ (Says S)) → Ok (nt moreNames ∷ γ) → fromHead ts S b p (nt moreNames ∷ γ) φ ≡ fromHead ts S b r (nt moreNames ∷ γ) (λ ns. φ (grow ns))
   pub are : r .fault ≡ 0 → (ns : List Token) → grow ns ≡ namesFrom ts (p .at + 1) count ++ ns
   pub end : r .fault ≡ 0 → r .at ≡ p .at + 2 * count
+  pub grown : r .fault ≡ 0 → Grown b p r count
 
 pub record NamesOnOver (kinds long : List ℕ) (n : ℕ) (p : Head) (b : Bool) (r : Head) : Type 0 where
   pub moves : MovesHead n p r
@@ -89,7 +81,7 @@ pub record NamesOnOver (kinds long : List ℕ) (n : ℕ) (p : Head) (b : Bool) (
 
 pub names-none : {kinds long : List ℕ} {n : ℕ} {p : Head} {b : Bool} → AsksHead n p → NamesOnOver kinds long n p b p
 unfolding namesFrom
-names-none a = record { moves = stay-head a; reads = λ ts holds. record { grow = λ ns. ns; count = 0; goes = λ S γ φ o. refl; are = λ z ns. refl; end = λ z. omega arith } }
+names-none {p = p} {b} a = record { moves = stay-head a; reads = λ ts holds. record { grow = λ ns. ns; count = 0; goes = λ S γ φ o. refl; are = λ z ns. refl; end = λ z. omega arith; grown = λ z. grown-none b p } }
 
 -- a comma and a name more
 pub names-again : {kinds long : List ℕ} {n : ℕ} {p a c r : Head} {b : Bool} → AsksHead n p → NamesOnOver kinds long n p b a → kindIn kinds n (a .at) ≡ 9 → a .fault ≡ 0 → c ≡ takeAt kinds long n 9 a
@@ -116,6 +108,7 @@ names-again {kinds} {long} {n} {p} {a} {c} {r} {b} asks u e z ec er = record {
             ∙ (sym (append-assoc (namesFrom ts (p .at + 1) (x .count)) (tokenAt ts (p .at + 1 + 2 * x .count) ∷ []) ns)
             ∙ ap (λ (l : List Token). l ++ ns) (sym (names-snoc ts (p .at + 1) (x .count)))));
         end = λ w. let zc = nm .moves .began w in let g = one zc in let h = x .end z in let k = nm .one w in omega arith;
+        grown = λ w. let g = grown-then b (x .count) 1 (taken (x .grown z)) (nm .grown w) in rw add-one at g;
       };
 }
   where
@@ -131,21 +124,11 @@ names-again {kinds} {long} {n} {p} {a} {c} {r} {b} asks u e z ec er = record {
     c-asks : AsksHead n c
     c-asks = asks-head a-asks tc
 
-    nm : Named n c r
+    nm : Named n b c r
     nm = name-moves kinds long b c-asks er
 
--- the test of the loop
-pub follows-true : (f k j : ℕ) → followsAt f k j ≡ true → (f ≡ 0) × (k ≡ j)
-unfolding followsAt
-follows-true f k j e = go (eqb f 0) refl e
-  where
-    go : (a : Bool) → eqb f 0 ≡ a → choose a (eqb k j) false ≡ true → (f ≡ 0) × (k ≡ j)
-    go true u z = (eqb-true f 0 u, eqb-true k j z)
-    go false u z = absurd (let y : _≡_ {A = ℕ} 0 1 = cc in omega arith)
-
-follows-false : (f k j : ℕ) → followsAt f k j ≡ false → f ≡ 0 → k ≡ j → ⊥
-unfolding followsAt
-follows-false f k j e z w = eqb-false k j (rw z at e) w
+    taken : {d : ℕ} → Grown b p a d → Grown b p c d
+    taken g = let k = took-kept kinds long 9 (omega arith) a-asks ec in record { waiting = omega arith; inputs = omega arith; outputs = omega arith; vars = omega arith }
 
 -- the names end where no comma stands, or where the reader has refused
 names-end : {ts : List Token} {kinds long : List ℕ} {n : ℕ} (holds : Holds ts kinds long n) (r : Head) → followsAt (r .fault) (kindIn kinds n (r .at)) 9 ≡ false → (S : NonTerminal) (b : Bool) (γ : List Sym) (φ : List Token → Fun γ (Says S)) → Ok (nt moreNames ∷ γ)
@@ -178,6 +161,7 @@ names-read {kinds} {long} {n} {p} {a} {r} {b} asks ea u e =
                 let at : a .at + 1 ≡ p .at + 2 = (let g = nm .one (u .moves .began z) in omega arith) in
                 ap (λ (l : List Token). tokenAt ts (p .at) ∷ l) (x .are z [] ∙ (append-nil (namesFrom ts (a .at + 1) (x .count)) ∙ ap (λ (k : ℕ). namesFrom ts k (x .count)) at));
             end = λ z. let g = nm .one (u .moves .began z) in let h = x .end z in omega arith;
+            grown = λ z. let g = grown-then b 1 (x .count) (nm .grown (u .moves .began z)) (x .grown z) in rw one-add at g;
           };
     }
 

@@ -1,25 +1,24 @@
 -- The laws of a reader of the heading: a token, a declared name, and names with commas as a loop. Assumes nothing.
 use mathlib.Core.Path.{_≡_, refl, sym, _∙_, ap, subst}
 use mathlib.Core.Bool.{Bool, true, false, _||_}
-use mathlib.Core.List.{List, [], _∷_, _++_, append-assoc, append-nil}
-use Prim.Native.Nat.{ℕ, zero, suc, _+_, _-_, _*_, _≤_, _<_}
+use mathlib.Core.List.{List, _∷_}
+use Prim.Native.Nat.{ℕ, suc, _+_, _-_, _<_}
 use native.Mathlib.Omega.{arith}
 use native.Mathlib.Numerals.{add-one}
-use native.Mathlib.Nat.{add-zero}
-use borrow.Author.Tests.{eq-eqb, ne-eqb, le-ltb, lt-ltb, leb-true, leb-false, eqb-true, eqb-false}
+use borrow.Author.Tests.{le-ltb, lt-ltb, leb-true, leb-false, eqb-true, eqb-false}
 use lib.Dec.{eqb, leb, ltb}
 use lib.ListN.{length}
-use Rattle.grammar.specs.Token.{Token, NAME, COMMA}
-use Rattle.grammar.specs.Grammar.{NonTerminal, Says, plain, declares, Sym, tk, nt, Fun}
-use Rattle.grammar.specs.Meter.{InHeading, Meter, tick, over, zeroes}
+use Rattle.grammar.specs.Token.{Token, NAME}
+use Rattle.grammar.specs.Grammar.{NonTerminal, Says, plain, declares, Sym, tk, Fun}
+use Rattle.grammar.specs.Meter.{tick, over, zeroes}
 use Rattle.grammar.specs.Reader.{choose}
 use Rattle.cursor.specs.declared.Pos.{Pos}
 use Rattle.cursor.specs.Tokens.{tokenAt, alone, kindIn, flagIn, Holds}
-use Rattle.cursor.specs.Reading.{meter, from, Fine, Asks, Moves, refuse, step, expectAt}
+use Rattle.cursor.specs.Reading.{meter, Fine, Moves, refuse, step, expectAt}
 use Rattle.cursor.proofs.Measures.{three, or-true}
-use Rattle.cursor.proofs.Steps.{settle, kind-is, kind-inside, from-stays, from-same, expect-at, expect-moves, token-not, token-over, token-taken, over-plain}
+use Rattle.cursor.proofs.Steps.{kind-is, kind-inside, from-stays, from-same, expect-at, expect-moves, token-not, token-over, token-taken, over-plain}
 use Rattle.declarations.specs.declared.Head.{Head}
-use Rattle.declarations.specs.Heads.{headingOf, cursorOf, headAt, fromHead, refuseHead, declareAt, nameAt, takeAt, AsksHead, MovesHead}
+use Rattle.declarations.specs.Heads.{headingOf, cursorOf, headAt, fromHead, refuseHead, declareAt, nameAt, takeAt, AsksHead, MovesHead, Grown}
 
 pub fine : {n : ℕ} {p : Head} (b : Bool) → AsksHead n p → Fine 0 (headingOf b p)
 fine b a = record { statements = omega arith; inputs = a .inputs; outputs = a .outputs; vars = a .vars }
@@ -125,19 +124,28 @@ named {ts} {kinds} {long} {n} holds {p} {r} b a e S γ κ = go (eqb (p .fault) 0
             (over-variable a x ∙ rw (sym (holds .flag (p .at) (inside eu)) ∙ ev, le-ltb 32 (suc (p .vars)) (let g = leb-false 32 (p .vars) q in omega arith))) (rw add-one) (eqb-true (p .fault) 0 w) refl)
 
 -- how a declared name moves
-pub record Named (n : ℕ) (p r : Head) : Type 0 where
+pub record Named (n : ℕ) (b : Bool) (p r : Head) : Type 0 where
   pub moves : MovesHead n p r
   pub one : r .fault ≡ 0 → r .at ≡ p .at + 1
+  pub grown : r .fault ≡ 0 → Grown b p r 1
 
-pub name-moves : (kinds long : List ℕ) {n : ℕ} {p r : Head} (b : Bool) → AsksHead n p → r ≡ nameAt (eqb (kindIn kinds n (p .at)) 1) (flagIn long (p .at)) b p → Named n p r
+pub grown-then : {p a r : Head} (b : Bool) (c d : ℕ) → Grown b p a c → Grown b a r d → Grown b p r (c + d)
+grown-then true c d u v = record { waiting = omega arith; inputs = omega arith; outputs = omega arith; vars = omega arith }
+grown-then false c d u v = record { waiting = omega arith; inputs = omega arith; outputs = omega arith; vars = omega arith }
+
+pub grown-none : (b : Bool) (p : Head) → Grown b p p 0
+grown-none true p = record { waiting = omega arith; inputs = refl; outputs = refl; vars = omega arith }
+grown-none false p = record { waiting = omega arith; inputs = refl; outputs = refl; vars = omega arith }
+
+pub name-moves : (kinds long : List ℕ) {n : ℕ} {p r : Head} (b : Bool) → AsksHead n p → r ≡ nameAt (eqb (kindIn kinds n (p .at)) 1) (flagIn long (p .at)) b p → Named n b p r
 unfolding nameAt
 name-moves kinds long {n} {p} {r} b a e = go (eqb (p .fault) 0) refl (eqb (kindIn kinds n (p .at)) 1) refl (flagIn long (p .at)) b e
   where
-    Is : Head → Type 0
-    Is v = Named n p v
+    Is : Bool → Head → Type 0
+    Is c v = Named n c p v
 
-    halt : (k : ℕ) → (k ≡ 0 → ⊥) → p .fault ≡ 0 → Named n p (refuseHead k p)
-    halt k f z = record { moves = record { on = omega arith; inside = omega arith; waiting = omega arith; inputs = omega arith; outputs = omega arith; vars = omega arith; began = λ w. z }; one = λ w. absurd (f w) }
+    halt : (c : Bool) (k : ℕ) → (k ≡ 0 → ⊥) → p .fault ≡ 0 → Named n c p (refuseHead k p)
+    halt c k f z = record { moves = record { on = omega arith; inside = omega arith; waiting = omega arith; inputs = omega arith; outputs = omega arith; vars = omega arith; began = λ w. z }; one = λ w. absurd (f w); grown = λ w. absurd (f w) }
 
     four : _≡_ {A = ℕ} 4 0 → ⊥
     four z = omega arith
@@ -145,18 +153,18 @@ name-moves kinds long {n} {p} {r} b a e = go (eqb (p .fault) 0) refl (eqb (kindI
     three0 : _≡_ {A = ℕ} 3 0 → ⊥
     three0 z = omega arith
 
-    go : (w : Bool) → eqb (p .fault) 0 ≡ w → (u : Bool) → eqb (kindIn kinds n (p .at)) 1 ≡ u → (v c : Bool) → r ≡ choose w (choose u (choose v (refuseHead 4 p) (declareAt c p)) (refuseHead 3 p)) p → Named n p r
-    go false w u eu v c z = subst Is (sym z) (record { moves = stay-head a; one = λ y. absurd (eqb-false (p .fault) 0 w y) })
-    go true w false eu v c z = subst Is (sym z) (halt 3 three0 (eqb-true (p .fault) 0 w))
-    go true w true eu true c z = subst Is (sym z) (halt 4 four (eqb-true (p .fault) 0 w))
+    go : (w : Bool) → eqb (p .fault) 0 ≡ w → (u : Bool) → eqb (kindIn kinds n (p .at)) 1 ≡ u → (v c : Bool) → r ≡ choose w (choose u (choose v (refuseHead 4 p) (declareAt c p)) (refuseHead 3 p)) p → Named n c p r
+    go false w u eu v c z = subst (Is c) (sym z) (record { moves = stay-head a; one = λ y. absurd (eqb-false (p .fault) 0 w y); grown = λ y. absurd (eqb-false (p .fault) 0 w y) })
+    go true w false eu v c z = subst (Is c) (sym z) (halt c 3 three0 (eqb-true (p .fault) 0 w))
+    go true w true eu true c z = subst (Is c) (sym z) (halt c 4 four (eqb-true (p .fault) 0 w))
     go true w true eu false false z =
         let i = kind-inside kinds n (p .at) 1 (eqb-true (kindIn kinds n (p .at)) 1 eu) (omega arith) in
-        subst Is (sym z) (record { moves = record { on = omega arith; inside = omega arith; waiting = omega arith; inputs = omega arith; outputs = omega arith; vars = omega arith; began = λ y. y }; one = λ y. refl })
+        subst (Is false) (sym z) (record { moves = record { on = omega arith; inside = omega arith; waiting = omega arith; inputs = omega arith; outputs = omega arith; vars = omega arith; began = λ y. y }; one = λ y. refl; grown = λ y. record { waiting = refl; inputs = refl; outputs = refl; vars = omega arith } })
     go true w true eu false true z = last (leb 32 (p .vars)) refl z
       where
-        last : (y : Bool) → leb 32 (p .vars) ≡ y → r ≡ choose y (refuseHead 4 p) (record { fault = p .fault; at = p .at + 1; waiting = p .waiting; inputs = p .inputs; outputs = p .outputs; vars = p .vars + 1 }) → Named n p r
-        last true q t = subst Is (sym t) (halt 4 four (eqb-true (p .fault) 0 w))
+        last : (y : Bool) → leb 32 (p .vars) ≡ y → r ≡ choose y (refuseHead 4 p) (record { fault = p .fault; at = p .at + 1; waiting = p .waiting; inputs = p .inputs; outputs = p .outputs; vars = p .vars + 1 }) → Named n true p r
+        last true q t = subst (Is true) (sym t) (halt true 4 four (eqb-true (p .fault) 0 w))
         last false q t =
             let i = kind-inside kinds n (p .at) 1 (eqb-true (kindIn kinds n (p .at)) 1 eu) (omega arith) in
             let g = leb-false 32 (p .vars) q in
-            subst Is (sym t) (record { moves = record { on = omega arith; inside = omega arith; waiting = omega arith; inputs = omega arith; outputs = omega arith; vars = omega arith; began = λ y. y }; one = λ y. refl })
+            subst (Is true) (sym t) (record { moves = record { on = omega arith; inside = omega arith; waiting = omega arith; inputs = omega arith; outputs = omega arith; vars = omega arith; began = λ y. y }; one = λ y. refl; grown = λ y. record { waiting = omega arith; inputs = refl; outputs = refl; vars = refl } })

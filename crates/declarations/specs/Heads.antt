@@ -2,8 +2,8 @@
 use mathlib.Core.Path.{_≡_}
 use mathlib.Core.Bool.{Bool, true, false}
 use mathlib.Core.List.{List, [], _∷_}
-use Prim.Native.Nat.{ℕ, zero, suc, _+_, _≤_, _<_}
-use lib.Dec.{eqb, leb}
+use Prim.Native.Nat.{ℕ, zero, suc, _+_, _≤_}
+use lib.Dec.{eqb, leb, ltb}
 use Rattle.grammar.specs.Token.{Token}
 use Rattle.grammar.specs.Grammar.{NonTerminal, Says, Sym, Fun}
 use Rattle.grammar.specs.Meter.{InHeading}
@@ -17,6 +17,7 @@ use Rattle.declarations.specs.declared.Head.{Head}
 abbrev pub headingOf : Bool → Head → InHeading
 headingOf b p = record { waiting = p .waiting; inputs = p .inputs; outputs = p .outputs; vars = p .vars; are-vars = b }
 
+-- the cursor of a place in the heading
 abbrev pub cursorOf : Head → Pos
 cursorOf p = record { fault = p .fault; at = p .at; items = 0; n = 0 }
 
@@ -45,6 +46,7 @@ nameAt has long b p = choose (eqb (p .fault) 0) (choose has (choose long (refuse
 abbrev pub takeAt : List ℕ → List ℕ → ℕ → ℕ → Head → Head
 takeAt kinds long n k p = headAt (expectAt (eqb (kindIn kinds n (p .at)) k) (flagIn long (p .at)) (cursorOf p)) p
 
+-- where a declared name was taken
 abbrev pub takeName : List ℕ → List ℕ → ℕ → Bool → Head → Head
 takeName kinds long n b p = nameAt (eqb (kindIn kinds n (p .at)) 1) (flagIn long (p .at)) b p
 
@@ -52,7 +54,43 @@ takeName kinds long n b p = nameAt (eqb (kindIn kinds n (p .at)) 1) (flagIn long
 unfoldable pub followsAt : ℕ → ℕ → ℕ → Bool
 followsAt fault k j = choose (eqb fault 0) (eqb k j) false
 
--- what a reader of the heading asks of where it stands, and how it moves
+-- the word `variable` is taken: the names that come now are variables, and none waits for a mode
+abbrev pub variableAt : List ℕ → List ℕ → ℕ → Head → Head
+variableAt kinds long n p = record { fault = takeAt kinds long n 33 p .fault; at = takeAt kinds long n 33 p .at; waiting = 0; inputs = p .inputs; outputs = p .outputs; vars = p .vars }
+
+-- `in`: the names that waited for their mode are inputs, "17 in ports"
+abbrev pub inputsAt : Head → Head
+inputsAt p = choose (ltb 17 (p .inputs + p .waiting)) (refuseHead 4 p) (record { fault = p .fault; at = p .at + 1; waiting = 0; inputs = p .inputs + p .waiting; outputs = p .outputs; vars = p .vars })
+
+-- `out`: they are outputs, "16 out"
+abbrev pub outputsAt : Head → Head
+outputsAt p = choose (ltb 16 (p .outputs + p .waiting)) (refuseHead 4 p) (record { fault = p .fault; at = p .at + 1; waiting = 0; inputs = p .inputs; outputs = p .outputs + p .waiting; vars = p .vars })
+
+-- "`in` or `out`": k is the kind of the token that stands there
+unfoldable pub modeAt : ℕ → Head → Head
+modeAt k p = choose (eqb (p .fault) 0) (choose (eqb k 31) (inputsAt p) (choose (eqb k 32) (outputsAt p) (refuseHead 3 p))) p
+
+-- the kind that a type word must have where a token of kind k stands: std_logic, or else integer
+abbrev pub typeKind : ℕ → ℕ
+typeKind k = choose (eqb k 42) 42 43
+
+-- the kind that a literal must have where a token of kind k stands: '0' or '1', or else a number
+abbrev pub literalKind : ℕ → ℕ
+literalKind k = choose (eqb k 3) 3 (choose (eqb k 4) 4 2)
+
+-- "An initial value is a literal; a number may have -."
+unfoldable pub valueAt : List ℕ → List ℕ → ℕ → Head → Head
+valueAt kinds long n p = choose (eqb (kindIn kinds n (p .at)) 12) (takeAt kinds long n 2 (takeAt kinds long n 12 p)) (takeAt kinds long n (literalKind (kindIn kinds n (p .at))) p)
+
+-- "perhaps := and an initial value"
+unfoldable pub initAt : List ℕ → List ℕ → ℕ → Head → Head
+initAt kinds long n p = choose (followsAt (p .fault) (kindIn kinds n (p .at)) 10) (valueAt kinds long n (takeAt kinds long n 10 p)) p
+
+-- a type, and perhaps an initial value
+unfoldable pub tailAt : List ℕ → List ℕ → ℕ → Head → Head
+tailAt kinds long n p = initAt kinds long n (takeAt kinds long n (typeKind (kindIn kinds n (p .at))) p)
+
+-- what a reader of the heading asks of where it stands
 pub record AsksHead (n : ℕ) (p : Head) : Type 0 where
   pub short : n ≤ 16384
   pub inside : p .at ≤ n
@@ -61,6 +99,7 @@ pub record AsksHead (n : ℕ) (p : Head) : Type 0 where
   pub outputs : p .outputs ≤ 16
   pub vars : p .vars ≤ 32
 
+-- how it moves: on, within the tokens and the limits; and what was refused stays so
 pub record MovesHead (n : ℕ) (p r : Head) : Type 0 where
   pub on : p .at ≤ r .at
   pub inside : r .at ≤ n
@@ -69,6 +108,13 @@ pub record MovesHead (n : ℕ) (p r : Head) : Type 0 where
   pub outputs : r .outputs ≤ 16
   pub vars : r .vars ≤ 32
   pub began : r .fault ≡ 0 → p .fault ≡ 0
+
+-- c names more are declared: variables, or ports whose mode is still to come
+pub record Grown (b : Bool) (p r : Head) (c : ℕ) : Type 0 where
+  pub waiting : r .waiting ≡ p .waiting + choose b 0 c
+  pub inputs : r .inputs ≡ p .inputs
+  pub outputs : r .outputs ≡ p .outputs
+  pub vars : r .vars ≡ p .vars + choose b c 0
 
 -- "names with commas": the tokens from an index on, every second one
 unfoldable pub namesFrom : List Token → ℕ → ℕ → List Token

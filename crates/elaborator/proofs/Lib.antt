@@ -6,3 +6,7 @@ pub mod ItemHeld
 pub mod TreeFine
 pub mod RowHeld
 pub mod Whole
+pub mod NameLaws
+pub mod NameLawsLaid
+pub mod NameLawsHeld
+pub mod NameLawsDesign

@@ -1,3 +1,4 @@
 pub mod Elaborated
 pub mod Positions
+pub mod Names
 pub mod Sources

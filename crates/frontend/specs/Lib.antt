@@ -1,1 +1,4 @@
 pub mod Answered
+pub mod Stages
+pub mod Designs
+pub mod Fronts

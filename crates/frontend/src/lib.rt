@@ -1,1 +1,223 @@
-// All stages of the front end in table order.
+// All stages of the front end in table order: a text to the arrays of its design, or its refusal.
+ghost use mathlib.Core.Path.{_≡_};
+ghost use mathlib.Core.List.{List};
+ghost use Prim.Native.Nat.{ℕ};
+ghost use lib.ListN.{length};
+ghost use Rattle.grammar.specs.Token.{Token};
+ghost use Rattle.grammar.specs.Tree.{Text};
+ghost use Rattle.grammar.specs.Reader.{answer};
+ghost use Rattle.language.specs.Rules.{table};
+ghost use Rattle.language.specs.Verdict.{ruled, verdict};
+ghost use Rattle.language.specs.Verdict.{parsed as parsedAs};
+ghost use Rattle.cursor.specs.Tokens.{Holds};
+ghost use Rattle.syntax.specs.Arrays.{TokensIn};
+ghost use Rattle.scope.specs.Resolves.{WordsIn};
+ghost use Rattle.frontend.specs.Answered.{refusalOf, placeIn};
+ghost use Rattle.frontend.specs.Designs.{Sized};
+ghost use Rattle.frontend.specs.Fronts.{TreeIn, FrontAs};
+
+pub mod layout;
+mod rules;
+
+use answers::Refusal;
+use layout::Counts;
+use lexer::Lexed;
+use parser::Parsed;
+use parser::Parsing;
+use rules::Ruling;
+
+// A text that is accepted, with the counts of its design; or its refusal.
+pub enum Front {
+    Accepted(Counts),
+    Refused(Refusal),
+}
+
+// The place of a token, or the text's length where there is no such token.
+fn place_of(starts: &[u16; 16384], n: usize, length: usize, i: usize) -> usize
+    ensures { λ r. ⌜ r ≡ placeIn (now (starts .entry)) n length i ⌝ }
+{
+    if i < n {
+        return syntax::place_at(starts, n, i) as usize;
+    }
+    length
+}
+
+// Refusal 3 or 4.
+fn unread(number: u8, place: usize) -> Refusal
+    ensures { λ r. ⌜ ((number ≡ 3) → r ≡ refusalOf 3 place) × ((number ≡ 4) → r ≡ refusalOf 4 place) ⌝ }
+{
+    if number == 3 {
+        return Refusal::NoSentence(place);
+    }
+    Refusal::LimitPassed(place)
+}
+
+// The rules 5 to 9 on a parsed text, then its design.
+fn ruled_text(
+    text: &[u8],
+    kinds: &[u8; 16384],
+    starts: &[u16; 16384],
+    sizes: &[u16; 16384],
+    n: usize,
+    p: Parsed,
+    codes: &[u8; 16384],
+    indices: &[u16; 16384],
+    rows: &[u16; 3072],
+    decls: &[u16; 390],
+    ops: &mut [u8; 16384],
+    args: &mut [i32; 16384],
+    lines: &mut [u16; 3072],
+    input_types: &mut [u8; 32],
+    output_types: &mut [u8; 32],
+    variable_types: &mut [u8; 32],
+    output_values: &mut [i32; 32],
+    variable_values: &mut [i32; 32],
+) -> Front
+    ensures { λ r. ⌜ (Sized (now (ops .entry)) (now (args .entry)) (now (lines .entry)) (now («input_types» .entry)) (now («output_types» .entry)) (now («variable_types» .entry)) (now («output_values» .entry)) (now («variable_values» .entry))
+        → (ts : List Token) (t : Text) → TreeIn (now (text .entry)) ts t (now (kinds .entry)) (now (starts .entry)) (now (sizes .entry)) n p (now (codes .entry)) (now (indices .entry)) (now (rows .entry)) (now (decls .entry))
+        → FrontAs (ruled table t) r (now (ops .exit)) (now (args .exit)) (now (lines .exit)) (now («input_types» .exit)) (now («output_types» .exit)) (now («variable_types» .exit)) (now («output_values» .exit)) (now («variable_values» .exit))) ⌝ }
+{
+    let mut owners = [0u8; 16384];
+    scope::resolve(text, kinds, starts, sizes, n, decls, p.names, &mut owners);
+    let ruling = rules::judge(
+        text,
+        starts,
+        sizes,
+        n,
+        p,
+        codes,
+        indices,
+        rows,
+        decls,
+        &owners,
+    );
+    match ruling {
+        Ruling::Free => Front::Accepted(layout::lay_out(
+            text,
+            kinds,
+            starts,
+            sizes,
+            n,
+            p,
+            codes,
+            indices,
+            rows,
+            decls,
+            &owners,
+            ops,
+            args,
+            lines,
+            input_types,
+            output_types,
+            variable_types,
+            output_values,
+            variable_values,
+        )),
+        Ruling::Offended(r) => Front::Refused(r),
+    }
+}
+
+// Refusals 3 and 4 on a text of n tokens, then the rules.
+fn parsed_text(
+    text: &[u8],
+    kinds: &[u8; 16384],
+    starts: &[u16; 16384],
+    sizes: &[u16; 16384],
+    n: usize,
+    long: &[u8; 16384],
+    ops: &mut [u8; 16384],
+    args: &mut [i32; 16384],
+    lines: &mut [u16; 3072],
+    input_types: &mut [u8; 32],
+    output_types: &mut [u8; 32],
+    variable_types: &mut [u8; 32],
+    output_values: &mut [i32; 32],
+    variable_values: &mut [i32; 32],
+) -> Front
+    ensures { λ r. ⌜ (Sized (now (ops .entry)) (now (args .entry)) (now (lines .entry)) (now («input_types» .entry)) (now («output_types» .entry)) (now («variable_types» .entry)) (now («output_values» .entry)) (now («variable_values» .entry))
+        → (ts : List Token) → TokensIn ts (now (kinds .entry)) (now (starts .entry)) n → WordsIn (now (text .entry)) ts (now (sizes .entry)) n → Holds ts (now (kinds .entry)) (now (long .entry)) n
+        → FrontAs (parsedAs (length (now (text .entry))) ts (answer ts)) r (now (ops .exit)) (now (args .exit)) (now (lines .exit)) (now («input_types» .exit)) (now («output_types» .exit)) (now («variable_types» .exit)) (now («output_values» .exit)) (now («variable_values» .exit))) ⌝ }
+{
+    let mut codes = [0u8; 16384];
+    let mut indices = [0u16; 16384];
+    let mut rows = [0u16; 3072];
+    let mut decls = [0u16; 390];
+    let parsing = parser::parse(
+        kinds,
+        long,
+        n,
+        &mut codes,
+        &mut indices,
+        &mut rows,
+        &mut decls,
+    );
+    match parsing {
+        Parsing::Tree(p) => ruled_text(
+            text,
+            kinds,
+            starts,
+            sizes,
+            n,
+            p,
+            &codes,
+            &indices,
+            &rows,
+            &decls,
+            ops,
+            args,
+            lines,
+            input_types,
+            output_types,
+            variable_types,
+            output_values,
+            variable_values,
+        ),
+        Parsing::NotParsed(number, i) => {
+            Front::Refused(unread(number, place_of(starts, n, text.len(), i)))
+        }
+    }
+}
+
+// All stages on a text: refusals 1 to 9 in table order, or the arrays of its design.
+pub fn accept(
+    text: &[u8],
+    ops: &mut [u8; 16384],
+    args: &mut [i32; 16384],
+    lines: &mut [u16; 3072],
+    input_types: &mut [u8; 32],
+    output_types: &mut [u8; 32],
+    variable_types: &mut [u8; 32],
+    output_values: &mut [i32; 32],
+    variable_values: &mut [i32; 32],
+) -> Front
+    ensures { λ r. ⌜ (Sized (now (ops .entry)) (now (args .entry)) (now (lines .entry)) (now («input_types» .entry)) (now («output_types» .entry)) (now («variable_types» .entry)) (now («output_values» .entry)) (now («variable_values» .entry))
+        → FrontAs (verdict (now (text .entry))) r (now (ops .exit)) (now (args .exit)) (now (lines .exit)) (now («input_types» .exit)) (now («output_types» .exit)) (now («variable_types» .exit)) (now («output_values» .exit)) (now («variable_values» .exit))) ⌝ }
+{
+    let mut kinds = [0u8; 16384];
+    let mut starts = [0u16; 16384];
+    let mut sizes = [0u16; 16384];
+    let lexed = lexer::lex(text, &mut kinds, &mut starts, &mut sizes);
+    match lexed {
+        Lexed::Tokens(n) => {
+            let mut long = [0u8; 16384];
+            limits::mark(text, &kinds, &starts, &sizes, n, &mut long);
+            parsed_text(
+                text,
+                &kinds,
+                &starts,
+                &sizes,
+                n,
+                &long,
+                ops,
+                args,
+                lines,
+                input_types,
+                output_types,
+                variable_types,
+                output_values,
+                variable_values,
+            )
+        }
+        Lexed::NotLexed(r) => Front::Refused(r),
+    }
+}

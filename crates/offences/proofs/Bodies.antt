@@ -1,7 +1,6 @@
 -- A rule over the statements of a body, or over the names in its expressions, and the same over the rows and the items of the arrays. Assumes nothing.
 use mathlib.Core.Path.{_≡_, refl, sym, _∙_, ap, subst}
-use mathlib.Core.Bool.{Bool, true, false}
-use mathlib.Core.List.{List, [], _∷_, _++_, map, map-append, append-assoc, append-nil}
+use mathlib.Core.List.{List, [], _∷_, _++_, map, map-append, append-nil}
 use Prim.Native.Nat.{ℕ, zero, suc, _+_, _*_, _<_}
 use native.Mathlib.Omega.{arith}
 use borrow.Author.Tests.{ne-eqb}
@@ -49,7 +48,7 @@ mutual
       ∙ (ap (λ (l : List Entry). map stmtEntry (within s) ++ l) (entries-are b) ∙ sym (map-append stmtEntry (within s) (statements b)))
 
 -- every statement of a body has tokens of the right kinds
-all-append : {A : Type 0} (P : A → Type 0) (a b : List A) → Each P a → Each P b → Each P (a ++ b)
+pub all-append : {A : Type 0} (P : A → Type 0) (a b : List A) → Each P a → Each P b → Each P (a ++ b)
 all-append P [] b p q = q
 all-append P (x ∷ a) b p q = (p .0, all-append P a b (p .1) q)
 

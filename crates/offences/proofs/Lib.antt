@@ -2,3 +2,4 @@ pub mod Loops
 pub mod Bodies
 pub mod Found
 pub mod Tokens
+pub mod Lowers

@@ -4,9 +4,8 @@ use mathlib.Core.List.{List, [], _∷_, map}
 use Prim.Native.Nat.{ℕ, zero, suc, _+_, _-_, _≤_, _<_}
 use native.Mathlib.Omega.{arith}
 use Rattle.grammar.specs.Limits.{Each}
-use Rattle.language.specs.Lists.{each}
+use Rattle.language.specs.Lists.{each, lowest}
 use Rattle.syntax.specs.Lowest.{lowestOf, lower, number}
-use Rattle.language.specs.Lists.{lowest}
 use Rattle.syntax.proofs.Lowest.{lower-none, lower-assoc, lowest-append}
 use Rattle.offences.specs.Positions.{lowestFrom}
 

@@ -1,4 +1,4 @@
-// What the stages of names and of the clock share: a name's declaration by its number, and the numbers under which it stands.
+// What the stages of names and of the clock share: the declaration that a name stands for, by its number, and its mode and type.
 ghost use mathlib.Core.Path.{_≡_};
 ghost use Prim.Native.Nat.{min};
 ghost use Rattle.syntax.specs.Arrays.{numberIn};
@@ -14,13 +14,14 @@ pub fn at_most(a: usize, b: usize) -> usize
     b
 }
 
-// A byte, or two, as a number.
+// A byte as an index.
 fn wide_byte(x: u8) -> usize
     ensures { λ r. ⌜ r ≡ x ⌝ }
 {
     x as usize
 }
 
+// A number of two bytes as an index.
 pub fn wide(x: u16) -> usize
     ensures { λ r. ⌜ r ≡ x ⌝ }
 {

@@ -4,11 +4,12 @@ use native.Mathlib.Numerals.{add-one}
 use native.Mathlib.Omega.{arith}
 use native.Mathlib.Decide.{decLt}
 use mathlib.Core.Path.{_≡_, refl, sym, ap, _∙_}
+use mathlib.Core.Logic.{_⊎_, inl, inr}
 use mathlib.Core.Bool.{true, false, cond, _&&_}
 use mathlib.Core.Option.{none, some}
 use mathlib.Core.List.{List, [], _∷_, _++_, append-assoc}
 use lib.ListN.{length, getD, take, drop, set, drop-of-length-le}
-use lib.Seq.{take-suc, take-suc-set, take-all, drop-cons, set-at}
+use lib.Seq.{length-take-le, take-suc, take-suc-set, take-all, drop-cons, set-at}
 use lib.IntN.{ℤ, pos}
 use lib.Dec.{ltb, leb, eqb}
 use borrow.Author.Tests.{lt-ltb, le-ltb, le-leb, lt-leb, eq-eqb, ne-eqb}
@@ -37,11 +38,30 @@ module _ (s : List ℕ) (l : List ℤ) (k : ℕ) where
 -- Elements written one after the other.
 
 -- one more element of a list written to a row
+pub written-more : (row o : List ℤ) (k : ℕ) (u : List ℤ) (v : ℤ) → k < length row → k < length o → u ≡ take k o ++ drop k row → v ≡ getD o k (pos 0)
+    → set u k v ≡ take (k + 1) o ++ drop (k + 1) row
+written-more row o k u v h j e f =
+    let n : length (take k o) ≡ k = length-take-le k o (omega arith) in
+    ap (λ l. set l k v) (e ∙ ap (λ l. take k o ++ l) (drop-cons row k (pos 0) h))
+    ∙ set-at (take k o) (getD row k (pos 0)) (drop (suc k) row) v k n
+    ∙ rw (add-one k, take-suc o k (pos 0) j, f) (sym (append-assoc (take k o) (getD o k (pos 0) ∷ []) (drop (suc k) row)))
+
+-- all elements written, or all that the row has places for
+pub written-whole : (row o : List ℤ) (k : ℕ) (u : List ℤ) → k ≤ length row → k ≤ length o → (length row ≤ k) ⊎ (length o ≤ k) → u ≡ take k o ++ drop k row
+    → u ≡ take (length row) o ++ drop (length o) row
+written-whole row o k u h j (inl m) e =
+    let p : k ≡ length row = omega arith in
+    e ∙ rw (p, drop-of-length-le row {i = length row} (omega arith), drop-of-length-le row {i = length o} (omega arith))
+written-whole row o k u h j (inr m) e =
+    let p : k ≡ length o = omega arith in
+    e ∙ rw (p, take-all (length o) o (omega arith), take-all (length row) o (omega arith))
+
+-- one more element of a list put into slots
 pub row-more : (row target : List ℤ) (k : ℕ) (v : ℤ) → k < length row → k < length target → take k row ≡ take k target → v ≡ getD target k (pos 0)
     → take (k + 1) (set row k v) ≡ take (k + 1) target
 row-more row target k v h j e f = rw add-one (take-suc-set row k v h ∙ rw (e, f) (sym (take-suc target k (pos 0) j)))
 
--- all elements written
+-- all slots filled
 pub row-whole : (row target : List ℤ) (n k : ℕ) → length row ≡ n → k ≤ n → length row ≤ k → take k row ≡ take k target → row ≡ take n target
 row-whole row target n k e l m h =
     let p : k ≡ n = omega arith in

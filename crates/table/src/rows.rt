@@ -1,8 +1,8 @@
 // The input row judged against the signature, and the output row.
 ghost use mathlib.Core.Path.{_≡_};
 ghost use mathlib.Core.Option.{some};
-ghost use Prim.Native.Nat.{_≤_};
-ghost use lib.ListN.{length, take};
+ghost use mathlib.Core.List.{_++_};
+ghost use lib.ListN.{length, take, drop};
 ghost use Rattle.format.specs.Signature.{Signature, signatureOf};
 ghost use Rattle.format.specs.Cycle.{rowPlace};
 ghost use Rattle.table.specs.Places.{wrongFrom};
@@ -39,13 +39,15 @@ pub fn row_place(signature: &[u8], inputs: &[i32], room: usize) -> RowCheck
     first_wrong(signature, inputs)
 }
 
-// The output row of a performed cycle: as many outputs as it has places for.
-pub fn write_row(outputs: &[i32; 16], row: &mut [i32])
-    requires { ⌜ (length (now outputs) ≡ 16) × (length (now row) ≤ 16) ⌝ }
-    ensures { λ _. ⌜ now (row .exit) ≡ take (length (now (row .entry))) (now (outputs .entry)) ⌝ }
+// Writes the outputs to a row, as many as both have; what the row has behind them stays.
+pub fn write_row(outputs: &[i32], row: &mut [i32])
+    ensures { λ _. ⌜ now (row .exit) ≡ take (length (now (row .entry))) (now (outputs .entry)) ++ drop (length (now (outputs .entry))) (now (row .entry)) ⌝ }
 {
     let mut k: usize = 0;
     while k < row.len() {
+        if outputs.len() <= k {
+            return;
+        }
         row[k] = outputs[k];
         k += 1;
     }

@@ -1,5 +1,5 @@
 -- `clock::first_wait` meets its contract. The invariant: the rest from here has the first wait where the whole has it. Assumes nothing.
-use mathlib.Core.Path.{_≡_, _∙_, ap}
+use mathlib.Core.Path.{_∙_, ap}
 use Prim.Native.Nat.{_-_}
 use Rattle.clock.specs.Positions.{waitFrom}
 use Rattle.clock.proofs.Waits.{Waiting, waiting-first, waiting-found, waiting-again, waiting-stop}

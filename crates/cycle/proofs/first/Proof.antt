@@ -1,3 +1,4 @@
+-- `cycle::first` meets its contract: all of a slice that is shorter, or the part from its beginning. Assumes nothing.
 use mathlib.Core.Path.{sym}
 use Prim.Native.Nat.{_≤_}
 use lib.ListN.{length}
@@ -6,26 +7,19 @@ use borrow.Author.Needs.{needs}
 use Rattle.cycle.proofs.Runs.{part-first}
 use Rattle.cycle.proofs.first.Statement.{statement}
 use Rattle.cycle.proofs.first.Tie as tie
-use Rattle.cycle.proofs.first.Reads as reads
-use Rattle.cycle.proofs.first.Lts as lts
 
--- src/lib.rt:15:9
 returns : tie.Need-returns
 returns c = let h : length (c .before .args .s .now) ≤ c .before .args .n = search needs in sym (take-all (c .before .args .n) (c .before .args .s .now) h)
 
--- src/lib.rt:17:5
 sub-result : tie.Need-sub-result
 sub-result c = search needs
 
--- src/lib.rt:17:5
 part-result-start : tie.Need-part-result-start
 part-result-start c = search needs
 
--- src/lib.rt:17:5
 part-result-end : tie.Need-part-result-end
 part-result-end c = search needs
 
--- src/lib.rt:11:1
 returns-2 : tie.Need-returns-2
 returns-2 c = part-first (c .before .before .args .s .now) (c .before .before .args .n)
 

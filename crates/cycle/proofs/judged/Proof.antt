@@ -1,35 +1,25 @@
+-- `cycle::judged` meets its contract: 15, or the cycle where the state is right. Assumes nothing.
 use mathlib.Core.Path.{sym, _∙_}
 use borrow.Author.Needs.{needs}
 use Rattle.cycle.proofs.Calls.{state-advances}
 use Rattle.cycle.proofs.judged.Statement.{statement}
 use Rattle.cycle.proofs.judged.Tie as tie
-use Rattle.cycle.proofs.judged.Reads as reads
-use Rattle.cycle.proofs.judged.Lts as lts
-use Rattle.cycle.proofs.refused.Reads as refused-reads
-use Rattle.cycle.proofs.run.Reads as run-reads
-use Rattle.table.proofs.states.state_ok.Reads as state-ok-reads
 
--- src/lib.rt:113:9
 state-ok-requires : tie.Need-state-ok-requires
 state-ok-requires c κs = search needs
 
--- src/lib.rt:115:9
 run-requires : tie.Need-run-requires
 run-requires c κs = search needs
 
--- src/lib.rt:115:9
 same-length : tie.Need-same-length
 same-length c = search needs
 
--- src/lib.rt:115:9
 returns : tie.Need-returns
 returns c t h right = c .before .run .ensures t h right (sym (c .before .before .before .before .state-ok .ensures t (c .before .before .before .before .before .before .before .before .args .code .now) (h .opens)) ∙ c .before .before .before .if1 .taken)
 
--- src/lib.rt:117:5
 refused-requires : tie.Need-refused-requires
 refused-requires c κs = search needs
 
--- src/lib.rt:108:1
 returns-2 : tie.Need-returns-2
 returns-2 c t h right =
     state-advances t (c .before .before .before .before .before .before .args .s) (c .before .before .before .before .before .before .args .inputs .now) (c .before .before .before .before .before .before .args .row .now) right (sym (c .before .before .state-ok .ensures t (c .before .before .before .before .before .before .args .code .now) (h .opens)) ∙ c .before .if1 .left) _ (c .refused .ensures)

@@ -1,16 +1,16 @@
 -- `declarations::declared` meets its contract: each return is an arm of `declareAt`. Assumes nothing.
-use mathlib.Core.Path.{refl, sym, _∙_, ap}
+use mathlib.Core.Path.{_∙_}
 use native.Mathlib.Omega.{arith}
 use borrow.Author.Needs.{needs}
-use borrow.Author.Tests.{eq-eqb, ne-eqb, le-leb, lt-leb, lt-ltb, le-ltb}
+use borrow.Author.Tests.{le-leb, lt-leb}
 use Rattle.declarations.proofs.declared.Statement.{statement}
 use Rattle.declarations.proofs.declared.Tie as tie
 
 returns : tie.Need-returns
-returns c = c .refuse .ensures ∙ rw (c .before .before .before .if1 .taken, le-leb 32 (c .before .before .before .before .args .p .vars) (c .before .if2 .taken))
+returns c = let g = c .before .if2 .taken in c .refuse .ensures ∙ rw (c .before .before .before .if1 .taken, le-leb 32 (c .before .before .before .before .args .p .vars) (omega arith))
 
 returns-2 : tie.Need-returns-2
-returns-2 c = rw (c .before .before .before .before .if1 .taken, lt-leb 32 (c .before .before .before .before .before .args .p .vars) (c .before .before .if2 .left))
+returns-2 c = let g = c .before .before .if2 .left in rw (c .before .before .before .before .if1 .taken, lt-leb 32 (c .before .before .before .before .before .args .p .vars) (omega arith))
 
 returns-3 : tie.Need-returns-3
 returns-3 c = rw (c .before .before .if1 .left)

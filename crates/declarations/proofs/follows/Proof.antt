@@ -1,8 +1,6 @@
 -- `declarations::follows` meets its contract: the tests are those of `followsAt`. Assumes nothing.
-use mathlib.Core.Path.{refl, sym, _∙_, ap}
-use native.Mathlib.Omega.{arith}
 use borrow.Author.Needs.{needs}
-use borrow.Author.Tests.{eq-eqb, ne-eqb, le-leb, lt-leb, lt-ltb, le-ltb}
+use borrow.Author.Tests.{eq-eqb, ne-eqb}
 use Rattle.declarations.specs.Heads.{followsAt}
 use Rattle.declarations.proofs.follows.Statement.{statement}
 use Rattle.declarations.proofs.follows.Tie as tie

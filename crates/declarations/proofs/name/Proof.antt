@@ -1,8 +1,8 @@
 -- `declarations::name` meets its contract: each return is an arm of `nameAt`. Assumes nothing.
-use mathlib.Core.Path.{refl, sym, _∙_, ap}
+use mathlib.Core.Path.{sym, _∙_}
 use native.Mathlib.Omega.{arith}
 use borrow.Author.Needs.{needs}
-use borrow.Author.Tests.{eq-eqb, ne-eqb, le-leb, lt-leb, lt-ltb, le-ltb}
+use borrow.Author.Tests.{eq-eqb, ne-eqb}
 use lib.Dec.{lit<}
 use Rattle.cursor.proofs.Steps.{kind-inside}
 use Rattle.cursor.specs.Tokens.{kindIn}

@@ -1,12 +1,12 @@
 -- `declarations::names` meets its contract: the loop's invariant is that the names have only grown; a turn gets further, or refuses. Assumes nothing.
-use mathlib.Core.Path.{refl, sym, _∙_, ap}
+use mathlib.Core.Path.{refl, sym, _∙_}
 use native.Mathlib.Omega.{arith}
 use borrow.Author.Needs.{needs}
-use borrow.Author.Tests.{eq-eqb, ne-eqb, le-leb, lt-leb, lt-ltb, le-ltb}
 use Prim.Native.Nat.{_+_, _-_}
 use Rattle.cursor.specs.Tokens.{kindIn}
 use Rattle.declarations.proofs.Steps.{asks-head, name-moves}
-use Rattle.declarations.proofs.NameLists.{NamesOnOver, names-none, names-again, names-read, names-falls, next-moves, follows-true}
+use Rattle.declarations.proofs.NameLists.{NamesOnOver, names-none, names-again, names-read, names-falls, next-moves}
+use Rattle.declarations.proofs.Values.{follows-true}
 use Rattle.declarations.proofs.names.Statement.{statement}
 use Rattle.declarations.proofs.names.Tie as tie
 

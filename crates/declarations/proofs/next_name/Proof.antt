@@ -1,8 +1,5 @@
 -- `declarations::next_name` meets its contract: a token, then a name. Assumes nothing.
-use mathlib.Core.Path.{refl, sym, _∙_, ap}
-use native.Mathlib.Omega.{arith}
-use borrow.Author.Needs.{needs}
-use borrow.Author.Tests.{eq-eqb, ne-eqb, le-leb, lt-leb, lt-ltb, le-ltb}
+use mathlib.Core.Path.{_∙_}
 use lib.Dec.{lit<}
 use Rattle.declarations.proofs.Steps.{asks-head, took-moves}
 use Rattle.declarations.proofs.next_name.Statement.{statement}

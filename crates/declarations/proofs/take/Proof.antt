@@ -1,8 +1,7 @@
 -- `declarations::take` meets its contract: the cursor's step, with the counts as they were. Assumes nothing.
-use mathlib.Core.Path.{refl, sym, _∙_, ap}
+use mathlib.Core.Path.{_∙_}
 use native.Mathlib.Omega.{arith}
 use borrow.Author.Needs.{needs}
-use borrow.Author.Tests.{eq-eqb, ne-eqb, le-leb, lt-leb, lt-ltb, le-ltb}
 use Rattle.declarations.proofs.take.Statement.{statement}
 use Rattle.declarations.proofs.take.Tie as tie
 

@@ -1,60 +1,71 @@
--- `table::rows::write_row` meets its contract. The loop's invariant: the first `k` elements of the row are the first `k` outputs. The measure is
--- what is left of the row. Assumes nothing.
+-- `table::rows::write_row` meets its contract. The loop's invariant: the first `k` outputs stand in front of what was there. The measure is what is
+-- left of the row. Assumes nothing.
 use Prim.Native.Nat.{_≤_, _<_, _-_}
 use mathlib.Core.Path.{_≡_, refl}
+use mathlib.Core.Logic.{inl, inr}
+use mathlib.Core.List.{_++_}
 use native.Mathlib.Omega.{arith}
 use borrow.Author.Needs.{needs}
-use lib.ListN.{length, take, getD, length-set}
+use lib.ListN.{length, take, drop, getD, length-set}
 use lib.IntN.{pos}
 use mir.Syntax.{w32}
 use mir.Val.{SFits}
 use mir.Facts.{toZ-ofZ}
-use Rattle.table.proofs.Steps.{row-more, row-whole}
+use Rattle.table.proofs.Steps.{written-more, written-whole}
 use Rattle.table.proofs.rows.write_row.Statement.{statement}
 use Rattle.table.proofs.rows.write_row.Tie as tie
 
 abbrev Inv-loop : tie.InvT-loop
-Inv-loop outputs row₀ k₀ row k = (length row ≡ length row₀) × (k ≤ length row₀) × (take k row ≡ take k outputs)
+Inv-loop outputs row₀ k₀ row k = (length row ≡ length row₀) × (k ≤ length row₀) × (k ≤ length outputs) × (row ≡ take k outputs ++ drop k row₀)
 
 abbrev μ-loop : tie.MeasureT-loop
 μ-loop outputs row₀ k₀ row k = length row₀ - k
 
 loop-holds : tie.Need-loop-holds Inv-loop μ-loop
-loop-holds c = (refl, search needs, refl)
+loop-holds c = (refl, search needs, search needs, refl)
+
+same-length : tie.Need-same-length Inv-loop μ-loop
+same-length c = c .before .before .loop .inv .0
+
+returns : tie.Need-returns Inv-loop μ-loop
+returns c =
+    let l = c .before .before .loop in
+    written-whole (c .before .before .before .args .row .now) (c .before .before .before .args .outputs .now) (l .k) _ (l .inv .1) (l .inv .2) (inr (c .if1 .taken)) (l .inv .3)
 
 mul-row : tie.Need-mul-row Inv-loop μ-loop
-mul-row c = omega arith
+mul-row c = search needs
 
-element-copy-out-row : tie.Need-element-copy-out-row Inv-loop μ-loop
-element-copy-out-row c = let p : c .before .loop .k < 16 = omega arith in p
+shared-slice-copy-out-row : tie.Need-shared-slice-copy-out-row Inv-loop μ-loop
+shared-slice-copy-out-row c = search needs
 
-mul-t9 : tie.Need-mul-t9 Inv-loop μ-loop
-mul-t9 c = omega arith
+mul-t8 : tie.Need-mul-t8 Inv-loop μ-loop
+mul-t8 c = search needs
 
 slice-set-from-row : tie.Need-slice-set-from-row Inv-loop μ-loop
-slice-set-from-row c = omega arith
+slice-set-from-row c = search needs
 
 add-k : tie.Need-add-k Inv-loop μ-loop
-add-k c = omega arith
+add-k c = search needs
 
 loop-less : tie.Need-loop-less Inv-loop μ-loop
 loop-less c = omega arith
 
 loop-again : tie.Need-loop-again Inv-loop μ-loop
 loop-again c =
-    let o = c .before .before .before .args .outputs .now in
-    let k = c .before .before .loop .k in
-    let l : length o ≡ 16 = c .before .before .before .pre .0 in
-    let h : k < length (c .before .before .loop .row) = c .before .loop-test .taken in
-    let j : k < length o = omega arith in
-    let fit : SFits w32 (getD o k (pos 0)) = search needs in
-    (simp length-set (c .before .before .loop .inv .0), omega arith, row-more _ _ _ _ h j (c .before .before .loop .inv .2) (toZ-ofZ fit))
+    let o = c .before .before .before .before .args .outputs .now in
+    let l = c .before .before .before .loop in
+    let h : l .k < length (c .before .before .before .before .args .row .now) = omega arith in
+    let j : l .k < length o = omega arith in
+    let fit : SFits w32 (getD o (l .k) (pos 0)) = search needs in
+    (simp length-set (l .inv .0), omega arith, omega arith, written-more (c .before .before .before .before .args .row .now) o (l .k) _ _ h j (l .inv .3) (toZ-ofZ fit))
 
-same-length : tie.Need-same-length Inv-loop μ-loop
-same-length c = c .before .loop .inv .0
+same-length-2 : tie.Need-same-length-2 Inv-loop μ-loop
+same-length-2 c = c .before .loop .inv .0
 
-returns : tie.Need-returns Inv-loop μ-loop
-returns c = row-whole _ _ _ _ (c .before .loop .inv .0) (c .before .loop .inv .1) (c .loop-test .left) (c .before .loop .inv .2)
+returns-2 : tie.Need-returns-2 Inv-loop μ-loop
+returns-2 c =
+    let l = c .before .loop in
+    written-whole (c .before .before .args .row .now) (c .before .before .args .outputs .now) (l .k) _ (l .inv .1) (l .inv .2) (inl (omega arith)) (l .inv .3)
 
 pub write-row-spec : {M : Type 1} → statement M
 write-row-spec =
@@ -63,12 +74,14 @@ write-row-spec =
     Inv-loop
     μ-loop
     loop-holds
+    same-length
+    returns
     mul-row
-    element-copy-out-row
-    mul-t9
+    shared-slice-copy-out-row
+    mul-t8
     slice-set-from-row
     add-k
     loop-less
     loop-again
-    same-length
-    returns)
+    same-length-2
+    returns-2)

@@ -1,0 +1,52 @@
+-- `elaborator::names::slots` meets its contract. The invariant: what is still to be written makes the array of the contract; the measure is how many
+-- declarations are left. Assumes nothing.
+use Prim.Native.Nat.{_-_}
+use Rattle.elaborator.proofs.NameLaws.{Slots, slots-first, slots-again, slots-end}
+use borrow.Author.Needs.{needs}
+use Rattle.elaborator.proofs.names.slots.Statement.{statement}
+use Rattle.elaborator.proofs.names.slots.Tie as tie
+
+abbrev Inv-loop : tie.InvT-loop
+Inv-loop decls d clock out₀ end j₀ out j = Slots decls d clock out₀ end out j
+
+abbrev μ-loop : tie.MeasureT-loop
+μ-loop decls d clock out₀ end j₀ out j = end - j
+
+at-most-requires : tie.Need-at-most-requires Inv-loop μ-loop
+at-most-requires c κs = search needs
+
+loop-holds : tie.Need-loop-holds Inv-loop μ-loop
+loop-holds c = slots-first _ _ _ _ (c .at-most .ensures)
+
+slot-of-requires : tie.Need-slot-of-requires Inv-loop μ-loop
+slot-of-requires c κs = search needs
+
+element-write-out : tie.Need-element-write-out Inv-loop μ-loop
+element-write-out c = search needs
+
+add-j : tie.Need-add-j Inv-loop μ-loop
+add-j c = search needs
+
+loop-less : tie.Need-loop-less Inv-loop μ-loop
+loop-less c = search needs
+
+loop-again : tie.Need-loop-again Inv-loop μ-loop
+loop-again c = slots-again _ _ _ _ (c .before .before .loop .inv) (c .before .loop-test .taken) (c .slot-of .ensures)
+
+returns : tie.Need-returns Inv-loop μ-loop
+returns c = slots-end _ _ _ _ (c .before .loop .inv) (c .loop-test .left)
+
+pub slots-spec : {M : Type 1} → statement M
+slots-spec =
+    tie.close
+    (tie.spec
+    Inv-loop
+    μ-loop
+    at-most-requires
+    loop-holds
+    slot-of-requires
+    element-write-out
+    add-j
+    loop-less
+    loop-again
+    returns)

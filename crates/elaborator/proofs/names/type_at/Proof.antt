@@ -1,0 +1,18 @@
+-- `elaborator::names::type_at` meets its contract: its test is that of `typeAt`. Assumes nothing.
+use mathlib.Core.Path.{sym}
+use borrow.Author.Tests.{eq-eqb, ne-eqb}
+use borrow.Author.Needs.{needs}
+use Rattle.elaborator.proofs.names.type_at.Statement.{statement}
+use Rattle.elaborator.proofs.names.type_at.Tie as tie
+
+field-at-requires : tie.Need-field-at-requires
+field-at-requires c κs = search needs
+
+returns : tie.Need-returns
+returns c = rw (sym (c .before .field-at .ensures), eq-eqb _ 1 (c .if1 .taken))
+
+returns-2 : tie.Need-returns-2
+returns-2 c = rw (sym (c .before .field-at .ensures), ne-eqb _ 1 (c .if1 .left))
+
+pub type-at-spec : {M : Type 1} → statement M
+type-at-spec = tie.close (tie.spec field-at-requires returns returns-2)

@@ -1,0 +1,251 @@
+-- From the parts of the front end to the verdict. Assumes nothing.
+use mathlib.Core.Path.{_≡_, refl, sym, _∙_, ap, subst}
+use mathlib.Core.Bool.{Bool, true, false, cond}
+use mathlib.Core.Option.{Option, none, some}
+use mathlib.Core.List.{List, [], _∷_, _++_}
+use Prim.Native.Nat.{ℕ, zero, suc, _≤_, _<_}
+use native.Mathlib.Omega.{arith}
+use lib.Dec.{leb, ltb}
+use lib.ListN.{length, getD}
+use lib.IntN.{ℤ}
+use borrow.Author.Tests.{ltb-true, ltb-false, lt-ltb, le-ltb, le-leb, lt-leb}
+use Rattle.answers.specs.declared.Refusal.{Refusal}
+use Rattle.answers.specs.declared.Refusal.the-variants.{TextTooLong, NoToken}
+use Rattle.grammar.specs.Token.{Token}
+use Rattle.grammar.specs.Tree.{Text}
+use Rattle.grammar.specs.Acceptance as P
+use Rattle.grammar.specs.Reader.{answer}
+use Rattle.grammar.proofs.Limits.{exactly-limits}
+use Rattle.design.specs.Process.{WellFormed}
+use Rattle.language.specs.Lists.{lowest}
+use Rattle.language.specs.Lexer.{lex, tokens, malformed}
+use Rattle.language.specs.Lexer as L
+use Rattle.language.specs.Rules.{Rule, table}
+use Rattle.language.specs.Validity as W
+use Rattle.language.specs.Validity.{placeOf}
+use Rattle.language.specs.Elaboration.{elaborate}
+use Rattle.language.specs.Verdict.{Verdict, accepted, refused, judged, ruled, parsed, lexed, verdict}
+use Rattle.language.proofs.Elaborated.{Clean}
+use Rattle.language.proofs.Judged.{clean}
+use Rattle.language.proofs.Modes.{moded}
+use Rattle.language.proofs.WellFormed.{well-formed}
+use Rattle.lexer.specs.declared.Lexed.{Lexed}
+use Rattle.lexer.specs.declared.Lexed.the-variants.{Tokens, NotLexed}
+use Rattle.lexer.specs.Tokens as X
+use Rattle.lexer.specs.Tokens.{counted}
+use Rattle.limits.specs.Flags.{marked}
+use Rattle.limits.proofs.Held.{tokens-held, sizes-held, values-held, flags-held}
+use Rattle.cursor.specs.Tokens.{tokenAt}
+use Rattle.cursor.specs.Tokens as C
+use Rattle.statements.specs.Rows.{output}
+use Rattle.expressions.specs.Written.{arrays}
+use Rattle.parser.specs.declared.Parsed.{Parsed}
+use Rattle.parser.specs.declared.Parsing.{Parsing}
+use Rattle.parser.specs.declared.Parsing.the-variants.{Tree, NotParsed}
+use Rattle.parser.specs.Answers.{lent, ReadAs, parsesAs, Parses}
+use Rattle.syntax.specs.Arrays.{numberIn, TokensIn}
+use Rattle.syntax.proofs.Kinded.{kinded}
+use Rattle.syntax.proofs.Stored.{rows-held, items-held}
+use Rattle.offences.specs.Laid.{Laid}
+use Rattle.scope.specs.Resolves.{WordsIn, Resolves}
+use Rattle.offences.proofs.Tokens.{number-inside, picked, passed}
+use Rattle.frontend.specs.declared.rules.Ruling.{Ruling}
+use Rattle.frontend.specs.declared.rules.Ruling.the-variants.{Free, Offended}
+use Rattle.frontend.specs.declared.Front.{Front}
+use Rattle.frontend.specs.declared.Front.the-variants.{Accepted, Refused}
+use Rattle.frontend.specs.declared.layout.Counts.{Counts}
+use Rattle.frontend.specs.Answered.{refusalOf, placeIn}
+use Rattle.frontend.specs.Stages.{ruledAs, Ruled}
+use Rattle.frontend.specs.Designs.{Holds, LaidOut}
+use Rattle.frontend.specs.Fronts.{TreeIn, FrontAs}
+use Rattle.frontend.proofs.Declared.{decls-held}
+
+-- THE RULES
+
+not-free : {A : Type 0} (x : Refusal) → Free ≡ Offended x → A
+not-free x e = absurd (let z : _≡_ {A = ℕ} 0 1 = cc in omega arith)
+
+lowest-none : (l : List ℕ) → lowest l ≡ none → l ≡ []
+unfolding lowest
+lowest-none [] e = refl
+lowest-none (p ∷ l) e = absurd (let z : _≡_ {A = ℕ} 0 1 = cc in omega arith)
+
+-- where the rules leave nothing, none is offended
+free-rules : (rs : List Rule) (t : Text) → Free ≡ ruledAs (ruled rs t) → W.Free rs t × (ruled rs t ≡ accepted (elaborate t))
+unfolding ruled judged
+free-rules [] t e = (tt, refl)
+free-rules (r ∷ rs) t e = go (lowest (r .offences t)) refl e (free-rules rs t)
+  where
+    go : (o : Option ℕ) → lowest (r .offences t) ≡ o → Free ≡ ruledAs (judged (r .number) o (ruled rs t)) → (Free ≡ ruledAs (ruled rs t) → W.Free rs t × (ruled rs t ≡ accepted (elaborate t)))
+        → ((r .offences t ≡ []) × W.Free rs t) × (judged (r .number) o (ruled rs t) ≡ accepted (elaborate t))
+    go none q f ih = let s = ih f in ((lowest-none (r .offences t) q, s .0), s .1)
+    go (some p) q f ih = not-free (refusalOf (r .number) p) f
+
+pub free-text : (t : Text) → Free ≡ ruledAs (ruled table t) → Clean t × (ruled table t ≡ accepted (elaborate t))
+free-text t e = let s = free-rules table t e in (clean t (s .0), s .1)
+
+-- an offence is the verdict's
+pub offended-as : (x : Refusal) (v : Verdict) → Offended x ≡ ruledAs v → (ops : List ℕ) (args : List ℤ) (lines is os vs : List ℕ) (ps qs : List ℤ) → FrontAs v (Refused x) ops args lines is os vs ps qs
+offended-as x (accepted p) e ops args lines is os vs ps qs = not-free x (sym e)
+offended-as x (refused n k) e ops args lines is os vs ps qs = let z : x ≡ refusalOf n k = cc in ap Refused z
+
+-- THE PARSER
+
+-- what was parsed is a tree within the limits, and the arrays hold it
+pub tree-in : {text kinds starts sizes codes₀ codes indices₀ indices rows₀ rows decls₀ decls : List ℕ} {n : ℕ} {p : Parsed} {ts : List Token} {t : Text} → answer ts ≡ P.accepted t → TokensIn ts kinds starts n → WordsIn text ts sizes n
+    → length codes₀ ≡ 16384 → length indices₀ ≡ 16384 → length rows₀ ≡ 3072 → length decls₀ ≡ 390
+    → ReadAs ts t (lent (output (arrays codes₀ indices₀) rows₀) decls₀) (lent (output (arrays codes indices) rows) decls) p → TreeIn text ts t kinds starts sizes n p codes indices rows decls
+tree-in {p = p} {ts} {t} e T Q lc li lr ld r =
+    let x = exactly-limits ts t .0 e in
+    record {
+      tokens = T;
+      words = Q;
+      items = items-held (r .lines .items) lc li (r .few-items);
+      lines = rows-held (r .lines) lr (r .few-statements);
+      names = decls-held t (r .names) ld (r .few-names);
+      heads = record { entity-at = r .entity; entity-end-at = r .entity-end; arch-at = r .arch; arch-of-at = r .arch-of; arch-end-at = r .arch-end };
+      process = r .process;
+      kinded = kinded (x .1);
+      moded = moded (x .1);
+      limits = x .2;
+    }
+
+placed-inside : (l : ℕ) (ts : List Token) (i : ℕ) → i < length ts → placeOf l ts i ≡ tokenAt ts i .place
+unfolding placeOf
+placed-inside l [] i h = absurd (omega arith)
+placed-inside l (x ∷ ts) zero h = refl
+placed-inside l (x ∷ ts) (suc i) h = placed-inside l ts i (omega arith)
+
+placed-past : (l : ℕ) (ts : List Token) (i : ℕ) → length ts ≤ i → placeOf l ts i ≡ l
+unfolding placeOf
+placed-past l [] i h = refl
+placed-past l (x ∷ ts) zero h = absurd (omega arith)
+placed-past l (x ∷ ts) (suc i) h = placed-past l ts i (omega arith)
+
+-- the place of a token by position
+pub place-is : {ts : List Token} {kinds starts : List ℕ} {n : ℕ} (l i : ℕ) → TokensIn ts kinds starts n → placeIn starts n l i ≡ placeOf l ts i
+place-is {ts} {kinds} {starts} {n} l i T = go (ltb i n) refl
+  where
+    go : (b : Bool) → ltb i n ≡ b → placeIn starts n l i ≡ placeOf l ts i
+    go true q =
+        let h = ltb-true i n q in
+        let c = T .count in
+        sym (picked (ltb i n) (numberIn starts n i) l (placeOf l ts i) q (placed-inside l ts i (omega arith) ∙ (sym (T .place i h) ∙ sym (number-inside starts n i (T .short) h))))
+    go false q = let h = ltb-false i n q in let c = T .count in sym (passed (ltb i n) (numberIn starts n i) l (placeOf l ts i) q (placed-past l ts i (omega arith)))
+
+-- THE FRONT END, FROM ITS END TO ITS BEGINNING
+
+module _ {text kinds starts sizes codes indices rows decls owners₀ owners : List ℕ} {n : ℕ} {p : Parsed} {x : Ruling}
+    (R : Ruled text starts sizes n p codes indices rows decls owners x) (O : Resolves text kinds starts sizes n decls (p .names) owners₀ owners) (room : length owners₀ ≡ 16384) (ts : List Token) (t : Text)
+    (I : TreeIn text ts t kinds starts sizes n p codes indices rows decls) where
+  all-laid : Laid ts t kinds starts n codes indices (p .items) rows (p .statements) decls (p .names) owners
+  all-laid =
+      record {
+        of-tokens = I .tokens;
+        of-items = I .items;
+        of-rows = I .lines;
+        of-decls = I .names;
+        of-owners = O .owners ts t (let s = I .tokens .short in omega arith) (I .tokens) (I .words) (I .names) (I .kinded);
+        kinded = I .kinded;
+      }
+
+  decided : x ≡ ruledAs (ruled table t)
+  decided = R .is ts t kinds all-laid (I .words) (I .heads) (I .process) (I .limits)
+
+  -- no rule is offended: the arrays of the design
+  pub front-free : {ops : List ℕ} {args : List ℤ} {lines is os vs : List ℕ} {ps qs : List ℤ} {c : Counts} → x ≡ Free → LaidOut text kinds starts sizes n p codes indices rows decls owners ops args lines is os vs ps qs c
+      → FrontAs (ruled table t) (Accepted c) ops args lines is os vs ps qs
+  front-free {c = c} e l =
+      let s = free-text t (sym e ∙ decided) in
+      let q = s .0 in
+      rw (s .1) (c, refl, l .holds ts t all-laid (I .words) (I .limits) (q .names) (q .clock) (well-formed t (I .moded) (I .limits) q))
+
+  -- a rule is offended: its refusal
+  pub front-offended : (y : Refusal) (ops : List ℕ) (args : List ℤ) (lines is os vs : List ℕ) (ps qs : List ℤ) → x ≡ Offended y → FrontAs (ruled table t) (Refused y) ops args lines is os vs ps qs
+  front-offended y ops args lines is os vs ps qs e = offended-as y (ruled table t) (sym e ∙ decided) ops args lines is os vs ps qs
+
+not-tree : {A : Type 0} {p : Parsed} {k i : ℕ} → Tree p ≡ NotParsed k i → A
+not-tree e = absurd (let z : _≡_ {A = ℕ} 0 1 = cc in omega arith)
+
+module _ {text kinds starts sizes codes₀ codes indices₀ indices rows₀ rows decls₀ decls : List ℕ} {n : ℕ} {x : Parsing} (l : ℕ) (ts : List Token)
+    (P₁ : Parses ts (lent (output (arrays codes₀ indices₀) rows₀) decls₀) (lent (output (arrays codes indices) rows) decls) x) (T : TokensIn ts kinds starts n) where
+  -- a tree was read: the rules decide
+  pub front-tree : {p : Parsed} (r : Front) (ops : List ℕ) (args : List ℤ) (lines is os vs : List ℕ) (ps qs : List ℤ) → x ≡ Tree p → WordsIn text ts sizes n
+      → length codes₀ ≡ 16384 → length indices₀ ≡ 16384 → length rows₀ ≡ 3072 → length decls₀ ≡ 390
+      → ((t : Text) → TreeIn text ts t kinds starts sizes n p codes indices rows decls → FrontAs (ruled table t) r ops args lines is os vs ps qs)
+      → FrontAs (parsed l ts (answer ts)) r ops args lines is os vs ps qs
+  unfolding parsed
+  front-tree {p} r ops args lines is os vs ps qs e Q lc li lr ld f = go (answer ts) refl (P₁ .is)
+    where
+      go : (a : P.Answer) → answer ts ≡ a → parsesAs ts (lent (output (arrays codes₀ indices₀) rows₀) decls₀) (lent (output (arrays codes indices) rows) decls) a x → FrontAs (parsed l ts a) r ops args lines is os vs ps qs
+      go (P.accepted t) h (q, g, w) =
+          let z : Tree p ≡ Tree q = sym e ∙ g in
+          let y : q ≡ p = cc in
+          f t (tree-in h T Q lc li lr ld (subst (λ (u : Parsed). ReadAs ts t (lent (output (arrays codes₀ indices₀) rows₀) decls₀) (lent (output (arrays codes indices) rows) decls) u) y w))
+      go (P.no-sentence k) h g = not-tree (sym e ∙ g)
+      go (P.past-limit k) h g = not-tree (sym e ∙ g)
+
+module _ {kinds starts codes₀ codes indices₀ indices rows₀ rows decls₀ decls : List ℕ} {n : ℕ} {x : Parsing} (l : ℕ) (ts : List Token)
+    (P₁ : Parses ts (lent (output (arrays codes₀ indices₀) rows₀) decls₀) (lent (output (arrays codes indices) rows) decls) x) (T : TokensIn ts kinds starts n) where
+  -- no tree was read: refusal 3 or 4 at the token's place
+  pub front-unread : {k i w : ℕ} (y : Refusal) (ops : List ℕ) (args : List ℤ) (lines is os vs : List ℕ) (ps qs : List ℤ) → x ≡ NotParsed k i → w ≡ placeIn starts n l i → ((k ≡ 3) → y ≡ refusalOf 3 w) × ((k ≡ 4) → y ≡ refusalOf 4 w)
+      → FrontAs (parsed l ts (answer ts)) (Refused y) ops args lines is os vs ps qs
+  unfolding parsed
+  front-unread {k} {i} {w} y ops args lines is os vs ps qs e hw hy = go (answer ts) (P₁ .is)
+    where
+      at : (j : ℕ) → i ≡ j → w ≡ placeOf l ts j
+      at j h = hw ∙ (place-is l i T ∙ ap (placeOf l ts) h)
+
+      go : (a : P.Answer) → parsesAs ts (lent (output (arrays codes₀ indices₀) rows₀) decls₀) (lent (output (arrays codes indices) rows) decls) a x → FrontAs (parsed l ts a) (Refused y) ops args lines is os vs ps qs
+      go (P.accepted t) (q, g, _) = not-tree (sym g ∙ e)
+      go (P.no-sentence j) g =
+          let z : NotParsed k i ≡ NotParsed 3 j = sym e ∙ g in
+          let a : k ≡ 3 = cc in
+          let b : i ≡ j = cc in
+          ap Refused (hy .0 a ∙ ap (refusalOf 3) (at j b))
+      go (P.past-limit j) g =
+          let z : NotParsed k i ≡ NotParsed 4 j = sym e ∙ g in
+          let a : k ≡ 4 = cc in
+          let b : i ≡ j = cc in
+          ap Refused (hy .1 a ∙ ap (refusalOf 4) (at j b))
+
+not-tokens : {A : Type 0} {n : ℕ} {x : Refusal} → Tokens n ≡ NotLexed x → A
+not-tokens e = absurd (let z : _≡_ {A = ℕ} 0 1 = cc in omega arith)
+
+-- the text has tokens: the parser decides
+pub front-tokens : (text : List ℕ) (n : ℕ) (r : Front) (ops : List ℕ) (args : List ℤ) (lines is os vs : List ℕ) (ps qs : List ℤ) → Tokens n ≡ X.lexed text
+    → ((ts : List Token) → lex text ≡ tokens ts → FrontAs (parsed (length text) ts (answer ts)) r ops args lines is os vs ps qs) → FrontAs (verdict text) r ops args lines is os vs ps qs
+unfolding verdict X.lexed lexed
+front-tokens text n r ops args lines is os vs ps qs e f = go (ltb 16384 (length text)) refl (lex text) refl e
+  where
+    go : (b : Bool) → ltb 16384 (length text) ≡ b → (k : L.Lexed) → lex text ≡ k → Tokens n ≡ cond b (NotLexed TextTooLong) (counted 0 k)
+        → FrontAs (cond (leb (length text) 16384) (lexed (length text) k) (refused 1 0)) r ops args lines is os vs ps qs
+    go true q k h g = not-tokens g
+    go false q (tokens ts) h g = rw (le-leb (length text) 16384 (let z = ltb-false 16384 (length text) q in omega arith)) (f ts h)
+    go false q (malformed p) h g = not-tokens g
+
+-- the text has none: refusal 1 or 2
+pub front-not-lexed : (text : List ℕ) (x : Refusal) (ops : List ℕ) (args : List ℤ) (lines is os vs : List ℕ) (ps qs : List ℤ) → NotLexed x ≡ X.lexed text → FrontAs (verdict text) (Refused x) ops args lines is os vs ps qs
+unfolding verdict X.lexed lexed
+front-not-lexed text x ops args lines is os vs ps qs e = go (ltb 16384 (length text)) refl (lex text) e
+  where
+    go : (b : Bool) → ltb 16384 (length text) ≡ b → (k : L.Lexed) → NotLexed x ≡ cond b (NotLexed TextTooLong) (counted 0 k)
+        → FrontAs (cond (leb (length text) 16384) (lexed (length text) k) (refused 1 0)) (Refused x) ops args lines is os vs ps qs
+    go true q k g = let z : x ≡ TextTooLong = cc in rw (lt-leb (length text) 16384 (ltb-true 16384 (length text) q)) (ap Refused z)
+    go false q (tokens ts) g = not-tokens (sym g)
+    go false q (malformed p) g = let z : x ≡ NoToken p = cc in rw (le-leb (length text) 16384 (let y = ltb-false 16384 (length text) q in omega arith)) (ap Refused z)
+
+-- the text was lexed and its tokens marked: the parser decides
+pub front-lexed : (text kinds₀ kinds starts₀ starts sizes₀ sizes long₀ long : List ℕ) (n : ℕ) {x : Lexed} (r : Front) (ops : List ℕ) (args : List ℤ) (lines is os vs : List ℕ) (ps qs : List ℤ) → x ≡ Tokens n
+    → X.Lexing text x kinds₀ kinds starts₀ starts sizes₀ sizes → long ≡ marked text kinds starts sizes n long₀ → length kinds₀ ≡ 16384 → length starts₀ ≡ 16384 → length sizes₀ ≡ 16384 → length long₀ ≡ 16384
+    → ((ts : List Token) → TokensIn ts kinds starts n → WordsIn text ts sizes n → C.Holds ts kinds long n → FrontAs (parsed (length text) ts (answer ts)) r ops args lines is os vs ps qs)
+    → FrontAs (verdict text) r ops args lines is os vs ps qs
+front-lexed text kinds₀ kinds starts₀ starts sizes₀ sizes long₀ long n r ops args lines is os vs ps qs e lx m lk ls lz ll f =
+    front-tokens text n r ops args lines is os vs ps qs (l .answer)
+    (λ ts t.
+    f ts (tokens-held text kinds₀ kinds starts₀ starts sizes₀ sizes n ts l t lk ls)
+    (record { size = sizes-held text kinds₀ kinds starts₀ starts sizes₀ sizes n ts l t lz; valued = values-held text kinds₀ kinds starts₀ starts sizes₀ sizes n ts l t })
+    (rw m (flags-held text kinds₀ kinds starts₀ starts sizes₀ sizes n ts l t lk ls lz long₀ ll)))
+  where
+    l : X.Lexing text (Tokens n) kinds₀ kinds starts₀ starts sizes₀ sizes
+    l = subst (λ (y : Lexed). X.Lexing text y kinds₀ kinds starts₀ starts sizes₀ sizes) e lx

@@ -1,0 +1,118 @@
+-- What the passes of the elaborator leave holds the design of every tree without offences. Assumes nothing.
+use mathlib.Core.Path.{_≡_, refl, sym, _∙_, ap, subst}
+use mathlib.Core.Bool.{Bool, true, false, _&&_}
+use mathlib.Core.Option.{Option, none, some}
+use mathlib.Core.List.{List, [], _∷_, _++_}
+use Prim.Native.Nat.{ℕ, zero, suc, min, _≤_, _<_}
+use native.Mathlib.Omega.{arith}
+use lib.ListN.{length, getD}
+use lib.IntN.{ℤ}
+use Rattle.grammar.specs.Token.{Token}
+use Rattle.grammar.specs.Tree.{Mode, input, output-port, variable-mode, Text}
+use Rattle.grammar.specs.Limits.{Each, groupNumbers, exprsNumbers, bodyExprs, textNumbers, WithinLimits}
+use Rattle.design.specs.Process.{WellFormed}
+use Rattle.language.specs.Lists.{filter}
+use Rattle.language.specs.Declarations.{Decl, declared, find, isInput, isOutput, isVariable, isData, clockOf, scopeFor, scopeOf}
+use Rattle.language.specs.Names.{names}
+use Rattle.language.specs.Clock.{clock}
+use Rattle.language.specs.Elaboration.{position, elaborate}
+use Rattle.language.proofs.Facts.{and-true-both}
+use Rattle.language.proofs.Elaborated.{not-doubled}
+use Rattle.language.proofs.WellTyped.{each-split}
+use Rattle.lexer.specs.TokenValues.{Valued}
+use Rattle.cursor.specs.Tokens.{tokenAt}
+use Rattle.statements.specs.Rows.{storeRows}
+use Rattle.parser.specs.declared.Parsed.{Parsed}
+use Rattle.syntax.specs.Headings.{headings, DeclsIn}
+use Rattle.offences.specs.Laid.{Laid}
+use Rattle.scope.specs.Resolves.{WordsIn}
+use Rattle.clock.specs.Judges.{ownerOf, Owns}
+use Rattle.elaborator.specs.Positions.{slotAt, codeAt, argAt, Elaborates, rowsAt}
+use Rattle.elaborator.specs.Names.{slotsAfter, typesOf, valuesOf, Filled, inMode, ClockIs, Spelled}
+use Rattle.elaborator.specs.Sources.{SourceIn, SlotsIn}
+use Rattle.elaborator.proofs.NameLawsLaid.{declared-count}
+use Rattle.elaborator.proofs.NameLawsHeld.{clock-found, clock-none, slots-held}
+use Rattle.elaborator.proofs.NameLawsDesign.{names-held}
+use Rattle.elaborator.proofs.TreeFine.{Small}
+use Rattle.elaborator.proofs.Whole.{body-laid}
+use Rattle.frontend.specs.declared.layout.Counts.{Counts}
+use Rattle.frontend.specs.Designs.{Sized, Holds, LaidOut}
+
+-- each element has what all have
+each-at : (P : Token → Type 0) (ts : List Token) (i : ℕ) → Each P ts → i < length ts → P (tokenAt ts i)
+each-at P [] i h l = absurd (omega arith)
+each-at P (x ∷ ts) zero h l = h .0
+each-at P (x ∷ ts) (suc i) h l = each-at P ts i (h .1) (omega arith)
+
+-- the numbers of the statements are within the limit
+small : (t : Text) → WithinLimits t → Small (exprsNumbers (bodyExprs (t .body)))
+unfolding textNumbers
+small t w =
+    let a = each-split (λ (x : Token). x .value ≤ 2147483647) (groupNumbers (t .ports)) (groupNumbers (t .vars) ++ exprsNumbers (bodyExprs (t .body))) (w .literals) in
+    each-split (λ (x : Token). x .value ≤ 2147483647) (groupNumbers (t .vars)) (exprsNumbers (bodyExprs (t .body))) (a .1) .1
+
+input-mode : (m : Mode) → isInput m ≡ true → m ≡ input
+unfolding isInput
+input-mode input e = refl
+input-mode output-port e = absurd (let z : _≡_ {A = ℕ} 0 1 = cc in omega arith)
+input-mode variable-mode e = absurd (let z : _≡_ {A = ℕ} 0 1 = cc in omega arith)
+
+output-mode : (m : Mode) → isOutput m ≡ true → m ≡ output-port
+unfolding isOutput
+output-mode input e = absurd (let z : _≡_ {A = ℕ} 0 1 = cc in omega arith)
+output-mode output-port e = refl
+output-mode variable-mode e = absurd (let z : _≡_ {A = ℕ} 0 1 = cc in omega arith)
+
+variable-mode-of : (m : Mode) → isVariable m ≡ true → m ≡ variable-mode
+unfolding isVariable
+variable-mode-of input e = absurd (let z : _≡_ {A = ℕ} 0 1 = cc in omega arith)
+variable-mode-of output-port e = absurd (let z : _≡_ {A = ℕ} 0 1 = cc in omega arith)
+variable-mode-of variable-mode e = refl
+
+-- the clock's declaration has the number that was found
+clock-is : (ts : List Token) (t : Text) (decls : List ℕ) (d c : ℕ) → DeclsIn ts (headings t) decls d → names t ≡ [] → c ≡ ownerOf (declared t) (clockOf t) → ClockIs (clockOf t) c (declared t)
+unfolding ownerOf
+clock-is ts t decls d c h five e = go (clockOf t) e
+  where
+    go : (o : Option Token) → c ≡ ownerOf (declared t) o → ClockIs o c (declared t)
+    go none f = rw f (clock-none 65 (declared t) (let a = declared-count ts t decls d h in let b = h .short in omega arith))
+    go (some w) f = rw f (clock-found w (declared t) (not-doubled t five))
+
+module _ (ts : List Token) (t : Text) (decls slots₀ : List ℕ) (d c : ℕ) (D : DeclsIn ts (headings t) decls d) (C : ClockIs (clockOf t) c (declared t)) (n : length slots₀ ≡ 65) where
+  by-mode : (v : ℕ) (e : Decl) (m : Mode) → find (declared t) v ≡ some e → e .mode ≡ m → inMode (clockOf t) m e ≡ true
+      → slotAt (slotsAfter decls d c slots₀) (position (declared t) v) ≡ position (filter (inMode (clockOf t) m) (declared t)) v
+  by-mode v e m f q h =
+      subst (λ (x : Mode). slotAt (slotsAfter decls d c slots₀) (position (declared t) v) ≡ position (filter (inMode (clockOf t) x) (declared t)) v) q
+      (slots-held ts t decls d c slots₀ D C n v e f (subst (λ (x : Mode). inMode (clockOf t) x e ≡ true) (sym q) h))
+
+  slots-in : SlotsIn (declared t) (scopeOf t) (clockOf t) (slotsAfter decls d c slots₀)
+  unfolding scopeOf scopeFor isData
+  slots-in = record {
+    input = λ v e f h. by-mode v e input f (input-mode (e .mode) (and-true-both (isInput (e .mode)) _ h .0)) h;
+    output = λ v e f h. by-mode v e output-port f (output-mode (e .mode) h) h;
+    variable = λ v e f h. by-mode v e variable-mode f (variable-mode-of (e .mode) h) h;
+  }
+
+-- THE LAW
+pub laid-out : (text kinds starts sizes codes indices rows decls owners : List ℕ) (n : ℕ) (p : Parsed) {c : ℕ} (slots₀ : List ℕ) {slots ops₀ ops : List ℕ} (lines₀ : List ℕ) {lines is₀ is os₀ os vs₀ vs : List ℕ} {args₀ args ps₀ ps qs₀ qs : List ℤ} {i o v po qv : ℕ}
+    → Owns rows (p .statements) owners n c → length slots₀ ≡ 65 → slots ≡ slotsAfter decls (p .names) c slots₀
+    → Elaborates (codeAt owners decls (p .names)) (argAt text starts sizes kinds owners decls (p .names) slots) codes indices (p .items) ops₀ ops args₀ args
+    → lines ≡ storeRows 0 (rowsAt owners slots rows 0 (min (p .statements) 512)) lines₀
+    → Filled (typesOf decls (p .names) c 0) is₀ is i → Filled (typesOf decls (p .names) c 1) os₀ os o → Filled (typesOf decls (p .names) c 2) vs₀ vs v
+    → Filled (valuesOf text starts sizes kinds decls (p .names) 1) ps₀ ps po → Filled (valuesOf text starts sizes kinds decls (p .names) 2) qs₀ qs qv
+    → Sized ops₀ args₀ lines₀ is₀ os₀ vs₀ ps₀ qs₀
+    → LaidOut text kinds starts sizes n p codes indices rows decls owners ops args lines is os vs ps qs (record { statements = p .statements; operations = p .items; inputs = i; outputs = o; variables = v })
+laid-out text kinds starts sizes codes indices rows decls owners n p {c} slots₀ {slots} {ops₀} {ops} lines₀ {lines} {is₀} {is} {os₀} {os} {vs₀} {vs} {args₀} {args} {ps₀} {ps} {qs₀} {qs} {i} {o} {v} {po} {qv} ow ns es el er fi fo fv fp fq z = record {
+  holds = λ ts t L W lim five eight wf.
+      let C = clock-is ts t decls (p .names) c (L .of-decls) five (ow .clocks ts t kinds starts codes indices (p .items) decls (p .names) L) in
+      let S : SlotsIn (declared t) (scopeOf t) (clockOf t) slots = rw es (slots-in ts t decls slots₀ (p .names) c (L .of-decls) C ns) in
+      let Z : SourceIn text ts sizes n = record { size = W .size; valued = λ j h. each-at (Valued text) ts j (W .valued) (let k = L .of-tokens .count in omega arith) } in
+      record {
+        body =
+            body-laid text ts t kinds starts sizes owners decls slots codes indices rows n (p .names) (p .items) (p .statements) (L .of-tokens) Z (L .of-owners) (L .of-decls) S (L .of-items) (L .of-rows) (L .kinded .body)
+            (small t lim) five eight ops₀ ops lines₀ lines args₀ args (z .ops-size) (z .args-size) (z .lines-size) el er;
+        declared =
+            names-held text ts kinds starts sizes n (L .of-tokens) (record { size = W .size; valued = W .valued }) t decls (p .names) c (L .of-decls) C (L .kinded) lim wf is₀ is os₀ os vs₀ vs ps₀ ps qs₀ qs i o v po qv
+            (z .inputs-size) (z .outputs-size) (z .variables-size) (z .at-outputs-size) (z .at-variables-size) fi fo fv fp fq;
+      };
+}

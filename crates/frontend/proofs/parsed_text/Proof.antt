@@ -1,0 +1,43 @@
+-- `frontend::parsed_text` meets its contract. Assumes nothing.
+use mathlib.Core.Path.{refl}
+use Rattle.frontend.proofs.Fronting.{front-tree, front-unread}
+use borrow.Author.Needs.{needs}
+use Rattle.frontend.proofs.parsed_text.Statement.{statement}
+use Rattle.frontend.proofs.parsed_text.Tie as tie
+
+parse-requires : tie.Need-parse-requires
+parse-requires c κs = search needs
+
+enum-known-parsing : tie.Need-enum-known-parsing
+enum-known-parsing c = search needs
+
+ruled-text-requires : tie.Need-ruled-text-requires
+ruled-text-requires c κs = search needs
+
+enum-known-parsing-2 : tie.Need-enum-known-parsing-2
+enum-known-parsing-2 c = search needs
+
+place-of-requires : tie.Need-place-of-requires
+place-of-requires c κs = search needs
+
+unread-requires : tie.Need-unread-requires
+unread-requires c κs = search needs
+
+returns : tie.Need-returns
+returns c = λ z ts T Q h. front-tree _ ts (c .before .before .before .before .before .before .before .before .before .before .before .before .before .before .before .before .parse .ensures .reads ts (T .short) h) T _ _ _ _ _ _ _ _ _ (c .before .before .before .before .before .before .before .before .before .before .before .before .before .before .parsing .given .1) Q refl refl refl refl (λ t i. c .ruled-text .ensures z ts t i)
+
+returns-2 : tie.Need-returns-2
+returns-2 c = λ z ts T Q h. front-unread _ ts (c .before .before .before .before .before .parse .ensures .reads ts (T .short) h) T _ _ _ _ _ _ _ _ _ (c .before .before .before .parsing2 .given .1) (c .before .place-of .ensures) (c .unread .ensures)
+
+pub parsed-text-spec : {M : Type 1} → statement M
+parsed-text-spec =
+    tie.close
+    (tie.spec
+    parse-requires
+    enum-known-parsing
+    ruled-text-requires
+    enum-known-parsing-2
+    place-of-requires
+    unread-requires
+    returns
+    returns-2)

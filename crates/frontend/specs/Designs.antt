@@ -1,0 +1,39 @@
+-- The arrays of a design after the front end: for every accepted tree that the arrays of the parsed text hold. Assumes nothing.
+use mathlib.Core.Path.{_≡_}
+use mathlib.Core.List.{List, []}
+use Prim.Native.Nat.{ℕ}
+use lib.ListN.{length}
+use lib.IntN.{ℤ}
+use Rattle.grammar.specs.Token.{Token}
+use Rattle.grammar.specs.Tree.{Text}
+use Rattle.grammar.specs.Limits.{WithinLimits}
+use Rattle.design.specs.Process.{Process, WellFormed}
+use Rattle.language.specs.Names.{names}
+use Rattle.language.specs.Clock.{clock}
+use Rattle.language.specs.Elaboration.{elaborate}
+use Rattle.parser.specs.declared.Parsed.{Parsed}
+use Rattle.offences.specs.Laid.{Laid}
+use Rattle.scope.specs.Resolves.{WordsIn}
+use Rattle.ir.specs.Arrays.{BodyIn, NamesIn}
+use Rattle.frontend.specs.declared.layout.Counts.{Counts}
+
+-- the arrays that are lent have their sizes
+pub record Sized (ops : List ℕ) (args : List ℤ) (lines is os vs : List ℕ) (atOutputs atVariables : List ℤ) : Type 0 where
+  pub ops-size : length ops ≡ 16384
+  pub args-size : length args ≡ 16384
+  pub lines-size : length lines ≡ 3072
+  pub inputs-size : length is ≡ 32
+  pub outputs-size : length os ≡ 32
+  pub variables-size : length vs ≡ 32
+  pub at-outputs-size : length atOutputs ≡ 32
+  pub at-variables-size : length atVariables ≡ 32
+
+-- the arrays hold the process p
+pub record Holds (p : Process) (ops : List ℕ) (args : List ℤ) (lines is os vs : List ℕ) (atOutputs atVariables : List ℤ) (c : Counts) : Type 0 where
+  pub body : BodyIn p ops args lines (c .operations) (c .statements)
+  pub declared : NamesIn p is os vs atOutputs atVariables (c .inputs) (c .outputs) (c .variables)
+
+-- for every tree without offences the arrays hold the process that it means
+pub record LaidOut (text kinds starts sizes : List ℕ) (n : ℕ) (p : Parsed) (codes indices rows decls owners ops : List ℕ) (args : List ℤ) (lines is os vs : List ℕ) (atOutputs atVariables : List ℤ) (c : Counts) : Type 0 where
+  pub holds : (ts : List Token) (t : Text) → Laid ts t kinds starts n codes indices (p .items) rows (p .statements) decls (p .names) owners → WordsIn text ts sizes n → WithinLimits t
+      → names t ≡ [] → clock t ≡ [] → WellFormed (elaborate t) → Holds (elaborate t) ops args lines is os vs atOutputs atVariables c

@@ -1,0 +1,31 @@
+-- Refusals 5 to 9 of a text whose arrays hold a tree: as the rules say one after the other. Assumes nothing.
+use mathlib.Core.Path.{_≡_}
+use mathlib.Core.List.{List}
+use Prim.Native.Nat.{ℕ}
+use Rattle.grammar.specs.Token.{Token}
+use Rattle.grammar.specs.Tree.{Text}
+use Rattle.grammar.specs.Limits.{WithinLimits}
+use Rattle.language.specs.Rules.{table}
+use Rattle.language.specs.Verdict.{Verdict, accepted, refused, ruled}
+use Rattle.cursor.specs.Tokens.{tokenAt}
+use Rattle.parser.specs.declared.Parsed.{Parsed}
+use Rattle.offences.specs.Laid.{Laid}
+use Rattle.scope.specs.declared.Heads.{Heads}
+use Rattle.scope.specs.Resolves.{WordsIn}
+use Rattle.scope.specs.Judges.{HeadsIn}
+use Rattle.frontend.specs.Answered.{refusalOf}
+use Rattle.frontend.specs.declared.rules.Ruling.{Ruling}
+use Rattle.frontend.specs.declared.rules.Ruling.the-variants.{Free, Offended}
+
+abbrev pub headsOf : Parsed → Heads
+headsOf p = record { entity = p .entity; «entity_end» = p .«entity_end»; arch = p .arch; «arch_of» = p .«arch_of»; «arch_end» = p .«arch_end» }
+
+-- what the rules leave of a verdict
+abbrev pub ruledAs : Verdict → Ruling
+ruledAs (accepted p) = Free
+ruledAs (refused n k) = Offended (refusalOf n k)
+
+-- for every tree that the arrays hold, the answer is the rules' own
+pub record Ruled (text starts sizes : List ℕ) (n : ℕ) (p : Parsed) (codes indices rows decls owners : List ℕ) (r : Ruling) : Type 0 where
+  pub is : (ts : List Token) (t : Text) (kinds : List ℕ) → Laid ts t kinds starts n codes indices (p .items) rows (p .statements) decls (p .names) owners → WordsIn text ts sizes n
+      → HeadsIn ts t (headsOf p) → tokenAt ts (p .process) ≡ t .process → WithinLimits t → r ≡ ruledAs (ruled table t)

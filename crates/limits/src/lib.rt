@@ -1,0 +1,69 @@
+// Tokens that pass a limit wherever they stand, "name 32 bytes" and "literal 2147483647": a flag for each token, read by the parser.
+ghost use mathlib.Core.Path.{_≡_};
+ghost use Prim.Native.Nat.{min};
+ghost use Rattle.language.specs.Words.{value};
+ghost use Rattle.lexer.specs.Places.{part};
+ghost use Rattle.limits.specs.Flags.{numberFlag, flagOf, marked};
+use lexer::parts::number_value;
+use lexer::token::NAME;
+use lexer::token::NUMBER;
+
+// The longest name, and the largest literal.
+const MOST_BYTES: u16 = 32;
+
+const MOST: u64 = 2147483647;
+
+// Whether the number in a part of the text is above the largest literal.
+fn number_flag(text: &[u8], start: usize, size: usize) -> u8
+    ensures { λ r. ⌜ r ≡ numberFlag (value 0 (part (now (text .entry)) start size)) ⌝ }
+{
+    if number_value(text, start, size) > MOST {
+        return 1;
+    }
+    0
+}
+
+// The flag of a token of this kind that has so many bytes from a place on. Only a number's bytes are read.
+fn flag(text: &[u8], kind: u8, start: u16, size: u16) -> u8
+    ensures { λ r. ⌜ r ≡ flagOf (now (text .entry)) kind start size ⌝ }
+{
+    if kind == NAME {
+        if size > MOST_BYTES {
+            return 1;
+        }
+        return 0;
+    }
+    if kind == NUMBER {
+        return number_flag(text, start as usize, size as usize);
+    }
+    0
+}
+
+// As many tokens as the arrays have room for.
+fn at_most(n: usize) -> usize
+    ensures { λ r. ⌜ r ≡ min n 16384 ⌝ }
+{
+    if n < 16384 {
+        return n;
+    }
+    16384
+}
+
+// Writes the flag of each token, 1 where it passes a limit and 0 elsewhere.
+pub fn mark(
+    text: &[u8],
+    kinds: &[u8; 16384],
+    starts: &[u16; 16384],
+    sizes: &[u16; 16384],
+    n: usize,
+    long: &mut [u8; 16384],
+)
+    ensures { λ _. ⌜ now (long .exit) ≡ marked (now (text .entry)) (now (kinds .entry)) (now (starts .entry)) (now (sizes .entry)) n (now (long .entry)) ⌝ }
+{
+    let end = at_most(n);
+    let mut i = 0;
+    while i < end {
+        long[i] = flag(text, kinds[i], starts[i], sizes[i]);
+        i += 1;
+    }
+}

@@ -1,0 +1,4 @@
+pub mod OpenedImage
+pub mod Whole
+pub mod Start
+pub mod Stored

@@ -1,0 +1,46 @@
+-- `runtime::cycle` meets its contract: the opener refuses the image, or the cycle on its sections is the cycle on the image. Assumes nothing.
+use mathlib.Core.Path.{sym, _∙_}
+use native.Mathlib.Omega.{arith}
+use borrow.Author.Needs.{needs}
+use Rattle.runtime.proofs.OpenedImage.{all-bytes}
+use Rattle.runtime.proofs.Whole.{refused-advance, whole}
+use Rattle.runtime.proofs.cycle.Statement.{statement}
+use Rattle.runtime.proofs.cycle.Tie as tie
+
+open-requires : tie.Need-open-requires
+open-requires c κs = search needs
+
+enum-known-opened : tie.Need-enum-known-opened
+enum-known-opened c = search needs
+
+on-sections-requires : tie.Need-on-sections-requires
+on-sections-requires c κs = sym (c .before .before .opened .given .1) ∙ c .before .before .before .before .«open» .ensures
+
+enum-known-opened-2 : tie.Need-enum-known-opened-2
+enum-known-opened-2 c = search needs
+
+same-length : tie.Need-same-length
+same-length c = search needs
+
+returns : tie.Need-returns
+returns c =
+    let a = c .before .before .before .before .before .before .before .before .args in
+    whole (a .image .now) (all-bytes (a .image .now) (λ k. omega (arith, c .before .before .before .before .before .before .before .shared-slice-known .given k))) (a .s) (a .inputs .now) (a .row .now) _ _ (c .before .on-sections .ensures)
+
+returns-2 : tie.Need-returns-2
+returns-2 c =
+    let a = c .before .before .before .before .before .args in
+    whole (a .image .now) (all-bytes (a .image .now) (λ k. omega (arith, c .before .before .before .before .shared-slice-known .given k))) (a .s) (a .inputs .now) (a .row .now) _ _
+    (refused-advance (a .image .now) _ (sym (c .before .opened2 .given .1) ∙ c .before .before .before .«open» .ensures) (a .s) (a .inputs .now) (a .row .now))
+
+pub cycle-spec : {M : Type 1} → statement M
+cycle-spec =
+    tie.close
+    (tie.spec
+    open-requires
+    enum-known-opened
+    on-sections-requires
+    enum-known-opened-2
+    same-length
+    returns
+    returns-2)

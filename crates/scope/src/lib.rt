@@ -1,0 +1,307 @@
+// Names: the declaration that each name stands for, and refusal 5, "name unknown, declared twice, end or of name differing, wrong kind as target, output read".
+// The answer of refusal 5 is 0, or the lowest place plus 1.
+ghost use mathlib.Core.Path.{_≡_};
+ghost use Prim.Native.Nat.{_<_};
+ghost use Rattle.scope.specs.Positions.{sameIn, ownerIn, filled, differsIn, headsIn, doubledAt, fitsIn, targetAt, readableIn, readAt, doubledIn, targetsIn, readsIn};
+ghost use Rattle.scope.specs.Resolves.{Resolves};
+ghost use Rattle.scope.specs.Judges.{Judges};
+
+// The indices of the entity's and the architecture's names.
+pub struct Heads {
+    pub entity: usize,
+    pub entity_end: usize,
+    pub arch: usize,
+    pub arch_of: usize,
+    pub arch_end: usize,
+}
+
+// The tokens at two indices are the same without regard to case.
+fn same_at(
+    text: &[u8],
+    starts: &[u16; 16384],
+    sizes: &[u16; 16384],
+    n: usize,
+    a: usize,
+    b: usize,
+) -> bool
+    ensures { λ r. ⌜ r ≡ sameIn (now (text .entry)) (now (starts .entry)) (now (sizes .entry)) n a b ⌝ }
+{
+    let start_a = offences::wide(syntax::place_at(starts, n, a));
+    let size_a = offences::wide(syntax::place_at(sizes, n, a));
+    let start_b = offences::wide(syntax::place_at(starts, n, b));
+    let size_b = offences::wide(syntax::place_at(sizes, n, b));
+    lexer::parts::same_name(text, start_a, size_a, start_b, size_b)
+}
+
+// The number of the first declared name that is the name at an index.
+fn owner_of(
+    text: &[u8],
+    starts: &[u16; 16384],
+    sizes: &[u16; 16384],
+    n: usize,
+    decls: &[u16; 390],
+    d: usize,
+    i: usize,
+) -> u8
+    ensures { λ r. ⌜ r ≡ ownerIn (now (text .entry)) (now (starts .entry)) (now (sizes .entry)) n (now (decls .entry)) d i ⌝ }
+{
+    let end = offences::at_most(d, 65);
+    let mut j = 0;
+    while j < end {
+        let name = offences::wide(decls[6 * j]);
+        if same_at(text, starts, sizes, n, name, i) {
+            return j as u8;
+        }
+        j += 1;
+    }
+    end as u8
+}
+
+// A name gets the number of its declaration.
+fn settle(
+    text: &[u8],
+    kinds: &[u8; 16384],
+    starts: &[u16; 16384],
+    sizes: &[u16; 16384],
+    n: usize,
+    decls: &[u16; 390],
+    d: usize,
+    owners: &mut [u8; 16384],
+    i: usize,
+)
+    requires { ⌜ i < 16384 ⌝ }
+    ensures { λ r. ⌜ now (owners .exit) ≡ filled (ownerIn (now (text .entry)) (now (starts .entry)) (now (sizes .entry)) n (now (decls .entry)) d) (now (kinds .entry)) i (now (owners .entry)) ⌝ }
+{
+    if kinds[i] != 1 {
+        return;
+    }
+    owners[i] = owner_of(text, starts, sizes, n, decls, d, i);
+}
+
+// Every name gets the number of its declaration, or the number of declarations where it has none.
+pub fn resolve(
+    text: &[u8],
+    kinds: &[u8; 16384],
+    starts: &[u16; 16384],
+    sizes: &[u16; 16384],
+    n: usize,
+    decls: &[u16; 390],
+    d: usize,
+    owners: &mut [u8; 16384],
+)
+    ensures { λ r. ⌜ Resolves (now (text .entry)) (now (kinds .entry)) (now (starts .entry)) (now (sizes .entry)) n (now (decls .entry)) d (now (owners .entry)) (now (owners .exit)) ⌝ }
+{
+    let end = offences::at_most(n, 16384);
+    let mut i = 0;
+    while i < end {
+        settle(text, kinds, starts, sizes, n, decls, d, owners, i);
+        i += 1;
+    }
+}
+
+// A name that must be the same as another, and is not.
+fn differs(
+    text: &[u8],
+    starts: &[u16; 16384],
+    sizes: &[u16; 16384],
+    n: usize,
+    a: usize,
+    b: usize,
+) -> usize
+    ensures { λ r. ⌜ r ≡ differsIn (now (text .entry)) (now (starts .entry)) (now (sizes .entry)) n a b ⌝ }
+{
+    let same = same_at(text, starts, sizes, n, a, b);
+    syntax::offence(same, syntax::place_at(starts, n, a))
+}
+
+// The lowest of the three names behind `end` and `of`.
+fn heads_differ(
+    text: &[u8],
+    starts: &[u16; 16384],
+    sizes: &[u16; 16384],
+    n: usize,
+    h: Heads,
+) -> usize
+    ensures { λ r. ⌜ r ≡ headsIn (now (text .entry)) (now (starts .entry)) (now (sizes .entry)) n h ⌝ }
+{
+    let a = differs(text, starts, sizes, n, h.entity_end, h.entity);
+    let b = differs(text, starts, sizes, n, h.arch_of, h.entity);
+    let c = differs(text, starts, sizes, n, h.arch_end, h.arch);
+    syntax::lower(a, syntax::lower(b, c))
+}
+
+// A declared name that stands for an earlier one.
+fn doubled_at(
+    decls: &[u16; 390],
+    starts: &[u16; 16384],
+    owners: &[u8; 16384],
+    n: usize,
+    j: usize,
+) -> usize
+    requires { ⌜ j < 65 ⌝ }
+    ensures { λ r. ⌜ r ≡ doubledAt (now (decls .entry)) (now (starts .entry)) (now (owners .entry)) n j ⌝ }
+{
+    let i = offences::wide(decls[6 * j]);
+    let o = offences::owner_at(owners, n, i);
+    let first = o == j;
+    syntax::offence(first, syntax::place_at(starts, n, i))
+}
+
+// The lowest of those.
+fn doubled(
+    decls: &[u16; 390],
+    d: usize,
+    starts: &[u16; 16384],
+    owners: &[u8; 16384],
+    n: usize,
+) -> usize
+    ensures { λ r. ⌜ r ≡ doubledIn (now (decls .entry)) d (now (starts .entry)) (now (owners .entry)) n ⌝ }
+{
+    let end = offences::at_most(d, 65);
+    let mut low = 0;
+    let mut j = 0;
+    while j < end {
+        low = syntax::lower(low, doubled_at(decls, starts, owners, n, j));
+        j += 1;
+    }
+    low
+}
+
+// A name of a mode fits a statement of a kind: <= wants an output, := a variable, a wait any declared name.
+fn target_fits(kind: u16, mode: u16) -> bool
+    ensures { λ r. ⌜ r ≡ fitsIn kind mode ⌝ }
+{
+    if kind == 0 {
+        return mode != 3;
+    }
+    if kind == 1 {
+        return mode == 1;
+    }
+    mode == 2
+}
+
+// A wait or an assignment whose name does not fit.
+fn target_at(
+    rows: &[u16; 3072],
+    starts: &[u16; 16384],
+    owners: &[u8; 16384],
+    n: usize,
+    decls: &[u16; 390],
+    d: usize,
+    j: usize,
+) -> usize
+    requires { ⌜ j < 512 ⌝ }
+    ensures { λ r. ⌜ r ≡ targetAt (now (rows .entry)) (now (starts .entry)) (now (owners .entry)) n (now (decls .entry)) d j ⌝ }
+{
+    let kind = rows[6 * j];
+    if kind >= 3 {
+        return 0;
+    }
+    let i = offences::wide(rows[6 * j + 1]);
+    let mode = offences::mode_at(decls, d, offences::owner_at(owners, n, i));
+    let ok = target_fits(kind, mode);
+    syntax::offence(ok, syntax::place_at(starts, n, i))
+}
+
+// The lowest of those.
+fn targets(
+    rows: &[u16; 3072],
+    s: usize,
+    starts: &[u16; 16384],
+    owners: &[u8; 16384],
+    n: usize,
+    decls: &[u16; 390],
+    d: usize,
+) -> usize
+    ensures { λ r. ⌜ r ≡ targetsIn (now (rows .entry)) s (now (starts .entry)) (now (owners .entry)) n (now (decls .entry)) d ⌝ }
+{
+    let end = offences::at_most(s, 512);
+    let mut low = 0;
+    let mut j = 0;
+    while j < end {
+        low = syntax::lower(low, target_at(rows, starts, owners, n, decls, d, j));
+        j += 1;
+    }
+    low
+}
+
+// A name of a mode may be read: it is declared, and no output.
+fn readable(mode: u16) -> bool
+    ensures { λ r. ⌜ r ≡ readableIn mode ⌝ }
+{
+    if mode == 1 {
+        return false;
+    }
+    mode != 3
+}
+
+// An item that is a name and may not be read.
+fn read_at(
+    codes: &[u8; 16384],
+    indices: &[u16; 16384],
+    starts: &[u16; 16384],
+    owners: &[u8; 16384],
+    n: usize,
+    decls: &[u16; 390],
+    d: usize,
+    j: usize,
+) -> usize
+    requires { ⌜ j < 16384 ⌝ }
+    ensures { λ r. ⌜ r ≡ readAt (now (codes .entry)) (now (indices .entry)) (now (starts .entry)) (now (owners .entry)) n (now (decls .entry)) d j ⌝ }
+{
+    if codes[j] != 1 {
+        return 0;
+    }
+    let i = offences::wide(indices[j]);
+    let mode = offences::mode_at(decls, d, offences::owner_at(owners, n, i));
+    let ok = readable(mode);
+    syntax::offence(ok, syntax::place_at(starts, n, i))
+}
+
+// The lowest of those.
+fn reads(
+    codes: &[u8; 16384],
+    indices: &[u16; 16384],
+    k: usize,
+    starts: &[u16; 16384],
+    owners: &[u8; 16384],
+    n: usize,
+    decls: &[u16; 390],
+    d: usize,
+) -> usize
+    ensures { λ r. ⌜ r ≡ readsIn (now (codes .entry)) (now (indices .entry)) k (now (starts .entry)) (now (owners .entry)) n (now (decls .entry)) d ⌝ }
+{
+    let end = offences::at_most(k, 16384);
+    let mut low = 0;
+    let mut j = 0;
+    while j < end {
+        low = syntax::lower(low, read_at(codes, indices, starts, owners, n, decls, d, j));
+        j += 1;
+    }
+    low
+}
+
+// The lowest place of refusal 5 plus 1, or 0.
+pub fn names(
+    text: &[u8],
+    starts: &[u16; 16384],
+    sizes: &[u16; 16384],
+    n: usize,
+    h: Heads,
+    rows: &[u16; 3072],
+    s: usize,
+    codes: &[u8; 16384],
+    indices: &[u16; 16384],
+    k: usize,
+    decls: &[u16; 390],
+    d: usize,
+    owners: &[u8; 16384],
+) -> usize
+    ensures { λ r. ⌜ Judges (now (text .entry)) (now (starts .entry)) (now (sizes .entry)) n h (now (rows .entry)) s (now (codes .entry)) (now (indices .entry)) k (now (decls .entry)) d (now (owners .entry)) r ⌝ }
+{
+    let differ = heads_differ(text, starts, sizes, n, h);
+    let twice = doubled(decls, d, starts, owners, n);
+    let wrong = targets(rows, s, starts, owners, n, decls, d);
+    let read = reads(codes, indices, k, starts, owners, n, decls, d);
+    syntax::lower(differ, syntax::lower(twice, syntax::lower(wrong, read)))
+}

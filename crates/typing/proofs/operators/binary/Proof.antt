@@ -1,0 +1,20 @@
+-- `typing::operators::binary` meets its contract: its test is that of `binaryCode`. Assumes nothing.
+use borrow.Author.Tests.{ne-eqb, eq-eqb}
+use Rattle.typing.specs.Operators.{binaryCode}
+use borrow.Author.Needs.{needs}
+use Rattle.typing.proofs.operators.binary.Statement.{statement}
+use Rattle.typing.proofs.operators.binary.Tie as tie
+
+result-requires : tie.Need-result-requires
+result-requires c κs = search needs
+
+returns : tie.Need-returns
+unfolding binaryCode
+returns c = rw (eq-eqb _ _ (c .before .if1 .taken)) (c .result .ensures)
+
+returns-2 : tie.Need-returns-2
+unfolding binaryCode
+returns-2 c = rw (ne-eqb _ _ (c .if1 .left))
+
+pub binary-spec : {M : Type 1} → statement M
+binary-spec = tie.close (tie.spec result-requires returns returns-2)

@@ -1,0 +1,5 @@
+pub mod Running
+pub mod Names
+pub mod Operators
+pub mod Expressions
+pub mod Statements
