@@ -18,11 +18,12 @@ use Rattle.semantics.proofs.Values.{values-length}
 use Rattle.format.specs.Signature.{types}
 use Rattle.format.specs.Walk.{tableCycle}
 use Rattle.format.specs.Image.{Table}
+use Rattle.format.specs.Good.{GoodTable}
 use Rattle.format.specs.State.{placeOk, stateOk, stateFor, memoryOf, pad}
 use Rattle.format.specs.Cycle.{rowPlace, Called, rowOf}
 use Rattle.images.specs.Outcome.{Typed, GoodState, Outcome, row-refused, state-refused, operator-refused, performs}
 use Rattle.images.proofs.InputRows.{row-exactly, row-right}
-use Rattle.images.proofs.States.{state-exactly, memory-back, pad-take, types-length}
+use Rattle.images.proofs.States.{pad-length, state-exactly, memory-back, pad-take, types-length}
 use Rattle.images.proofs.Outcomes.{row-outcome}
 use Rattle.lines.specs.declared.Followed.{Followed}
 use Rattle.lines.specs.declared.Followed.the-variants.{Reached, Stopped, Spent}
@@ -33,7 +34,7 @@ use Rattle.table.specs.declared.RowCheck.the-variants.{Right, WrongAt}
 use Rattle.table.specs.Answers.{checkOf}
 use Rattle.cycle.specs.declared.Advanced.{Advanced}
 use Rattle.cycle.specs.Ran.{Checked, went, ranFor}
-use Rattle.cycle.specs.Advances.{Advances}
+use Rattle.cycle.specs.Advances.{cycledOf, rowAfter, Moves, Advances}
 use Rattle.cycle.proofs.Runs.{cycle-ran}
 
 pad-first : (n k : ℕ) (l : List ℤ) → length l ≡ k → k ≤ n → take k (pad n l) ≡ l
@@ -43,10 +44,6 @@ pad-first n zero (z ∷ l) e h = absurd (omega arith)
 pad-first n (suc k) [] e h = absurd (omega arith)
 pad-first zero (suc k) (z ∷ l) e h = absurd (omega arith)
 pad-first (suc n) (suc k) (z ∷ l) e h = ap (λ (m : List ℤ). z ∷ m) (pad-first n k l (omega arith) (omega arith))
-
--- a row that has no place for more than the outputs is written whole
-pub row-full : (o row u : List ℤ) → length o ≡ 16 → length row ≤ 16 → u ≡ take (length row) o ++ drop (length o) row → u ≡ take (length row) o
-row-full o row u e h q = q ∙ rw (drop-of-length-le row {i = length o} (omega arith), append-nil)
 
 module _ (s l c : List ℕ) (t : Table) (h : Checked s l c t) (x : State) (i o : List ℤ)
     (right : rowPlace (t .signature) i (length o) ≡ none) (ok : stateOk t x ≡ true) where
@@ -74,18 +71,13 @@ module _ (s l c : List ℕ) (t : Table) (h : Checked s l c t) (x : State) (i o :
       moved e f g q = rw (e, f, g) q
 
   -- a wait was reached
-  pub reached-advances : (p n : ℕ) (o′ v′ : List ℤ) → went (Reached p n) o′ v′ ≡ ranFor t l c (x .place) i (x .outputs) (x .variables)
-      → (p < 65536) × ((length o ≤ 16) × ((a : Advanced) (row : List ℤ) → a ≡ record { state = record { place = p; outputs = o′; variables = v′ }; answer = Performed n }
-      → row ≡ take (length o) o′ → Advances (rowOf t x i o) a row))
+  pub reached-moves : (p n : ℕ) (o′ v′ : List ℤ) → went (Reached p n) o′ v′ ≡ ranFor t l c (x .place) i (x .outputs) (x .variables)
+      → (p < 65536) × ((a : Advanced) → a ≡ record { state = record { place = p; outputs = o′; variables = v′ }; answer = Performed n } → Moves (rowOf t x i o) a)
   unfolding stateFor
-  reached-advances p n o′ v′ e = on (rowOf t x i o) refl (row-outcome t (h .held .good) x i o)
+  reached-moves p n o′ v′ e = on (rowOf t x i o) refl (row-outcome t (h .held .good) x i o)
     where
-      few : length o ≤ 16
-      few = omega (arith, row-right (t .signature) i (length o) right .1, h .held .good .signature .outputs)
-
       on : (r : Called) → rowOf t x i o ≡ r → Outcome t x i o r
-          → (p < 65536) × ((length o ≤ 16) × ((a : Advanced) (row : List ℤ) → a ≡ record { state = record { place = p; outputs = o′; variables = v′ }; answer = Performed n }
-          → row ≡ take (length o) o′ → Advances (rowOf t x i o) a row))
+          → (p < 65536) × ((a : Advanced) → a ≡ record { state = record { place = p; outputs = o′; variables = v′ }; answer = Performed n } → Moves (rowOf t x i o) a)
       on r q (row-refused k m) = none-some k (sym right ∙ row-exactly (t .signature) i (length o) k .1 m)
       on r q (state-refused m g) = absurd (g good)
       on r q (operator-refused y m g b z) =
@@ -102,32 +94,27 @@ module _ (s l c : List ℕ) (t : Table) (h : Checked s l c t) (x : State) (i o :
           let ve : v′ ≡ pad 32 (τ .memory .variables) = ap (λ (k : Went). k .variables) a in
           let lt : p < 65536 = omega (arith, w .inside, h .held .good .few-lines) in (
             lt,
-            (
-              few,
-              λ A row ea er. subst (λ (k : Called). Advances k A row) (sym q) (record {
-                answer = ap (λ (k : Advanced). k .answer) ea ∙ ap Performed ne;
-                state = ap (λ (k : Advanced). k .state) ea ∙ (λ j. record { place = pe j; outputs = oe j; variables = ve j });
-                row = er ∙ ap (take (length o)) oe ∙ pad-first 16 (length o) (τ .memory .outputs) lo few;
-              }),
-            ),
+            λ A ea. subst (λ (k : Called). Moves k A) (sym q) (record {
+              answer = ap (λ (k : Advanced). k .answer) ea ∙ ap Performed ne;
+              state = ap (λ (k : Advanced). k .state) ea ∙ (λ j. record { place = pe j; outputs = oe j; variables = ve j });
+            }),
           )
 
   -- an operator was refused
-  pub stopped-advances : (z y : ℕ) (o′ v′ : List ℤ) → went (Stopped z y) o′ v′ ≡ ranFor t l c (x .place) i (x .outputs) (x .variables)
-      → (a : Advanced) → a ≡ record { state = x; answer = NotPerformed (OutOfRange y) } → Advances (rowOf t x i o) a o
-  stopped-advances z y o′ v′ e a ea = on (rowOf t x i o) refl (row-outcome t (h .held .good) x i o)
+  pub stopped-moves : (z y : ℕ) (o′ v′ : List ℤ) → went (Stopped z y) o′ v′ ≡ ranFor t l c (x .place) i (x .outputs) (x .variables)
+      → (a : Advanced) → a ≡ record { state = x; answer = NotPerformed (OutOfRange y) } → Moves (rowOf t x i o) a
+  stopped-moves z y o′ v′ e a ea = on (rowOf t x i o) refl (row-outcome t (h .held .good) x i o)
     where
-      on : (r : Called) → rowOf t x i o ≡ r → Outcome t x i o r → Advances (rowOf t x i o) a o
+      on : (r : Called) → rowOf t x i o ≡ r → Outcome t x i o r → Moves (rowOf t x i o) a
       on r q (row-refused k m) = none-some k (sym right ∙ row-exactly (t .signature) i (length o) k .1 m)
       on r q (state-refused m g) = absurd (g good)
       on r q (operator-refused y′ m g b u) =
           let w : ranFor t l c (x .place) i (x .outputs) (x .variables) .answer ≡ Stopped 16 y′ = rw u at state-shows in
           let f : Stopped z y ≡ Stopped 16 y′ = ap (λ (k : Went). k .answer) e ∙ w in
           let ye : y ≡ y′ = cc in
-          subst (λ (k : Called). Advances k a o) (sym q) (record {
+          subst (λ (k : Called). Moves k a) (sym q) (record {
             answer = ap (λ (k : Advanced). k .answer) ea ∙ ap (λ (k : ℕ). NotPerformed (OutOfRange k)) ye;
             state = ap (λ (k : Advanced). k .state) ea;
-            row = refl;
           })
       on r q (performs p τ m g u w d gs lo) =
           let f = ap (λ (k : Went). k .answer) (e ∙ (rw u at state-shows)) in
@@ -175,7 +162,23 @@ module _ (t : Table) (x : State) (i o : List ℤ) where
           absurd (let d : _≡_ {A = ℕ} 0 1 = cc in omega arith)
 
   -- 15
-  pub state-advances : rowPlace (t .signature) i (length o) ≡ none → stateOk t x ≡ false → (a : Advanced) → a ≡ record { state = x; answer = NotPerformed BadState }
-      → Advances (rowOf t x i o) a o
+  pub state-moves : rowPlace (t .signature) i (length o) ≡ none → stateOk t x ≡ false → (a : Advanced) → a ≡ record { state = x; answer = NotPerformed BadState }
+      → Moves (rowOf t x i o) a
   unfolding rowOf
-  state-advances z f a ea = rw (z, f) (record { answer = ap (λ (u : Advanced). u .answer) ea; state = ap (λ (u : Advanced). u .state) ea; row = refl })
+  state-moves z f a ea = rw (z, f) (record { answer = ap (λ (u : Advanced). u .answer) ea; state = ap (λ (u : Advanced). u .state) ea })
+
+  -- the row that is left with answer and state: by cases on what the row came to
+  pub row-shown : GoodTable t → rowPlace (t .signature) i (length o) ≡ none → (a r : Advanced) (u : List ℤ) → Moves (rowOf t x i o) a → r ≡ a → u ≡ rowAfter (a .answer) (a .state .outputs) o
+      → (r .answer ≡ cycledOf (rowOf t x i o .answer)) × (r .state ≡ rowOf t x i o .state) × (u ≡ rowOf t x i o .row)
+  unfolding stateFor
+  row-shown g right a r u m e f =
+      (ap (λ (k : Advanced). k .answer) e ∙ m .answer, ap (λ (k : Advanced). k .state) e ∙ m .state, f ∙ rw (m .answer, m .state) (on (rowOf t x i o) (row-outcome t g x i o)))
+    where
+      on : (c : Called) → Outcome t x i o c → rowAfter (cycledOf (c .answer)) (c .state .outputs) o ≡ c .row
+      on c (row-refused k m) = refl
+      on c (state-refused m w) = refl
+      on c (operator-refused y m w b z) = refl
+      on c (performs p τ m w z v y gs lo) =
+          let few : length o ≤ 16 = omega (arith, row-right (t .signature) i (length o) right .1, g .signature .outputs) in
+          let n : length (pad 16 (τ .memory .outputs)) ≡ 16 = pad-length 16 (τ .memory .outputs) in
+          rw (drop-of-length-le o {i = length (pad 16 (τ .memory .outputs))} (omega arith), append-nil) (pad-first 16 (length o) (τ .memory .outputs) lo few)

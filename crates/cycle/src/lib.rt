@@ -1,16 +1,17 @@
 // A cycle on the sections of an opened image.
 ghost use mathlib.Core.Path.{_≡_};
 ghost use mathlib.Core.List.{List};
-ghost use Prim.Native.Nat.{_≤_, _<_};
+ghost use Prim.Native.Nat.{_<_};
 ghost use mathlib.Core.Option.{none};
 ghost use lib.ListN.{length, take};
+ghost use lib.IntN.{ℤ};
 ghost use Rattle.format.specs.Image.{Table};
 ghost use mathlib.Core.Bool.{true};
 ghost use Rattle.format.specs.State.{placeOk};
 ghost use Rattle.answers.specs.declared.Cycled.the-variants.{Performed, NotPerformed};
 ghost use Rattle.format.specs.Cycle.{rowPlace, rowOf};
 ghost use Rattle.format.specs.State.{stateOk};
-ghost use Rattle.cycle.specs.Advances.{cycledOf, Advances};
+ghost use Rattle.cycle.specs.Advances.{cycledOf, isPerformed, rowAfter, Moves};
 ghost use Rattle.cycle.specs.Ran.{Checked, went, ranFor};
 use answers::Cycled;
 use answers::Refusal;
@@ -74,22 +75,13 @@ fn refused(s: State, r: Refusal) -> Advanced
     }
 }
 
-// A performed cycle: the wait reached, the slots, the output row. No line of an opened image is that high.
-fn performed(
-    s: State,
-    p: u32,
-    n: u32,
-    outputs: [i32; 16],
-    variables: [i32; 32],
-    row: &mut [i32],
-) -> Advanced
-    ensures { λ a. ⌜ (p < 65536 → length (now (row .entry)) ≤ 16
-        → (a ≡ record { state = record { place = p; outputs = outputs; variables = variables }; answer = Performed n }) × (now (row .exit) ≡ take (length (now (row .entry))) outputs)) ⌝ }
+// A performed cycle: the wait reached, and the slots. No line of an opened image is that high.
+fn performed(s: State, p: u32, n: u32, outputs: [i32; 16], variables: [i32; 32]) -> Advanced
+    ensures { λ a. ⌜ (p < 65536 → a ≡ record { state = record { place = p; outputs = outputs; variables = variables }; answer = Performed n }) ⌝ }
 {
     if 65535 < p {
         return refused(s, Refusal::BadState);
     }
-    table::rows::write_row(&outputs, row);
     let state = State {
         place: p as u16,
         outputs: outputs,
@@ -102,17 +94,9 @@ fn performed(
 }
 
 // One cycle, where rows and state are right.
-fn run(
-    signature: &[u8],
-    lines: &[u8],
-    code: &[u8],
-    inputs: &[i32],
-    s: State,
-    row: &mut [i32],
-) -> Advanced
-    ensures { λ a. ⌜ ((t : Table) → Checked (now (signature .entry)) (now (lines .entry)) (now (code .entry)) t
-        → rowPlace (t .signature) (now (inputs .entry)) (length (now (row .entry))) ≡ none → stateOk t s ≡ true
-        → Advances (rowOf t s (now (inputs .entry)) (now (row .entry))) a (now (row .exit))) ⌝ }
+fn run(signature: &[u8], lines: &[u8], code: &[u8], inputs: &[i32], s: State) -> Advanced
+    ensures { λ a. ⌜ ((t : Table) (o : List ℤ) → Checked (now (signature .entry)) (now (lines .entry)) (now (code .entry)) t
+        → rowPlace (t .signature) (now (inputs .entry)) (length o) ≡ none → stateOk t s ≡ true → Moves (rowOf t s (now (inputs .entry)) o) a) ⌝ }
 {
     let outputs_before = s.outputs;
     let variables_before = s.variables;
@@ -128,7 +112,7 @@ fn run(
         &mut variables,
     );
     match f {
-        Followed::Reached(p, n) => performed(s, p, n, outputs, variables, row),
+        Followed::Reached(p, n) => performed(s, p, n, outputs, variables),
         Followed::Stopped(_, x) => {
             let at = x as usize;
             refused(s, Refusal::OutOfRange(at))
@@ -138,23 +122,40 @@ fn run(
 }
 
 // One cycle, where the rows are right: refusal 15, or the cycle.
-fn judged(
-    signature: &[u8],
-    lines: &[u8],
-    code: &[u8],
-    inputs: &[i32],
-    s: State,
-    row: &mut [i32],
-) -> Advanced
-    ensures { λ a. ⌜ ((t : Table) → Checked (now (signature .entry)) (now (lines .entry)) (now (code .entry)) t
-        → rowPlace (t .signature) (now (inputs .entry)) (length (now (row .entry))) ≡ none
-        → Advances (rowOf t s (now (inputs .entry)) (now (row .entry))) a (now (row .exit))) ⌝ }
+fn judged(signature: &[u8], lines: &[u8], code: &[u8], inputs: &[i32], s: State) -> Advanced
+    ensures { λ a. ⌜ ((t : Table) (o : List ℤ) → Checked (now (signature .entry)) (now (lines .entry)) (now (code .entry)) t
+        → rowPlace (t .signature) (now (inputs .entry)) (length o) ≡ none → Moves (rowOf t s (now (inputs .entry)) o) a) ⌝ }
 {
     let right = table::states::state_ok(signature, lines, s);
     if right {
-        return run(signature, lines, code, inputs, s, row);
+        return run(signature, lines, code, inputs, s);
     }
     refused(s, Refusal::BadState)
+}
+
+// Whether a cycle was performed.
+fn is_performed(c: Cycled) -> bool
+    ensures { λ r. ⌜ r ≡ isPerformed c ⌝ }
+{
+    match c {
+        Cycled::Performed(_) => true,
+        Cycled::NotPerformed(_) => false,
+    }
+}
+
+// The output row of a cycle: it gets the outputs where the cycle was performed.
+fn show(a: Advanced, row: &mut [i32]) -> Advanced
+    ensures { λ r. ⌜ (r ≡ a) × (now (row .exit) ≡ rowAfter (a .answer) (a .state .outputs) (now (row .entry))) ⌝ }
+{
+    let answer = a.answer;
+    let done = is_performed(answer);
+    if done {
+        let state = a.state;
+        let outputs = state.outputs;
+        table::rows::write_row(&outputs, row);
+        return a;
+    }
+    a
 }
 
 // One cycle on the sections of an opened image: 14, then 15, then the lines. A refused one hands back the state, and the output row is as it was.
@@ -173,7 +174,10 @@ pub fn advance(
 {
     let check = table::rows::row_place(signature, inputs, row.len());
     match check {
-        RowCheck::Right => judged(signature, lines, code, inputs, s, row),
+        RowCheck::Right => {
+            let a = judged(signature, lines, code, inputs, s);
+            show(a, row)
+        }
         RowCheck::WrongAt(k) => refused(s, Refusal::BadRow(k)),
     }
 }

@@ -8,15 +8,17 @@ use lib.IntN.{ℤ}
 use Rattle.answers.specs.Answers.{linesOf}
 use Rattle.answers.specs.declared.State.{State}
 use Rattle.format.specs.Cycle.{cycleOf}
-use Rattle.cycle.specs.Advances.{cycledOf}
+use Rattle.cycle.specs.Advances.{cycledOf, isPerformed}
 use Rattle.runtime.specs.Calls.{wayOf, firstReach}
 use Rattle.runtime.specs.declared.Outcome.{Outcome}
 
--- the outcome r and the output row u as it is left are those of the call; `kept`: a cycle that was not performed leaves the state s
+-- the outcome r and the output row u as it is left are those of the call; `told`: it says whether the cycle was performed; `kept`: a cycle that was not
+-- performed leaves the state s
 pub record Outcomes (b : List ℕ) (s : State) (i o : List ℤ) (r : Outcome) (u : List ℤ) : Type 0 where
   pub answer : r .answer ≡ cycledOf (cycleOf b s i o .answer)
   pub state : r .state ≡ cycleOf b s i o .state
   pub row : u ≡ cycleOf b s i o .row
   pub count : linesOf (r .answer) ≡ length (wayOf (cycleOf b s i o .answer))
   pub bound : linesOf (r .answer) ≤ firstReach b (s .place) + 1
+  pub told : r .performed ≡ isPerformed (r .answer)
   pub kept : r .performed ≡ false → cycleOf b s i o .state ≡ s

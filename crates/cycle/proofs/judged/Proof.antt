@@ -1,7 +1,7 @@
 -- `cycle::judged` meets its contract: 15, or the cycle where the state is right. Assumes nothing.
 use mathlib.Core.Path.{sym, _∙_}
 use borrow.Author.Needs.{needs}
-use Rattle.cycle.proofs.Calls.{state-advances}
+use Rattle.cycle.proofs.Calls.{state-moves}
 use Rattle.cycle.proofs.judged.Statement.{statement}
 use Rattle.cycle.proofs.judged.Tie as tie
 
@@ -11,20 +11,16 @@ state-ok-requires c κs = search needs
 run-requires : tie.Need-run-requires
 run-requires c κs = search needs
 
-same-length : tie.Need-same-length
-same-length c = search needs
-
 returns : tie.Need-returns
-returns c t h right = c .before .run .ensures t h right (sym (c .before .before .before .before .state-ok .ensures t (c .before .before .before .before .before .before .before .before .args .code .now) (h .opens)) ∙ c .before .before .before .if1 .taken)
+returns c t o h right = c .run .ensures t o h right (sym (c .before .before .state-ok .ensures t (c .before .before .before .before .before .before .args .code .now) (h .opens)) ∙ c .before .if1 .taken)
 
 refused-requires : tie.Need-refused-requires
 refused-requires c κs = search needs
 
 returns-2 : tie.Need-returns-2
-returns-2 c t h right =
-    state-advances t (c .before .before .before .before .before .before .args .s) (c .before .before .before .before .before .before .args .inputs .now) (c .before .before .before .before .before .before .args .row .now) right (sym (c .before .before .state-ok .ensures t (c .before .before .before .before .before .before .args .code .now) (h .opens)) ∙ c .before .if1 .left) _ (c .refused .ensures)
+returns-2 c t o h right =
+    state-moves t (c .before .before .before .before .before .before .args .s) (c .before .before .before .before .before .before .args .inputs .now) o right (sym (c .before .before .state-ok .ensures t (c .before .before .before .before .before .before .args .code .now) (h .opens)) ∙ c .before .if1 .left) _ (c .refused .ensures)
 
 pub judged-spec : {M : Type 1} → statement M
 judged-spec =
-    tie.close
-    (tie.spec state-ok-requires run-requires same-length returns refused-requires returns-2)
+    tie.close (tie.spec state-ok-requires run-requires returns refused-requires returns-2)

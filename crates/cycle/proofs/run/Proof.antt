@@ -1,6 +1,6 @@
 -- `cycle::run` meets its contract: a wait reached, an operator refused, and never the lines spent. Assumes nothing.
 use borrow.Author.Needs.{needs}
-use Rattle.cycle.proofs.Calls.{place-right, reached-advances, stopped-advances, spent-never}
+use Rattle.cycle.proofs.Calls.{place-right, reached-moves, stopped-moves, spent-never}
 use Rattle.cycle.proofs.run.Statement.{statement}
 use Rattle.cycle.proofs.run.Tie as tie
 
@@ -34,31 +34,24 @@ enum-told c = search needs
 refused-requires-2 : tie.Need-refused-requires-2
 refused-requires-2 c κs = search needs
 
-same-length : tie.Need-same-length
-same-length c = search needs
-
 returns : tie.Need-returns
-returns c t h right ok =
-    let a = c .before .before .before .before .before .before .before .before .before .before .before .before .before .before .before .before .args in
-    let place = place-right (a .signature .now) (a .lines .now) (a .code .now) t h (a .s) (a .inputs .now) (a .row .now) right ok in
-    let e = rw (c .before .before .before .before .f .given .1) at (c .before .before .before .before .before .before .before .before .follow-from .ensures t h place) in
-    let r = reached-advances (a .signature .now) (a .lines .now) (a .code .now) t h (a .s) (a .inputs .now) (a .row .now) right ok _ _ _ _ e in
-    let p = c .before .performed .ensures (r .0) (r .1 .0) in
-    r .1 .1 _ _ (p .0) (p .1)
+returns c t o h right ok =
+    let a = c .before .before .before .before .before .before .before .before .before .before .before .before .before .before .args in
+    let e = rw (c .before .before .f .given .1) at (c .before .before .before .before .before .before .follow-from .ensures t h (place-right (a .signature .now) (a .lines .now) (a .code .now) t h (a .s) (a .inputs .now) o right ok)) in
+    let r = reached-moves (a .signature .now) (a .lines .now) (a .code .now) t h (a .s) (a .inputs .now) o right ok _ _ _ _ e in
+    r .1 _ (c .performed .ensures (r .0))
 
 returns-2 : tie.Need-returns-2
-returns-2 c t h right ok =
+returns-2 c t o h right ok =
     let a = c .before .before .before .before .before .before .before .before .before .before .before .before .before .before .args in
-    let place = place-right (a .signature .now) (a .lines .now) (a .code .now) t h (a .s) (a .inputs .now) (a .row .now) right ok in
-    let e = rw (c .before .before .f2 .given .1) at (c .before .before .before .before .before .before .follow-from .ensures t h place) in
-    stopped-advances (a .signature .now) (a .lines .now) (a .code .now) t h (a .s) (a .inputs .now) (a .row .now) right ok _ _ _ _ e _ (c .refused .ensures)
+    let e = rw (c .before .before .f2 .given .1) at (c .before .before .before .before .before .before .follow-from .ensures t h (place-right (a .signature .now) (a .lines .now) (a .code .now) t h (a .s) (a .inputs .now) o right ok)) in
+    stopped-moves (a .signature .now) (a .lines .now) (a .code .now) t h (a .s) (a .inputs .now) o right ok _ _ _ _ e _ (c .refused .ensures)
 
 returns-3 : tie.Need-returns-3
-returns-3 c t h right ok =
+returns-3 c t o h right ok =
     let a = c .before .before .before .before .before .before .before .before .before .before .before .before .before .args in
-    let place = place-right (a .signature .now) (a .lines .now) (a .code .now) t h (a .s) (a .inputs .now) (a .row .now) right ok in
-    let e = rw (c .before .enum-told .given .1) at (c .before .before .before .before .before .follow-from .ensures t h place) in
-    spent-never (a .signature .now) (a .lines .now) (a .code .now) t h (a .s) (a .inputs .now) (a .row .now) right ok _ _ e
+    let e = rw (c .before .enum-told .given .1) at (c .before .before .before .before .before .follow-from .ensures t h (place-right (a .signature .now) (a .lines .now) (a .code .now) t h (a .s) (a .inputs .now) o right ok)) in
+    spent-never (a .signature .now) (a .lines .now) (a .code .now) t h (a .s) (a .inputs .now) o right ok _ _ e
 
 pub run-spec : {M : Type 1} → statement M
 run-spec =
@@ -74,7 +67,6 @@ run-spec =
     refused-requires
     enum-told
     refused-requires-2
-    same-length
     returns
     returns-2
     returns-3)

@@ -1,8 +1,8 @@
 -- `runtime::cycle_outcome` meets its contract: a refused cycle hands back the state. Assumes nothing.
-use mathlib.Core.Path.{sym}
+use mathlib.Core.Path.{sym, ap}
 use borrow.Author.Needs.{needs}
-use Rattle.semantics.proofs.Basic.{false-true}
-use Rattle.runtime.proofs.Stored.{outcome-of, refused-kept}
+use Rattle.cycle.specs.Advances.{isPerformed}
+use Rattle.runtime.proofs.Stored.{outcome-of}
 use Rattle.runtime.proofs.cycle_outcome.Statement.{statement}
 use Rattle.runtime.proofs.cycle_outcome.Tie as tie
 
@@ -21,7 +21,7 @@ same-length c = search needs
 returns : tie.Need-returns
 returns c =
     let a = c .before .before .before .before .before .before .before .args in
-    outcome-of (a .image .now) (a .s) (a .inputs .now) (a .row .now) _ _ (c .before .before .before .before .cycle .ensures) _ (λ e. false-true (sym e))
+    outcome-of (a .image .now) (a .s) (a .inputs .now) (a .row .now) _ _ (c .before .before .before .before .cycle .ensures) _ (sym (ap isPerformed (c .enum-told .given .1)))
 
 same-length-2 : tie.Need-same-length-2
 same-length-2 c = search needs
@@ -29,9 +29,7 @@ same-length-2 c = search needs
 returns-2 : tie.Need-returns-2
 returns-2 c =
     let a = c .before .before .before .before .before .before .before .args in
-    let e = c .before .before .before .before .cycle .ensures in
-    outcome-of (a .image .now) (a .s) (a .inputs .now) (a .row .now) _ _ e _
-    (λ _. refused-kept (a .image .now) (a .s) (a .inputs .now) (a .row .now) _ _ e _ (c .enum-told2 .given .1))
+    outcome-of (a .image .now) (a .s) (a .inputs .now) (a .row .now) _ _ (c .before .before .before .before .cycle .ensures) _ (sym (ap isPerformed (c .enum-told2 .given .1)))
 
 pub cycle-outcome-spec : {M : Type 1} → statement M
 cycle-outcome-spec =

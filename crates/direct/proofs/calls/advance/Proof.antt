@@ -1,0 +1,54 @@
+-- `direct::calls::advance` meets its contract: 14 is judged as the definition judges it. Assumes nothing.
+use Prim.Native.Nat.{ℕ}
+use mathlib.Core.Path.{ap, _∙_}
+use mathlib.Core.Option.{Option}
+use lib.ListN.{length}
+use Rattle.direct.specs.Checks.{checkOf}
+use Rattle.direct.proofs.CallLaws.{row-law, row-right, call-row}
+use borrow.Author.Needs.{needs}
+use Rattle.direct.proofs.calls.advance.Statement.{statement}
+use Rattle.direct.proofs.calls.advance.Tie as tie
+
+row-check-requires : tie.Need-row-check-requires
+row-check-requires c κs = search needs
+
+enum-told : tie.Need-enum-told
+enum-told c = search needs
+
+judged-requires : tie.Need-judged-requires
+judged-requires c κs = search needs
+
+enum-known-check : tie.Need-enum-known-check
+enum-known-check c = search needs
+
+refused-requires : tie.Need-refused-requires
+refused-requires c κs = search needs
+
+same-length : tie.Need-same-length
+same-length c = search needs
+
+returns : tie.Need-returns
+returns c =
+    λ p d n.
+    c .before .judged .ensures p (c .before .before .before .before .before .before .before .before .before .before .before .args .input-types .now) d n
+    (row-right p (c .before .before .before .before .before .before .before .before .before .before .before .args .s) (c .before .before .before .before .before .before .before .before .before .before .before .args .inputs .now) (c .before .before .before .before .before .before .before .before .before .before .before .args .row .now) (c .before .before .before .before .before .row-check .result)
+    (c .before .before .before .before .before .row-check .ensures ∙ ap (λ (x : Option ℕ). checkOf x) (row-law p (c .before .before .before .before .before .before .before .before .before .before .before .args .input-types .now) (c .before .before .before .before .before .before .before .before .before .before .before .args .output-types .now) (c .before .before .before .before .before .before .before .before .before .before .before .args .variable-types .now) (c .before .before .before .before .before .before .before .before .before .before .before .args .inputs .now) (length (c .before .before .before .before .before .before .before .before .before .before .before .args .row .now)) n)) (c .before .before .before .enum-told .given .1))
+
+returns-2 : tie.Need-returns-2
+returns-2 c =
+    λ p d n.
+    call-row p (c .before .before .before .before .before .before .before .before .before .before .args .s) (c .before .before .before .before .before .before .before .before .before .before .args .inputs .now) (c .before .before .before .before .before .before .before .before .before .before .args .row .now) (c .before .before .check .given .0 .0) (c .before .before .before .before .row-check .result)
+    (c .before .before .before .before .row-check .ensures ∙ ap (λ (x : Option ℕ). checkOf x) (row-law p (c .before .before .before .before .before .before .before .before .before .before .args .input-types .now) (c .before .before .before .before .before .before .before .before .before .before .args .output-types .now) (c .before .before .before .before .before .before .before .before .before .before .args .variable-types .now) (c .before .before .before .before .before .before .before .before .before .before .args .inputs .now) (length (c .before .before .before .before .before .before .before .before .before .before .args .row .now)) n)) (c .before .before .check .given .1) (c .refused .result) (c .refused .ensures)
+
+pub advance-spec : {M : Type 1} → statement M
+advance-spec =
+    tie.close
+    (tie.spec
+    row-check-requires
+    enum-told
+    judged-requires
+    enum-known-check
+    refused-requires
+    same-length
+    returns
+    returns-2)

@@ -1,0 +1,114 @@
+-- `direct::calls::run` meets its contract: the cycle works on the parts of the slots that are in use. Assumes nothing.
+use mathlib.Core.Path.{_≡_}
+use native.Mathlib.Omega.{arith}
+use lib.ListN.{length}
+use Rattle.direct.proofs.CallLaws.{placed, run-passed, run-reached, run-refused}
+use borrow.Author.Needs.{needs}
+use Rattle.direct.proofs.calls.run.Statement.{statement}
+use Rattle.direct.proofs.calls.run.Tie as tie
+
+refused-requires : tie.Need-refused-requires
+refused-requires c κs = search needs
+
+returns : tie.Need-returns
+returns c = λ p d oc vc room f. absurd (let h = c .before .if1 .taken in let b = d .well-formed .outputs in omega arith)
+
+refused-requires-2 : tie.Need-refused-requires-2
+refused-requires-2 c κs = search needs
+
+returns-2 : tie.Need-returns-2
+returns-2 c = λ p d oc vc room f. absurd (let h = c .before .if2 .taken in let b = d .well-formed .variables in omega arith)
+
+cast-cycle : tie.Need-cast-cycle
+cast-cycle c = search needs
+
+sub-cycle : tie.Need-sub-cycle
+sub-cycle c = search needs
+
+part-outputs-start : tie.Need-part-outputs-start
+part-outputs-start c = search needs
+
+part-outputs-end : tie.Need-part-outputs-end
+part-outputs-end c = let lo : length (c .before .before .before .before .before .before .before .args .s .outputs) ≡ 16 = search needs in let h = c .before .before .before .before .if1 .left in omega arith
+
+sub-cycle-2 : tie.Need-sub-cycle-2
+sub-cycle-2 c = search needs
+
+part-variables-start : tie.Need-part-variables-start
+part-variables-start c = search needs
+
+part-variables-end : tie.Need-part-variables-end
+part-variables-end c = let lo : length (c .before .before .before .before .before .before .before .before .args .s .variables) ≡ 32 = search needs in let h = c .before .before .before .before .if2 .left in omega arith
+
+cycle-requires : tie.Need-cycle-requires
+cycle-requires c κs = search needs
+
+enum-known-r : tie.Need-enum-known-r
+enum-known-r c = search needs
+
+performed-requires : tie.Need-performed-requires
+performed-requires c κs = search needs
+
+enum-known-r-2 : tie.Need-enum-known-r-2
+enum-known-r-2 c = search needs
+
+performed-requires-2 : tie.Need-performed-requires-2
+performed-requires-2 c κs = search needs
+
+enum-known-r-3 : tie.Need-enum-known-r-3
+enum-known-r-3 c = search needs
+
+refused-requires-3 : tie.Need-refused-requires-3
+refused-requires-3 c κs = search needs
+
+same-length : tie.Need-same-length
+same-length c = search needs
+
+returns-3 : tie.Need-returns-3
+returns-3 c =
+    λ p d oc vc room f.
+    run-passed p (c .before .before .before .before .before .before .before .before .before .before .before .before .before .before .before .before .before .before .args .s) f (d .well-formed) (c .before .before .before .before .before .before .before .before .before .before .before .before .before .before .before .before .before .before .args .inputs .now) (c .before .before .before .before .before .before .before .before .before .before .before .before .before .before .before .before .before .before .args .row .now) room (c .before .before .before .before .before .before .before .before .before .before .before .before .before .before .before .before .before .before .args .output-count) (c .before .before .before .before .before .before .before .before .before .before .before .before .before .before .before .before .before .before .args .variable-count) oc vc _ _ (c .before .before .before .before .before .before .before .before .cycle .result) (c .before .before .before .before .r .given .0 .0) (c .before .performed .result) _
+    (c .before .before .before .before .before .before .before .before .cycle .ensures (p .body) (d .body) (d .block) (let b = d .well-formed .statements in let e = d .body .end in omega arith) (placed p (c .before .before .before .before .before .before .before .before .before .before .before .before .before .before .before .before .before .before .args .s) f)) (c .before .before .before .before .r .given .1) (c .before .performed .ensures) (search needs) (search needs)
+
+same-length-2 : tie.Need-same-length-2
+same-length-2 c = search needs
+
+returns-4 : tie.Need-returns-4
+returns-4 c =
+    λ p d oc vc room f.
+    run-reached p (c .before .before .before .before .before .before .before .before .before .before .before .before .before .before .before .before .before .before .args .s) f (d .well-formed) (c .before .before .before .before .before .before .before .before .before .before .before .before .before .before .before .before .before .before .args .inputs .now) (c .before .before .before .before .before .before .before .before .before .before .before .before .before .before .before .before .before .before .args .row .now) room (c .before .before .before .before .before .before .before .before .before .before .before .before .before .before .before .before .before .before .args .output-count) (c .before .before .before .before .before .before .before .before .before .before .before .before .before .before .before .before .before .before .args .variable-count) oc vc _ _ (c .before .before .before .before .before .before .before .before .cycle .result) (c .before .before .before .before .r2 .given .0 .0) (c .before .before .before .before .r2 .given .0 .1 .0) (c .before .performed2 .result) _
+    (c .before .before .before .before .before .before .before .before .cycle .ensures (p .body) (d .body) (d .block) (let b = d .well-formed .statements in let e = d .body .end in omega arith) (placed p (c .before .before .before .before .before .before .before .before .before .before .before .before .before .before .before .before .before .before .args .s) f)) (c .before .before .before .before .r2 .given .1) (c .before .performed2 .ensures) (search needs) (search needs)
+
+returns-5 : tie.Need-returns-5
+returns-5 c =
+    λ p d oc vc room f.
+    run-refused p (c .before .before .before .before .before .before .before .before .before .before .before .before .before .before .before .before .args .s) f (d .well-formed) (c .before .before .before .before .before .before .before .before .before .before .before .before .before .before .before .before .args .inputs .now) (c .before .before .before .before .before .before .before .before .before .before .before .before .before .before .before .before .args .row .now) room (c .before .before .before .before .before .before .before .before .before .before .before .before .before .before .before .before .args .output-count) (c .before .before .before .before .before .before .before .before .before .before .before .before .before .before .before .before .args .variable-count) oc vc _ _ (c .before .before .before .before .before .before .cycle .result) (c .before .before .r3 .given .0 .0) (c .refused3 .result)
+    (c .before .before .before .before .before .before .cycle .ensures (p .body) (d .body) (d .block) (let b = d .well-formed .statements in let e = d .body .end in omega arith) (placed p (c .before .before .before .before .before .before .before .before .before .before .before .before .before .before .before .before .args .s) f)) (c .before .before .r3 .given .1) (c .refused3 .ensures)
+
+pub run-spec : {M : Type 1} → statement M
+run-spec =
+    tie.close
+    (tie.spec
+    refused-requires
+    returns
+    refused-requires-2
+    returns-2
+    cast-cycle
+    sub-cycle
+    part-outputs-start
+    part-outputs-end
+    sub-cycle-2
+    part-variables-start
+    part-variables-end
+    cycle-requires
+    enum-known-r
+    performed-requires
+    enum-known-r-2
+    performed-requires-2
+    enum-known-r-3
+    refused-requires-3
+    same-length
+    returns-3
+    same-length-2
+    returns-4
+    returns-5)

@@ -1,0 +1,51 @@
+-- Statements that the arrays hold from one row up to another, and a block's statements from one of them on. Assumes nothing.
+use mathlib.Core.Path.{_≡_}
+use mathlib.Core.Bool.{true}
+use mathlib.Core.Option.{Option, none, some}
+use mathlib.Core.List.{List}
+use Prim.Native.Nat.{ℕ, _+_, _*_, _≤_, _<_}
+use lib.ListN.{getD}
+use lib.IntN.{ℤ}
+use Rattle.design.specs.Expression.{items}
+use Rattle.design.specs.Statement.{output, variable, null, Stmt, act, wait, if-then, if-else, while, seq, size, has}
+use Rattle.semantics.specs.Equations.{Run, Result, passed, start, resume}
+use Rattle.ir.specs.Entries.{Block}
+use Rattle.ir.specs.Arrays.{At}
+
+-- "64 literals, names and operators in an expression": no expression of a statement has more
+unfoldable pub Short : Stmt → Type 0
+Short (act (output k e)) = items e ≤ 64
+Short (act (variable k e)) = items e ≤ 64
+Short (act null) = Unit {0}
+Short wait = Unit {0}
+Short (if-then e a) = (items e ≤ 64) × Short a
+Short (if-else e a b) = (items e ≤ 64) × (Short a × Short b)
+Short (while e b) = (items e ≤ 64) × Short b
+Short (seq a b) = Short a × Short b
+
+-- the rows from j up to e are those of the statement s; m operations stand before its own
+pub record HeldIn (codes : List ℕ) (args : List ℤ) (rows : List ℕ) (s : Stmt) (j e : ℕ) : Type 0 where
+  pub m : ℕ
+  pub lies : At codes args rows s j m
+  pub short : Short s
+  pub end : e ≡ j + size s
+
+-- the rows from j up to e are those of a block, or there are none
+abbrev pub HeldRest : List ℕ → List ℤ → List ℕ → Option Stmt → ℕ → ℕ → Type 0
+HeldRest codes args rows none j e = (e ≡ j)
+HeldRest codes args rows (some s) j e = HeldIn codes args rows s j e × Block s
+
+-- a block started, its first number being j; no statements are passed
+abbrev pub startRest : Option Stmt → ℕ → List ℤ → Run → Result
+startRest none j i σ = passed σ
+startRest (some s) j i σ = start s j i σ
+
+-- "resumed, it begins at the part with the wait": of the statement s in the rows first .. e, the statements from row r on, the first of which has the
+-- wait p among its rows
+pub record Part (codes : List ℕ) (args : List ℤ) (rows : List ℕ) (s : Stmt) (first e p r : ℕ) : Type 0 where
+  pub from-it : Stmt
+  pub held : HeldIn codes args rows from-it r e
+  pub block : Block from-it
+  pub waits : has from-it r p ≡ true
+  pub inside : p < getD rows (6 * r + 5) 0
+  pub same : (i : List ℤ) (σ : Run) → resume s first p i σ ≡ resume from-it r p i σ

@@ -1,0 +1,152 @@
+-- Stores one behind another; the bytes by position are those of the design's code and lines. Assumes nothing.
+use Prim.Native.Nat.{ℕ, zero, suc, _+_, _%_, _≤_, _<_}
+use native.Mathlib.Omega.{arith}
+use mathlib.Core.Path.{_≡_, refl, sym, ap, _∙_}
+use mathlib.Core.Bool.{Bool, true, false, cond}
+use mathlib.Core.Option.{Option, none, some}
+use mathlib.Core.List.{List, [], _∷_, _++_, append-assoc}
+use lib.ListN.{length, getD, set, length-append}
+use lib.Seq.{sets}
+use lib.Dec.{eqb, ltb}
+use lib.IntN.{ℤ, pos}
+use Rattle.design.specs.Types.{Ty, ExprTy}
+use Rattle.design.specs.Expression.{Leaf, int, bit, input, variable, Unary, sign, invert, Binary, plus, minus, equal, unequal, less, at-most, greater, at-least, and, or, xor, Expr, leaf, unary, binary, nth, plainly, leafType, typeOf}
+use Rattle.format.specs.Words as Words
+use Rattle.format.specs.Image.{raw, rawBytes}
+use Rattle.format.specs.Code.{push, apply1, apply2, post, operationBytes, code}
+use Rattle.design.specs.Process.{fits}
+use Rattle.semantics.proofs.Basic.{none-some}
+use Rattle.format.proofs.Decoding.{given-some, given2-some}
+use Rattle.format.proofs.Lines.{fits-type}
+use Rattle.format.proofs.Encoded.{operation-append}
+use Rattle.ir.specs.Operations.{Op, op, leafOp, unaryCode, binaryCode, ops}
+use Rattle.ir.specs.Arrays.{opsFrom}
+use Rattle.encoder.specs.Emitted.{opBytes, opWidth, codeFrom, widthFrom}
+use Rattle.encoder.proofs.Sets.{sets-append}
+
+-- bytes stored behind others
+pub put-after : (l : List ℕ) {m n : List ℕ} (at : ℕ) (us vs : List ℕ) → m ≡ sets l at us → n ≡ sets m (at + length us) vs → n ≡ sets l at (us ++ vs)
+put-after l at us vs p q = q ∙ ap (λ (w : List ℕ). sets w (at + length us) vs) p ∙ sym (sets-append l at us vs)
+
+-- CODE
+
+-- the bytes of operations
+unfoldable pub flatBytes : List Op → List ℕ
+flatBytes [] = []
+flatBytes (o ∷ os) = opBytes (o .code) (o .arg) ++ flatBytes os
+
+pub flat-append : (a b : List Op) → flatBytes (a ++ b) ≡ flatBytes a ++ flatBytes b
+unfolding flatBytes
+flat-append [] b = refl
+flat-append (o ∷ a) b = ap (λ (l : List ℕ). opBytes (o .code) (o .arg) ++ l) (flat-append a b) ∙ sym (append-assoc (opBytes (o .code) (o .arg)) (flatBytes a) (flatBytes b))
+
+pub code-flat : (codes : List ℕ) (args : List ℤ) (m c : ℕ) → codeFrom codes args m c ≡ flatBytes (opsFrom codes args m c)
+unfolding codeFrom flatBytes opsFrom
+code-flat codes args m zero = refl
+code-flat codes args m (suc c) = ap (λ (l : List ℕ). opBytes (getD codes m 0) (getD args m (pos 0)) ++ l) (code-flat codes args (m + 1) c)
+
+pub width-op : (c : ℕ) (z : ℤ) → opWidth c ≡ length (opBytes c z)
+unfolding opWidth opBytes
+width-op c z = go (eqb c 1) (ltb c 5)
+  where
+    go : (a b : Bool) → cond a 5 (cond b 2 1) ≡ length (cond a (c ∷ Words.bytes4 (Words.unsigned32 z)) (cond b (c ∷ Words.unsigned32 z % 256 ∷ []) (c ∷ [])))
+    go true b = refl
+    go false true = refl
+    go false false = refl
+
+pub width-code : (codes : List ℕ) (args : List ℤ) (m c : ℕ) → widthFrom codes m c ≡ length (codeFrom codes args m c)
+unfolding codeFrom widthFrom
+width-code codes args m zero = refl
+width-code codes args m (suc c) =
+    let h = width-code codes args (m + 1) c in
+    let w = width-op (getD codes m 0) (getD args m (pos 0)) in
+    let l = length-append (opBytes (getD codes m 0) (getD args m (pos 0))) (codeFrom codes args (m + 1) c) in
+    omega arith
+
+unary-flat : (o : Unary) → flatBytes (op (unaryCode o) (pos 0) ∷ []) ≡ operationBytes (apply1 o ∷ [])
+unfolding flatBytes opBytes operationBytes
+unary-flat sign = refl
+unary-flat invert = refl
+
+binary-flat : (o : Binary) → flatBytes (op (binaryCode o) (pos 0) ∷ []) ≡ operationBytes (apply2 o ∷ [])
+unfolding flatBytes opBytes operationBytes
+binary-flat plus = refl
+binary-flat minus = refl
+binary-flat equal = refl
+binary-flat unequal = refl
+binary-flat less = refl
+binary-flat at-most = refl
+binary-flat greater = refl
+binary-flat at-least = refl
+binary-flat and = refl
+binary-flat or = refl
+binary-flat xor = refl
+
+nth-below : {X : Type 0} (l : List X) (k : ℕ) (x : X) → nth l k ≡ some x → k < length l
+unfolding nth
+nth-below [] k x e = none-some x e
+nth-below (y ∷ l) zero x e = omega arith
+nth-below (y ∷ l) (suc k) x e = let h = nth-below l k x e in omega arith
+
+-- a name that has a type is one of the declared
+pub named-below : (l : List Ty) (k : ℕ) (t : ExprTy) → plainly (nth l k) ≡ some t → k < length l
+named-below l k t e = go (nth l k) refl e
+  where
+    go : (o : Option Ty) → nth l k ≡ o → plainly o ≡ some t → k < length l
+    go none q m = unfold plainly in none-some t m
+    go (some s) q m = nth-below l k s q
+
+append-both : {a a′ b b′ : List ℕ} → a ≡ a′ → b ≡ b′ → a ++ b ≡ a′ ++ b′
+append-both e g = rw (e, g)
+
+module _ (is vs : List Ty) (hi : length is ≤ 256) (hv : length vs ≤ 256) where
+  leaf-flat : (l : Leaf) (t : ExprTy) → leafType is vs l ≡ some t → flatBytes (leafOp l ∷ []) ≡ operationBytes (push l ∷ [])
+  unfolding flatBytes opBytes operationBytes leafType
+  leaf-flat (int z) t e = refl
+  leaf-flat (bit true) t e = refl
+  leaf-flat (bit false) t e = refl
+  leaf-flat (input k) t e = let b = named-below is k t e in let z : k % 256 ≡ k = omega arith in rw z
+  leaf-flat (variable k) t e = let b = named-below vs k t e in let z : k % 256 ≡ k = omega arith in rw z
+
+  -- the bytes of an expression's operations are its code
+  ops-flat : (e : Expr) (t : ExprTy) → typeOf is vs e ≡ some t → flatBytes (ops e) ≡ operationBytes (post e)
+  unfolding typeOf post ops
+  ops-flat (leaf l) t h = leaf-flat l t h
+  ops-flat (unary o s a) t h =
+      flat-append (ops a) (op (unaryCode o) (pos 0) ∷ []) ∙ append-both (ops-flat a s (given-some _ s t _ h .0)) (unary-flat o)
+      ∙ sym (operation-append (post a) (apply1 o ∷ []))
+  ops-flat (binary o s a b) t h =
+      let p = given2-some _ s t _ _ h in
+      flat-append (ops a) (ops b ++ (op (binaryCode o) (pos 0) ∷ []))
+      ∙ append-both (ops-flat a s (p .0))
+      (flat-append (ops b) (op (binaryCode o) (pos 0) ∷ []) ∙ append-both (ops-flat b s (p .1)) (binary-flat o) ∙ sym (operation-append (post b) (apply2 o ∷ [])))
+      ∙ sym (operation-append (post a) (post b ++ (apply2 o ∷ [])))
+
+  pub code-is : (e : Expr) (t : Option ExprTy) → fits is vs e t ≡ true → flatBytes (ops e) ≡ code e
+  unfolding code
+  code-is e t h = let q = fits-type is vs e t h in ops-flat e (q .0) (q .1)
+
+-- STORES
+
+pub put-two : (l : List ℕ) (at : ℕ) {m k : List ℕ} {b₀ b₁ v₀ v₁ : ℕ} → b₀ ≡ v₀ → b₁ ≡ v₁ → m ≡ set l at b₀ → k ≡ set m (at + 1) b₁ → k ≡ sets l at (v₀ ∷ v₁ ∷ [])
+put-two l at {m} {k} {b₀} {b₁} {v₀} {v₁} e g p q =
+    put-after l at (v₀ ∷ []) (v₁ ∷ []) (p ∙ ap (λ (w : ℕ). set l at w) e) (q ∙ ap (λ (w : ℕ). set m (at + 1) w) g)
+
+pub put-four : (l : List ℕ) (at : ℕ) {m n o k : List ℕ} {b₀ b₁ b₂ b₃ v₀ v₁ v₂ v₃ : ℕ} → b₀ ≡ v₀ → b₁ ≡ v₁ → b₂ ≡ v₂ → b₃ ≡ v₃
+    → m ≡ set l at b₀ → n ≡ set m (at + 1) b₁ → o ≡ set n (at + 2) b₂ → k ≡ set o (at + 3) b₃ → k ≡ sets l at (v₀ ∷ v₁ ∷ v₂ ∷ v₃ ∷ [])
+put-four l at {m} {n} {o} {k} {b₀} {b₁} {b₂} {b₃} {v₀} {v₁} {v₂} {v₃} e₀ e₁ e₂ e₃ p₀ p₁ p₂ p₃ =
+    let z : at + 3 ≡ at + 2 + 1 = omega arith in
+    put-after l at (v₀ ∷ v₁ ∷ []) (v₂ ∷ v₃ ∷ []) (put-two l at e₀ e₁ p₀ p₁) (put-two n (at + 2) e₂ e₃ p₂ (p₃ ∙ ap (λ (i : ℕ). set o i b₃) z))
+
+pub put-cell : (l : List ℕ) (at kind : ℕ) {m k : List ℕ} {w v : ℕ} → m ≡ set l at kind → k ≡ sets m (at + 1) (Words.bytes4 w) → w ≡ v → k ≡ sets l at (kind ∷ Words.bytes4 v)
+put-cell l at kind {m} {k} {w} {v} p q e = put-after l at (kind ∷ []) (Words.bytes4 v) p (q ∙ ap (λ (i : ℕ). sets m (at + 1) (Words.bytes4 i)) e)
+
+pub put-line : (l : List ℕ) (at kind target offset size next other reach : ℕ) {m n o p q r s : List ℕ} → m ≡ set l at kind → n ≡ set m (at + 1) target
+    → o ≡ sets n (at + 2) (Words.bytes2 offset) → p ≡ sets o (at + 4) (Words.bytes2 size) → q ≡ sets p (at + 6) (Words.bytes2 next)
+    → r ≡ sets q (at + 8) (Words.bytes2 other) → s ≡ sets r (at + 10) (Words.bytes2 reach) → s ≡ sets l at (rawBytes (raw kind target offset size next other reach))
+put-line l at kind target offset size next other reach a b c d e f g =
+    put-after l at (kind ∷ target ∷ (Words.bytes2 offset ++ (Words.bytes2 size ++ (Words.bytes2 next ++ Words.bytes2 other)))) (Words.bytes2 reach)
+    (put-after l at (kind ∷ target ∷ (Words.bytes2 offset ++ (Words.bytes2 size ++ Words.bytes2 next))) (Words.bytes2 other)
+    (put-after l at (kind ∷ target ∷ (Words.bytes2 offset ++ Words.bytes2 size)) (Words.bytes2 next)
+    (put-after l at (kind ∷ target ∷ Words.bytes2 offset) (Words.bytes2 size)
+    (put-after l at (kind ∷ target ∷ []) (Words.bytes2 offset) (put-two l at refl refl a b) c) d) e) f) g

@@ -1,0 +1,7 @@
+mod Sets
+mod FollowersLaws
+mod ReachesLaws
+mod EmittedLaws
+mod SectionsLaws
+mod ImageLaws
+mod WriteLaws

@@ -1,0 +1,72 @@
+-- `encoder::bytes::put_op` meets its contract: by the codes. Assumes nothing.
+use lib.IntN.{ℤ}
+use mir.Facts.{toZ-ofZ}
+use Rattle.format.specs.Words.{unsigned32}
+use borrow.Author.Tests.{eq-eqb, ne-eqb, lt-ltb, le-ltb}
+use Prim.Native.Nat.{ℕ, _%_}
+use mathlib.Core.Path.{refl, _∙_, ap}
+use Rattle.encoder.specs.Emitted.{opBytes}
+use Rattle.encoder.proofs.EmittedLaws.{put-two}
+use borrow.Author.Needs.{needs}
+use Rattle.encoder.proofs.bytes.put_op.Statement.{statement}
+use Rattle.encoder.proofs.bytes.put_op.Tie as tie
+
+put-cell-requires : tie.Need-put-cell-requires
+put-cell-requires c κs = search needs
+
+same-length : tie.Need-same-length
+same-length c = search needs
+
+returns : tie.Need-returns
+unfolding opBytes
+returns c = simp (eq-eqb (c .before .before .before .before .before .before .args .code) 1 (c .before .before .before .before .if1 .taken)) (rw (toZ-ofZ (c .before .before .before .before .before .before .fits .arg)) at (c .before .before .put-cell .ensures))
+
+put-requires : tie.Need-put-requires
+put-requires c κs = search needs
+
+add-put : tie.Need-add-put
+add-put c = search needs
+
+to-bits-requires : tie.Need-to-bits-requires
+to-bits-requires c κs = search needs
+
+byte-of-requires : tie.Need-byte-of-requires
+byte-of-requires c κs = search needs
+
+put-requires-2 : tie.Need-put-requires-2
+put-requires-2 c κs = search needs
+
+same-length-2 : tie.Need-same-length-2
+same-length-2 c = search needs
+
+returns-2 : tie.Need-returns-2
+unfolding opBytes
+returns-2 c = simp (ne-eqb (c .before .before .before .before .before .before .before .before .before .before .before .before .before .args .code) 1 (c .before .before .before .before .before .before .before .before .before .before .before .if1 .left), lt-ltb (c .before .before .before .before .before .before .before .before .before .before .before .before .before .args .code) 5 (c .before .before .before .before .before .before .before .before .before .before .if2 .taken)) (put-two (c .before .before .before .before .before .before .before .before .before .before .before .before .before .args .image .now) (c .before .before .before .before .before .before .before .before .before .before .before .before .before .args .at) refl (c .before .before .before .byte-of .ensures ∙ ap (λ (w : ℕ). w % 256) (c .before .before .before .before .to-bits .ensures ∙ ap (λ (z : ℤ). unsigned32 z) (toZ-ofZ (c .before .before .before .before .before .before .before .before .before .before .before .before .before .fits .arg)))) (c .before .before .before .before .before .before .before .before .put .ensures) (c .before .before .put2 .ensures))
+
+put-requires-3 : tie.Need-put-requires-3
+put-requires-3 c κs = search needs
+
+same-length-3 : tie.Need-same-length-3
+same-length-3 c = search needs
+
+returns-3 : tie.Need-returns-3
+unfolding opBytes
+returns-3 c = simp (ne-eqb (c .before .before .before .before .before .before .before .args .code) 1 (c .before .before .before .before .before .if1 .left), le-ltb (c .before .before .before .before .before .before .before .args .code) 5 (c .before .before .before .before .if2 .left)) (c .before .before .put3 .ensures)
+
+pub put-op-spec : {M : Type 1} → statement M
+put-op-spec =
+    tie.close
+    (tie.spec
+    put-cell-requires
+    same-length
+    returns
+    put-requires
+    add-put
+    to-bits-requires
+    byte-of-requires
+    put-requires-2
+    same-length-2
+    returns-2
+    put-requires-3
+    same-length-3
+    returns-3)

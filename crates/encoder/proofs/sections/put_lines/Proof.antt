@@ -1,0 +1,98 @@
+-- `encoder::sections::put_lines` meets its contract. The invariant: the rest from here stores what the whole loop stores. Assumes nothing.
+use Prim.Native.Nat.{_+_, _-_, _*_, _≤_}
+use native.Mathlib.Omega.{arith}
+use mathlib.Core.Path.{_≡_, refl, _∙_}
+use lib.ListN.{length}
+use lib.Seq.{sets}
+use Rattle.format.specs.Image.{rawsBytes}
+use Rattle.encoder.specs.Followers.{links}
+use Rattle.encoder.specs.Emitted.{linesFrom}
+use Rattle.encoder.proofs.SectionsLaws.{lines-again, lines-done}
+use borrow.Author.Needs.{needs}
+use Rattle.encoder.proofs.sections.put_lines.Statement.{statement}
+use Rattle.encoder.proofs.sections.put_lines.Tie as tie
+
+abbrev Inv-loop : tie.InvT-loop
+Inv-loop image₀ at codes rows n next other reaches j₀ p₀ image j p = (j ≤ n) × ((p ≤ 81920 * j) × ((length image ≡ length image₀) × (sets image (at + 12 * j) (rawsBytes (linesFrom codes rows (links next other) reaches j (n - j) p)) ≡ sets image₀ (at + 12 * j₀) (rawsBytes (linesFrom codes rows (links next other) reaches j₀ (n - j₀) p₀)))))
+
+abbrev μ-loop : tie.MeasureT-loop
+μ-loop image₀ at codes rows n next other reaches j₀ p₀ image j p = n - j
+
+loop-holds : tie.Need-loop-holds Inv-loop μ-loop
+loop-holds c = (omega arith, (omega arith, (refl, refl)))
+
+field-requires : tie.Need-field-requires Inv-loop μ-loop
+field-requires c κs = (omega arith, omega arith)
+
+cast-run-width : tie.Need-cast-run-width Inv-loop μ-loop
+cast-run-width c = search needs
+
+field-requires-2 : tie.Need-field-requires-2 Inv-loop μ-loop
+field-requires-2 c κs = (omega arith, omega arith)
+
+cast-run-width-2 : tie.Need-cast-run-width-2 Inv-loop μ-loop
+cast-run-width-2 c = search needs
+
+run-width-requires : tie.Need-run-width-requires Inv-loop μ-loop
+run-width-requires c κs = search needs
+
+mul-put-row : tie.Need-mul-put-row Inv-loop μ-loop
+mul-put-row c = omega arith
+
+add-put-row : tie.Need-add-put-row Inv-loop μ-loop
+add-put-row c = omega arith
+
+number-requires : tie.Need-number-requires Inv-loop μ-loop
+number-requires c κs = search needs
+
+number-requires-2 : tie.Need-number-requires-2 Inv-loop μ-loop
+number-requires-2 c κs = search needs
+
+number-requires-3 : tie.Need-number-requires-3 Inv-loop μ-loop
+number-requires-3 c κs = search needs
+
+put-row-requires : tie.Need-put-row-requires Inv-loop μ-loop
+put-row-requires c κs = (omega arith, omega arith, omega arith, omega (arith, c .before .before .before .before .run-width .ensures .1))
+
+add-p : tie.Need-add-p Inv-loop μ-loop
+add-p c = omega (arith, c .before .before .before .before .before .before .before .run-width .ensures .1)
+
+add-j : tie.Need-add-j Inv-loop μ-loop
+add-j c = omega arith
+
+loop-less : tie.Need-loop-less Inv-loop μ-loop
+loop-less c = omega arith
+
+loop-again : tie.Need-loop-again Inv-loop μ-loop
+loop-again c = (omega arith, (omega (arith, c .before .before .before .before .before .before .before .run-width .ensures .1), (search needs, lines-again (c .before .before .before .before .before .before .before .before .before .before .before .before .before .before .before .before .args .codes .now) (c .before .before .before .before .before .before .before .before .before .before .before .before .before .before .before .before .args .rows .now) (c .before .before .before .before .before .before .before .before .before .before .before .before .before .before .before .before .args .next .now) (c .before .before .before .before .before .before .before .before .before .before .before .before .before .before .before .before .args .other .now) (c .before .before .before .before .before .before .before .before .before .before .before .before .before .before .before .before .args .reaches .now) (c .before .before .before .before .before .before .before .before .before .before .before .loop .image) (c .before .before .before .before .before .before .before .before .before .before .before .before .before .before .before .before .args .at) (c .before .before .before .before .before .before .before .before .before .before .before .loop .j) (c .before .before .before .before .before .before .before .before .before .before .before .before .before .before .before .before .args .n) (c .before .before .before .before .before .before .before .before .before .before .before .loop .p) (c .before .before .before .before .before .before .before .before .before .before .loop-test .taken) (c .before .before .before .before .before .before .before .before .before .field .ensures) (c .before .before .before .before .before .before .before .before .field2 .ensures) (c .before .before .before .before .before .before .before .run-width .ensures .0) (c .before .before .before .before .before .number .ensures) (c .before .before .before .before .number2 .ensures) (c .before .before .before .number3 .ensures) (c .before .before .put-row .ensures) ∙ c .before .before .before .before .before .before .before .before .before .before .before .loop .inv .1 .1 .1)))
+
+same-length : tie.Need-same-length Inv-loop μ-loop
+same-length c = search needs
+
+returns : tie.Need-returns Inv-loop μ-loop
+returns c = lines-done (c .before .before .before .before .before .before .args .codes .now) (c .before .before .before .before .before .before .args .rows .now) (c .before .before .before .before .before .before .args .next .now) (c .before .before .before .before .before .before .args .other .now) (c .before .before .before .before .before .before .args .reaches .now) (c .before .loop .image) (c .before .before .before .before .before .before .args .image .now) (c .before .before .before .before .before .before .args .at) (c .before .loop .j) (c .before .before .before .before .before .before .args .n) (c .before .loop .p) (c .loop-test .left) (c .before .loop .inv .1 .1 .1)
+
+pub put-lines-spec : {M : Type 1} → statement M
+put-lines-spec =
+    tie.close
+    (tie.spec
+    Inv-loop
+    μ-loop
+    loop-holds
+    field-requires
+    cast-run-width
+    field-requires-2
+    cast-run-width-2
+    run-width-requires
+    mul-put-row
+    add-put-row
+    number-requires
+    number-requires-2
+    number-requires-3
+    put-row-requires
+    add-p
+    add-j
+    loop-less
+    loop-again
+    same-length
+    returns)

@@ -1,0 +1,4 @@
+pub mod Followers
+pub mod Reaches
+pub mod Emitted
+pub mod Outcome

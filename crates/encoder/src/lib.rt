@@ -1,0 +1,61 @@
+// The image of a design that stands in arrays: followers, reaches, code, and the image's bytes in the caller's buffer.
+ghost use Prim.Native.Nat.{_<_, _≤_};
+ghost use Rattle.encoder.specs.Outcome.{LinesStored, Encodes};
+
+mod bytes;
+mod followers;
+mod reaches;
+mod sections;
+
+// The bytes written, or the bytes needed of a buffer that is too short.
+pub enum Encoded {
+    Written(usize),
+    TooShort(usize),
+}
+
+// The lines section of n statements.
+fn put_body(image: &mut [u8], at: usize, codes: &[u8; 16384], rows: &[u16; 3072], n: usize)
+    requires { ⌜ (at < 1000) × (n ≤ 512) ⌝ }
+    ensures { λ _. ⌜ LinesStored (now (codes .entry)) (now (rows .entry)) n at (now (image .entry)) (now (image .exit)) ⌝ }
+{
+    let mut next = [0u16; 512];
+    let mut other = [0u16; 512];
+    let mut reach = [0u16; 512];
+    followers::followers(rows, n, &mut next, &mut other);
+    reaches::reaches(rows, n, &next, &other, &mut reach);
+    sections::put_lines(image, at, codes, rows, n, &next, &other, &reach);
+}
+
+// Encodes a design of k operations, n statements, i inputs, o outputs and v variables.
+pub fn write(
+    codes: &[u8; 16384],
+    args: &[i32; 16384],
+    k: usize,
+    rows: &[u16; 3072],
+    n: usize,
+    is: &[u8],
+    os: &[u8],
+    vs: &[u8],
+    at_outputs: &[i32],
+    at_variables: &[i32],
+    i: usize,
+    o: usize,
+    v: usize,
+    image: &mut [u8],
+) -> Encoded
+    requires { ⌜ (k ≤ 16384) × (n ≤ 512) × (i ≤ 16) × (o ≤ 16) × (v ≤ 32) ⌝ }
+    ensures { λ r. ⌜ Encodes (now (codes .entry)) (now (args .entry)) k (now (rows .entry)) n (now (is .entry)) (now (os .entry)) (now (vs .entry)) (now («at_outputs» .entry)) (now («at_variables» .entry)) i o v (now (image .entry)) (now (image .exit)) r ⌝ }
+{
+    let s = 3 + i + 5 * o + 5 * v;
+    let l = 12 * n;
+    let c = sections::run_width(codes, 0, k);
+    let size = 28 + s + l + c;
+    if image.len() < size {
+        return Encoded::TooShort(size);
+    }
+    sections::put_header(image, s, l, c);
+    sections::put_signature(image, is, os, vs, at_outputs, at_variables, i, o, v);
+    put_body(image, 28 + s, codes, rows, n);
+    sections::put_code(image, 28 + s + l, codes, args, k);
+    Encoded::Written(size)
+}

@@ -1,0 +1,210 @@
+// The sections of an image stored into a buffer, each at its place: header, signature, lines, code.
+ghost use mathlib.Core.Path.{_≡_};
+ghost use Prim.Native.Nat.{_<_, _≤_, min};
+ghost use lib.IntN.{pos};
+ghost use lib.ListN.{getD};
+ghost use lib.Seq.{sets};
+ghost use Rattle.ir.specs.Arrays.{rowIn};
+ghost use Rattle.format.specs.Image.{rawBytes, rawsBytes};
+ghost use Rattle.encoder.specs.Followers.{links};
+ghost use Rattle.encoder.specs.Emitted.{codeFrom, runWidth, kindByte, lineAt, linesFrom, typesFrom, cellsFrom, signatureFrom, headerOf};
+use crate::bytes::op_width;
+use crate::bytes::put;
+use crate::bytes::put_cell;
+use crate::bytes::put_line;
+use crate::bytes::put_op;
+use crate::bytes::put2;
+use crate::bytes::put4;
+use crate::followers::field;
+use crate::followers::kind;
+use crate::followers::number;
+
+// The value at an index, or 0 past the end.
+fn value(s: &[i32], i: usize) -> i32
+    ensures { λ r. ⌜ r ≡ getD (now (s .entry)) i (pos 0) ⌝ }
+{
+    if i < s.len() { s[i] } else { 0 }
+}
+
+// The header of an image whose sections have these lengths.
+pub(crate) fn put_header(image: &mut [u8], s: usize, l: usize, c: usize)
+    requires { ⌜ (s < 1000000) × (l < 1000000) × (c < 1000000) ⌝ }
+    ensures { λ _. ⌜ now (image .exit) ≡ sets (now (image .entry)) 0 (headerOf s l c) ⌝ }
+{
+    put2(image, 0, 1);
+    put2(image, 2, 3);
+    put4(image, 4, 28);
+    put4(image, 8, s as u32);
+    put4(image, 12, (28 + s) as u32);
+    put4(image, 16, l as u32);
+    put4(image, 20, (28 + s + l) as u32);
+    put4(image, 24, c as u32);
+}
+
+// n type bytes.
+fn put_types(image: &mut [u8], at: usize, types: &[u8], n: usize)
+    requires { ⌜ (at < 1000) × (n ≤ 32) ⌝ }
+    ensures { λ _. ⌜ now (image .exit) ≡ sets (now (image .entry)) at (typesFrom (now (types .entry)) 0 n) ⌝ }
+{
+    let mut k = 0;
+    while k < n {
+        put(image, at + k, words::byte(types, k));
+        k += 1;
+    }
+}
+
+// n types with their initial values.
+fn put_cells(image: &mut [u8], at: usize, types: &[u8], values: &[i32], n: usize)
+    requires { ⌜ (at < 1000) × (n ≤ 32) ⌝ }
+    ensures { λ _. ⌜ now (image .exit) ≡ sets (now (image .entry)) at (cellsFrom (now (types .entry)) (now (values .entry)) 0 n) ⌝ }
+{
+    let mut k = 0;
+    while k < n {
+        put_cell(image, at + 5 * k, words::byte(types, k), value(values, k));
+        k += 1;
+    }
+}
+
+// The signature section.
+pub(crate) fn put_signature(
+    image: &mut [u8],
+    is: &[u8],
+    os: &[u8],
+    vs: &[u8],
+    at_outputs: &[i32],
+    at_variables: &[i32],
+    i: usize,
+    o: usize,
+    v: usize,
+)
+    requires { ⌜ (i ≤ 16) × (o ≤ 16) × (v ≤ 32) ⌝ }
+    ensures { λ _. ⌜ now (image .exit) ≡ sets (now (image .entry)) 28 (signatureFrom (now (is .entry)) (now (os .entry)) (now (vs .entry)) (now («at_outputs» .entry)) (now («at_variables» .entry)) i o v) ⌝ }
+{
+    put(image, 28, i as u8);
+    put(image, 29, o as u8);
+    put(image, 30, v as u8);
+    put_types(image, 31, is, i);
+    put_cells(image, 31 + i, os, at_outputs, o);
+    put_cells(image, 31 + i + 5 * o, vs, at_variables, v);
+}
+
+// The lower of a number and 16384.
+fn bounded(n: usize) -> usize
+    ensures { λ r. ⌜ r ≡ min n 16384 ⌝ }
+{
+    if n < 16384 { n } else { 16384 }
+}
+
+// How many bytes the operations from an index up to another have.
+pub(crate) fn run_width(codes: &[u8; 16384], from: usize, to: usize) -> usize
+    ensures { λ r. ⌜ r ≡ runWidth (now (codes .entry)) from to ⌝ }
+    ensures { λ r. ⌜ r ≤ 81920 ⌝ }
+{
+    let stop = bounded(to);
+    let mut i = from;
+    let mut w = 0;
+    while i < stop {
+        w += op_width(codes[i]);
+        i += 1;
+    }
+    w
+}
+
+// The kind byte of a line: a loop is a branch.
+fn kind_byte(kind: u16) -> u8
+    ensures { λ r. ⌜ r ≡ kindByte kind ⌝ }
+{
+    if kind == 5 {
+        return 3;
+    }
+    (kind % 256) as u8
+}
+
+// The line of statement j.
+fn put_row(
+    image: &mut [u8],
+    at: usize,
+    rows: &[u16; 3072],
+    j: usize,
+    offset: usize,
+    size: usize,
+    next: u16,
+    other: u16,
+    reach: u16,
+)
+    requires { ⌜ (at < 900000) × (j < 512) × (offset < 50000000) × (size < 100000) ⌝ }
+    ensures { λ _. ⌜ now (image .exit) ≡ sets (now (image .entry)) at (rawBytes (lineAt (rowIn (now (rows .entry)) j) offset size next other reach)) ⌝ }
+{
+    let kind = kind_byte(kind(rows, j));
+    let target = (field(rows, j, 1) % 256) as u8;
+    put_line(
+        image,
+        at,
+        kind,
+        target,
+        offset as u32,
+        size as u32,
+        next,
+        other,
+        reach,
+    );
+}
+
+// The lines of n statements with these followers and reaches.
+pub(crate) fn put_lines(
+    image: &mut [u8],
+    at: usize,
+    codes: &[u8; 16384],
+    rows: &[u16; 3072],
+    n: usize,
+    next: &[u16],
+    other: &[u16],
+    reaches: &[u16],
+)
+    requires { ⌜ (at < 1000) × (n ≤ 512) ⌝ }
+    ensures { λ _. ⌜ now (image .exit) ≡ sets (now (image .entry)) at (rawsBytes (linesFrom (now (codes .entry)) (now (rows .entry)) (links (now (next .entry)) (now (other .entry))) (now (reaches .entry)) 0 n 0)) ⌝ }
+{
+    let mut j = 0;
+    let mut p = 0;
+    while j < n {
+        let size = run_width(
+            codes,
+            field(rows, j, 2) as usize,
+            field(rows, j, 3) as usize,
+        );
+        put_row(
+            image,
+            at + 12 * j,
+            rows,
+            j,
+            p,
+            size,
+            number(next, j),
+            number(other, j),
+            number(reaches, j),
+        );
+        p += size;
+        j += 1;
+    }
+}
+
+// The code of k operations.
+pub(crate) fn put_code(
+    image: &mut [u8],
+    at: usize,
+    codes: &[u8; 16384],
+    args: &[i32; 16384],
+    k: usize,
+)
+    requires { ⌜ (at < 100000) × (k ≤ 16384) ⌝ }
+    ensures { λ _. ⌜ now (image .exit) ≡ sets (now (image .entry)) at (codeFrom (now (codes .entry)) (now (args .entry)) 0 k) ⌝ }
+{
+    let mut i = 0;
+    let mut p = at;
+    while i < k {
+        let code = codes[i];
+        put_op(image, p, code, args[i]);
+        p += op_width(code);
+        i += 1;
+    }
+}

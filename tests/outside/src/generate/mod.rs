@@ -1,0 +1,12 @@
+//! Random inputs for the seven functions: accepted texts, mutants, texts at the limits, good and
+//! damaged images, states and rows.
+
+pub mod expressions;
+pub mod images;
+pub mod limits;
+pub mod mutants;
+pub mod random;
+pub mod rows;
+pub mod spelling;
+pub mod states;
+pub mod texts;

@@ -1,0 +1,31 @@
+//! An independent implementation of document 01, written from the document alone: the texts, the
+//! images, the cycle on a table, the direct run from the text, and the trace.
+//!
+//! Each file has one topic and quotes the sentences that it follows. `board` gathers the seven
+//! public functions in the shape of the C interface; `generate` makes random inputs for them;
+//! `compare` holds two boards, or the two runs of one board, side by side.
+
+pub mod answer;
+pub mod board;
+pub mod classes;
+pub mod clock;
+pub mod compare;
+pub mod declarations;
+pub mod design;
+pub mod direct;
+pub mod encoder;
+pub mod frozen;
+pub mod generate;
+pub mod lexer;
+pub mod limits;
+pub mod loader;
+pub mod names;
+pub mod parser;
+pub mod row;
+pub mod state;
+pub mod table;
+pub mod trace;
+pub mod tree;
+pub mod types;
+pub mod values;
+pub mod verdict;
