@@ -234,10 +234,10 @@ while-statement-take-requires-2 : (t : ℕ) → while-statement-lts.Need-take-re
 while-statement-take-requires-2 t c κs = let s = c .before .before .before .before .before .before .before .before .before .before .before .before .before .args in let h = c .before .before .before .before .before .before .before .before .before .before .before .before .before .pre .1 .1 in let i = kind-inside (s .kinds .now) (s .n) (s .p .at) 40 (c .before .before .before .before .before .before .before .before .before .before .before .before .before .pre .1 .3) (lit< tt) in let b = begin-steps (flagIn (s .long .now) (s .p .at)) (s .depth) 0 h i (lit≤ tt) (c .before .before .before .before .before .before .before .before .before .before .before .before .begin .ensures) in let ha = stepped-asks h (b .steps) in let mu = expression-moves (c .before .before .before .before .before .before .before .before .before .cursor-of .ensures) (c .before .before .before .before .before .place-of .ensures) ha (c .before .before .before .before .before .before .expression .ensures .moves) in let hu = asks-place ha mu in let tb = took-steps (s .kinds .now) (s .long .now) 41 (lit< tt) hu (c .before .before .before .before .take .ensures) in let hb = stepped-asks hu (tb .steps) in let mt = tb .steps .moves in let mb = c .body .ensures .moves in let hc = asks-place hb mb in (lit< tt, hc)
 
 while-statement-take-requires-3 : (t : ℕ) → while-statement-lts.Need-take-requires-3 (while-statement-calls t) (while-statement-at t) while-statement.Post
-while-statement-take-requires-3 t c κs = let s = c .before .before .before .before .before .before .before .before .before .before .before .before .before .before .args in let h = c .before .before .before .before .before .before .before .before .before .before .before .before .before .before .pre .1 .1 in let i = kind-inside (s .kinds .now) (s .n) (s .p .at) 40 (c .before .before .before .before .before .before .before .before .before .before .before .before .before .before .pre .1 .3) (lit< tt) in let b = begin-steps (flagIn (s .long .now) (s .p .at)) (s .depth) 0 h i (lit≤ tt) (c .before .before .before .before .before .before .before .before .before .before .before .before .before .begin .ensures) in let ha = stepped-asks h (b .steps) in let mu = expression-moves (c .before .before .before .before .before .before .before .before .before .before .cursor-of .ensures) (c .before .before .before .before .before .before .place-of .ensures) ha (c .before .before .before .before .before .before .before .expression .ensures .moves) in let hu = asks-place ha mu in let tb = took-steps (s .kinds .now) (s .long .now) 41 (lit< tt) hu (c .before .before .before .before .before .take .ensures) in let hb = stepped-asks hu (tb .steps) in let mt = tb .steps .moves in let mb = c .before .body .ensures .moves in let hc = asks-place hb mb in let t1 = took-steps (s .kinds .now) (s .long .now) 26 (lit< tt) hc (c .take2 .ensures) in let h1 = stepped-asks hc (t1 .steps) in (lit< tt, h1)
+while-statement-take-requires-3 t c κs = let s = c .before .before .before .before .before .before .before .before .before .before .before .before .before .before .args in let h = c .before .before .before .before .before .before .before .before .before .before .before .before .before .before .pre .1 .1 in let i = kind-inside (s .kinds .now) (s .n) (s .p .at) 40 (c .before .before .before .before .before .before .before .before .before .before .before .before .before .before .pre .1 .3) (lit< tt) in let b = begin-steps (flagIn (s .long .now) (s .p .at)) (s .depth) 0 h i (lit≤ tt) (c .before .before .before .before .before .before .before .before .before .before .before .before .before .begin .ensures) in let ha = stepped-asks h (b .steps) in let mu = expression-moves (c .before .before .before .before .before .before .before .before .before .before .cursor-of .ensures) (c .before .before .before .before .before .before .place-of .ensures) ha (c .before .before .before .before .before .before .before .expression .ensures .moves) in let hu = asks-place ha mu in let tb = took-steps (s .kinds .now) (s .long .now) 41 (lit< tt) hu (c .before .before .before .before .before .take .ensures) in let hb = stepped-asks hu (tb .steps) in let mt = tb .steps .moves in let mb = c .before .body .ensures .moves in let hc = asks-place hb mb in let t1 = took-steps (s .kinds .now) (s .long .now) _ (lit< tt) hc (c .take2 .ensures) in let h1 = stepped-asks hc (t1 .steps) in (lit< tt, h1)
 
 while-statement-take-requires-4 : (t : ℕ) → while-statement-lts.Need-take-requires-4 (while-statement-calls t) (while-statement-at t) while-statement.Post
-while-statement-take-requires-4 t c κs = let s = c .before .before .before .before .before .before .before .before .before .before .before .before .before .before .before .args in let h = c .before .before .before .before .before .before .before .before .before .before .before .before .before .before .before .pre .1 .1 in let i = kind-inside (s .kinds .now) (s .n) (s .p .at) 40 (c .before .before .before .before .before .before .before .before .before .before .before .before .before .before .before .pre .1 .3) (lit< tt) in let b = begin-steps (flagIn (s .long .now) (s .p .at)) (s .depth) 0 h i (lit≤ tt) (c .before .before .before .before .before .before .before .before .before .before .before .before .before .before .begin .ensures) in let ha = stepped-asks h (b .steps) in let mu = expression-moves (c .before .before .before .before .before .before .before .before .before .before .before .cursor-of .ensures) (c .before .before .before .before .before .before .before .place-of .ensures) ha (c .before .before .before .before .before .before .before .before .expression .ensures .moves) in let hu = asks-place ha mu in let tb = took-steps (s .kinds .now) (s .long .now) 41 (lit< tt) hu (c .before .before .before .before .before .before .take .ensures) in let hb = stepped-asks hu (tb .steps) in let mt = tb .steps .moves in let mb = c .before .before .body .ensures .moves in let hc = asks-place hb mb in let t1 = took-steps (s .kinds .now) (s .long .now) 26 (lit< tt) hc (c .before .take2 .ensures) in let h1 = stepped-asks hc (t1 .steps) in let t2 = took-steps (s .kinds .now) (s .long .now) 41 (lit< tt) h1 (c .take3 .ensures) in let h2 = stepped-asks h1 (t2 .steps) in (lit< tt, h2)
+while-statement-take-requires-4 t c κs = let s = c .before .before .before .before .before .before .before .before .before .before .before .before .before .before .before .args in let h = c .before .before .before .before .before .before .before .before .before .before .before .before .before .before .before .pre .1 .1 in let i = kind-inside (s .kinds .now) (s .n) (s .p .at) 40 (c .before .before .before .before .before .before .before .before .before .before .before .before .before .before .before .pre .1 .3) (lit< tt) in let b = begin-steps (flagIn (s .long .now) (s .p .at)) (s .depth) 0 h i (lit≤ tt) (c .before .before .before .before .before .before .before .before .before .before .before .before .before .before .begin .ensures) in let ha = stepped-asks h (b .steps) in let mu = expression-moves (c .before .before .before .before .before .before .before .before .before .before .before .cursor-of .ensures) (c .before .before .before .before .before .before .before .place-of .ensures) ha (c .before .before .before .before .before .before .before .before .expression .ensures .moves) in let hu = asks-place ha mu in let tb = took-steps (s .kinds .now) (s .long .now) 41 (lit< tt) hu (c .before .before .before .before .before .before .take .ensures) in let hb = stepped-asks hu (tb .steps) in let mt = tb .steps .moves in let mb = c .before .before .body .ensures .moves in let hc = asks-place hb mb in let t1 = took-steps (s .kinds .now) (s .long .now) _ (lit< tt) hc (c .before .take2 .ensures) in let h1 = stepped-asks hc (t1 .steps) in let t2 = took-steps (s .kinds .now) (s .long .now) 41 (lit< tt) h1 (c .take3 .ensures) in let h2 = stepped-asks h1 (t2 .steps) in (lit< tt, h2)
 
 while-statement-finish-requires : (t : ℕ) → while-statement-lts.Need-finish-requires (while-statement-calls t) (while-statement-at t) while-statement.Post
 while-statement-finish-requires t c κs = let s = c .before .before .before .before .before .before .before .before .before .before .before .before .before .before .before .before .before .args in let h = c .before .before .before .before .before .before .before .before .before .before .before .before .before .before .before .before .before .pre .1 .1 in let i = kind-inside (s .kinds .now) (s .n) (s .p .at) 40 (c .before .before .before .before .before .before .before .before .before .before .before .before .before .before .before .before .before .pre .1 .3) (lit< tt) in let b = begin-steps (flagIn (s .long .now) (s .p .at)) (s .depth) 0 h i (lit≤ tt) (c .before .before .before .before .before .before .before .before .before .before .before .before .before .before .before .before .begin .ensures) in let ha = stepped-asks h (b .steps) in let one = b .one (c .before .before .before .before .before .before .before .before .before .before .before .before .before .before .if1 .left) in let dp = begin-depth (s .p) (flagIn (s .long .now) (s .p .at)) (s .depth) 0 (c .before .before .before .before .before .before .before .before .before .before .before .before .before .before .before .before .begin .ensures) (c .before .before .before .before .before .before .before .before .before .before .before .before .before .before .if1 .left) in let mu = expression-moves (c .before .before .before .before .before .before .before .before .before .before .before .before .before .cursor-of .ensures) (c .before .before .before .before .before .before .before .before .before .place-of .ensures) ha (c .before .before .before .before .before .before .before .before .before .before .expression .ensures .moves) in let hu = asks-place ha mu in let tb = took-steps (s .kinds .now) (s .long .now) 41 (lit< tt) hu (c .before .before .before .before .before .before .before .before .take .ensures) in let hb = stepped-asks hu (tb .steps) in let mt = tb .steps .moves in let mb = c .before .before .before .before .body .ensures .moves in let hc = asks-place hb mb in let en = ap (λ (x : Place). x .n) (c .before .before .before .before .before .before .before .before .before .place-of .ensures) in let ms = b .steps .moves in ((λ z. omega arith), (omega arith))
