@@ -6,10 +6,10 @@ use Rattle.refusals.proofs.report_lines.Statement.{statement}
 use Rattle.refusals.proofs.report_lines.Tie as tie
 
 abbrev Inv-loop : tie.InvT-loop
-Inv-loop text at₀ line₀ at line = (at ≤ length text + 1) × (line ≤ at + 1)
+Inv-loop name text at₀ line₀ at line = (at ≤ length text + 1) × (line ≤ at + 1)
 
 abbrev μ-loop : tie.MeasureT-loop
-μ-loop text at₀ line₀ at line = length text - at
+μ-loop name text at₀ line₀ at line = length text - at
 
 loop-holds : tie.Need-loop-holds Inv-loop μ-loop
 loop-holds c = search needs

@@ -1,0 +1,12 @@
+-- `interpreter::blank` meets its contract: no outputs and no variables, and 0 behind them. Assumes nothing.
+use mathlib.Core.Path.{refl}
+use Rattle.format.specs.State.{stateFor, pad}
+use Rattle.interpreter.proofs.blank.Statement.{statement}
+use Rattle.interpreter.proofs.blank.Tie as tie
+
+returns : tie.Need-returns
+unfolding stateFor pad
+returns c = refl
+
+pub blank-spec : {M : Type 1} → statement M
+blank-spec = tie.close (tie.spec returns)

@@ -1,0 +1,156 @@
+// The direct run: a cycle from the text, without an image; whatever the text, the state and the rows are, it is performed or refused as document 01 says.
+ghost use mathlib.Core.Path.{_≡_};
+ghost use mathlib.Core.List.{List, []};
+ghost use Prim.Native.Nat.{_≤_};
+ghost use lib.IntN.{ℤ};
+ghost use lib.ListN.{take};
+ghost use Rattle.design.specs.Process.{Process, WellFormed, initials};
+ghost use Rattle.semantics.specs.Rows.{atFirst};
+ghost use Rattle.format.specs.State.{stateFor};
+ghost use Rattle.theorems.specs.Comparison.{laid};
+ghost use Rattle.theorems.specs.Direct.{directRow, directOf, directFresh};
+ghost use Rattle.frontend.specs.Designs.{Holds};
+ghost use Rattle.direct.specs.Calls.{callOf, Advances};
+ghost use Rattle.interpreter.specs.Answering.{cycledOf, startedOf, startOf};
+use answers::Cycled;
+use answers::Started;
+use answers::State;
+use direct::Advanced;
+use frontend::Front;
+use frontend::layout::Counts;
+
+// The answer to a fresh state asked for, and the state.
+pub struct FreshState {
+    pub state: State,
+    pub answer: Started,
+}
+
+// One call on the design of an accepted text.
+fn run_design(
+    ops: [u8; 16384],
+    args: [i32; 16384],
+    lines: [u16; 3072],
+    is: [u8; 32],
+    os: [u8; 32],
+    vs: [u8; 32],
+    c: Counts,
+    s: State,
+    inputs: &[i32],
+    row: &mut [i32],
+) -> Advanced
+    requires { ⌜ (c .inputs ≤ 16) × (c .outputs ≤ 16) × (c .variables ≤ 32) ⌝ }
+    ensures { λ a. ⌜ ((p : Process) (ps qs : List ℤ) → Holds p ops args lines is os vs ps qs c → WellFormed p
+        → Advances (directRow p s (callOf (now (inputs .entry)) (now (row .entry)))) a (now (row .exit))) ⌝ }
+{
+    let i = c.inputs;
+    let o = c.outputs;
+    let v = c.variables;
+    direct::calls::advance(
+        &ops,
+        &args,
+        &lines,
+        c.statements,
+        &is[0..i],
+        &os[0..o],
+        &vs[0..v],
+        inputs,
+        s,
+        row,
+    )
+}
+
+// One call on any text: refusals 1 to 9, then 14, 15, 16, or the cycle performed. A refused one hands back the state, and the row is as it was.
+pub fn run(text: &[u8], s: State, inputs: &[i32], row: &mut [i32]) -> Advanced
+    ensures { λ a. ⌜ (a .answer ≡ cycledOf (directOf (now (text .entry)) s (callOf (now (inputs .entry)) (now (row .entry))) .answer))
+        × (a .state ≡ directOf (now (text .entry)) s (callOf (now (inputs .entry)) (now (row .entry))) .state)
+        × (now (row .exit) ≡ directOf (now (text .entry)) s (callOf (now (inputs .entry)) (now (row .entry))) .row) ⌝ }
+{
+    let mut ops = [0u8; 16384];
+    let mut args = [0i32; 16384];
+    let mut lines = [0u16; 3072];
+    let mut is = [0u8; 32];
+    let mut os = [0u8; 32];
+    let mut vs = [0u8; 32];
+    let mut output_values = [0i32; 32];
+    let mut variable_values = [0i32; 32];
+    let front = frontend::accept(
+        text,
+        &mut ops,
+        &mut args,
+        &mut lines,
+        &mut is,
+        &mut os,
+        &mut vs,
+        &mut output_values,
+        &mut variable_values,
+    );
+    match front {
+        Front::Accepted(c) => run_design(ops, args, lines, is, os, vs, c, s, inputs, row),
+        Front::Refused(r) => Advanced {
+            state: s,
+            answer: Cycled::NotPerformed(r),
+        },
+    }
+}
+
+// The fresh state of the design of an accepted text.
+fn fresh_design(output_values: [i32; 32], variable_values: [i32; 32], c: Counts) -> State
+    requires { ⌜ (c .outputs ≤ 16) × (c .variables ≤ 32) ⌝ }
+    ensures { λ r. ⌜ ((p : Process) → take (c .outputs) «output_values» ≡ initials (p .outputs) → take (c .variables) «variable_values» ≡ initials (p .variables) → r ≡ laid (atFirst p)) ⌝ }
+{
+    let o = c.outputs;
+    let v = c.variables;
+    direct::calls::fresh(&output_values[0..o], &variable_values[0..v])
+}
+
+// Place 512 with 0 in every slot.
+fn blank() -> State
+    ensures { λ r. ⌜ r ≡ stateFor 512 (record { outputs = []; variables = [] }) ⌝ }
+{
+    State {
+        place: 512,
+        outputs: [0i32; 16],
+        variables: [0i32; 32],
+    }
+}
+
+// The fresh state of any text, or refusal 1 to 9.
+pub fn fresh(text: &[u8]) -> FreshState
+    ensures { λ r. ⌜ (r .answer ≡ startedOf (directFresh (now (text .entry)))) × (r .state ≡ startOf (directFresh (now (text .entry)))) ⌝ }
+{
+    let mut ops = [0u8; 16384];
+    let mut args = [0i32; 16384];
+    let mut lines = [0u16; 3072];
+    let mut is = [0u8; 32];
+    let mut os = [0u8; 32];
+    let mut vs = [0u8; 32];
+    let mut output_values = [0i32; 32];
+    let mut variable_values = [0i32; 32];
+    let front = frontend::accept(
+        text,
+        &mut ops,
+        &mut args,
+        &mut lines,
+        &mut is,
+        &mut os,
+        &mut vs,
+        &mut output_values,
+        &mut variable_values,
+    );
+    match front {
+        Front::Accepted(c) => {
+            let state = fresh_design(output_values, variable_values, c);
+            FreshState {
+                state: state,
+                answer: Started::Fresh,
+            }
+        }
+        Front::Refused(r) => {
+            let state = blank();
+            FreshState {
+                state: state,
+                answer: Started::NotStarted(r),
+            }
+        }
+    }
+}
