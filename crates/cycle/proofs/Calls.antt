@@ -19,11 +19,14 @@ use Rattle.format.specs.Signature.{types}
 use Rattle.format.specs.Walk.{tableCycle}
 use Rattle.format.specs.Image.{Table}
 use Rattle.format.specs.Good.{GoodTable}
-use Rattle.format.specs.State.{placeOk, stateOk, stateFor, memoryOf, pad}
-use Rattle.format.specs.Cycle.{rowPlace, Called, rowOf}
+use Rattle.format.specs.State.{placeOk, stateOk, memoryOf}
+use Rattle.semantics.specs.Records.{stateFor, pad}
+use Rattle.format.specs.Cycle.{rowPlace, rowOf}
+use Rattle.semantics.specs.Calls.{Called}
 use Rattle.images.specs.Outcome.{Typed, GoodState, Outcome, row-refused, state-refused, operator-refused, performs}
 use Rattle.images.proofs.InputRows.{row-exactly, row-right}
-use Rattle.images.proofs.States.{pad-length, state-exactly, memory-back, pad-take, types-length}
+use Rattle.images.proofs.States.{state-exactly, memory-back, types-length}
+use Rattle.semantics.proofs.Slots.{pad-length, pad-take}
 use Rattle.images.proofs.Outcomes.{row-outcome}
 use Rattle.lines.specs.declared.Followed.{Followed}
 use Rattle.lines.specs.declared.Followed.the-variants.{Reached, Stopped, Spent}

@@ -16,7 +16,8 @@ use Rattle.semantics.specs.Equations.{Memory}
 use Rattle.semantics.specs.Values.{Values}
 use Rattle.format.specs.Walk.{from, tableCycle}
 use Rattle.format.specs.Image.{Table, RawLine}
-use Rattle.format.specs.State.{placeOk, pad}
+use Rattle.format.specs.State.{placeOk}
+use Rattle.semantics.specs.Records.{pad}
 use Rattle.format.proofs.Lines.{raw-place}
 use Rattle.simulation.specs.Walked.{WaitAt}
 use Rattle.simulation.proofs.Walked.{from-inside}

@@ -11,7 +11,7 @@ use Rattle.answers.specs.declared.Refusal.{Refusal}
 use Rattle.answers.specs.declared.Refusal.the-variants.{BadSections, BadSignature, BadLine, BadRow, BadState, OutOfRange}
 use Rattle.answers.specs.declared.Cycled.{Cycled}
 use Rattle.answers.specs.declared.Cycled.the-variants.{Performed, NotPerformed}
-use Rattle.format.specs.Cycle.{Answer, performed, not-performed, Called}
+use Rattle.semantics.specs.Calls.{Answer, performed, not-performed, Called}
 use Rattle.cycle.specs.declared.Advanced.{Advanced}
 
 -- the refusal with that number and place, of those that a cycle can meet: 11 to 16

@@ -28,11 +28,11 @@ use Rattle.semantics.proofs.Results.{has-below}
 use Rattle.semantics.specs.InputRow.{Fitting}
 use Rattle.semantics.proofs.Rows.{meets-none}
 use Rattle.semantics.proofs.Ends.{cycle-ends}
-use Rattle.format.specs.State.{slotsOk, pad, stateFor}
-use Rattle.images.proofs.States.{counted-slots}
-use Rattle.simulation.specs.Places.{number}
-use Rattle.theorems.specs.Comparison.{laid}
-use Rattle.theorems.specs.Direct.{fitsText, placeFor, keptOf, cycled, directRow}
+use Rattle.semantics.specs.Records.{slotsOk, pad, stateFor}
+use Rattle.semantics.proofs.Slots.{counted-slots}
+use Rattle.semantics.specs.Records.{number}
+use Rattle.semantics.specs.Comparison.{laid}
+use Rattle.semantics.specs.DirectRow.{fitsText, placeFor, keptOf, cycled, directRow}
 use Rattle.ir.specs.Arrays.{Row, At, typeCode, BodyIn, NamesIn}
 use Rattle.ir.proofs.Held.{entries-size, at-whole, at-first, at-rest, at-output, at-variable, at-null, at-wait as at-wait-row, at-if, at-while, at-else}
 use Rattle.direct.specs.Holding.{Short, HeldIn}

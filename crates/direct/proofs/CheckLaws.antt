@@ -13,7 +13,7 @@ use lib.IntN.{ℤ, pos}
 use lib.Dec.{ltb, leb, eqb}
 use borrow.Author.Tests.{lt-ltb, le-ltb, le-leb, lt-leb, eq-eqb, ne-eqb}
 use Rattle.design.specs.Types.{Ty, std-logic, integer, eqZ, inType}
-use Rattle.format.specs.State.{zeros, slotsOk}
+use Rattle.semantics.specs.Records.{zeros, slotsOk}
 use Rattle.semantics.specs.Rows.{wrongValue}
 use Rattle.signed.specs.Signed.{inTypeByte}
 use Rattle.ir.specs.Arrays.{typeCode}

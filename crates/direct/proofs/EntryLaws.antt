@@ -9,7 +9,7 @@ use lib.Dec.{eqb}
 use Rattle.design.specs.Statement.{Stmt, has}
 use Rattle.semantics.specs.Equations.{Run, start, resume, enter}
 use Rattle.semantics.proofs.Basic.{or-other}
-use Rattle.theorems.specs.Direct.{placeFor}
+use Rattle.semantics.specs.DirectRow.{placeFor}
 use Rattle.direct.specs.Standing.{Stands}
 use Rattle.direct.specs.declared.Progress.{Progress}
 

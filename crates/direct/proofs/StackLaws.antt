@@ -12,7 +12,7 @@ use mir.Syntax.{w32}
 use mir.Val.{SFits, toZ, ofZ}
 use mir.Facts.{toZ-ofZ}
 use Rattle.design.specs.Expression.{Out, fine, fault, bind}
-use Rattle.format.specs.Words.{unsigned32}
+use Rattle.semantics.specs.Twos.{unsigned32}
 use Rattle.signed.specs.Signed.{checkedOf}
 use Rattle.signed.specs.declared.Checked.{Checked}
 use Rattle.signed.specs.declared.Checked.the-variants.{Value, Refused}

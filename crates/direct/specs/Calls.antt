@@ -12,7 +12,7 @@ use Rattle.answers.specs.declared.Cycled.{Cycled}
 use Rattle.answers.specs.declared.Cycled.the-variants.{Performed, NotPerformed}
 use Rattle.design.specs.Process.{Process, sourceTypes, slotTypes, WellFormed}
 use Rattle.semantics.specs.Rows as R
-use Rattle.format.specs.Cycle.{Answer, performed, not-performed, Called, Call}
+use Rattle.semantics.specs.Calls.{Answer, performed, not-performed, Called, Call}
 use Rattle.ir.specs.Entries.{Block}
 use Rattle.ir.specs.Arrays.{typeCode}
 use Rattle.direct.specs.Holding.{HeldIn}

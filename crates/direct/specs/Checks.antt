@@ -8,7 +8,7 @@ use lib.IntN.{ℤ}
 use lib.Dec.{eqb, ltb}
 use Rattle.answers.specs.declared.State.{State}
 use Rattle.signed.specs.Signed.{inTypeByte}
-use Rattle.format.specs.State.{zeros}
+use Rattle.semantics.specs.Records.{zeros}
 use Rattle.direct.specs.declared.RowCheck.{RowCheck}
 use Rattle.direct.specs.declared.RowCheck.the-variants.{Right, WrongAt}
 

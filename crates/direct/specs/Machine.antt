@@ -9,7 +9,7 @@ use lib.Dec.{eqb, ltb}
 use Rattle.design.specs.Types.{boolean}
 use Rattle.design.specs.Expression.{Unary, sign, invert, Binary, plus, minus, equal, unequal, less, at-most, greater, at-least, and, or, xor, Out, fine, fault, bind}
 use Rattle.semantics.specs.Evaluation.{applyUnary, applyBinary}
-use Rattle.format.specs.Words.{unsigned32}
+use Rattle.semantics.specs.Twos.{unsigned32}
 use Rattle.ir.specs.Operations.{Op}
 use Rattle.ir.specs.Arrays.{opsFrom}
 

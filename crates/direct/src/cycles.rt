@@ -7,7 +7,7 @@ ghost use lib.Dec.{eqb};
 ghost use Rattle.design.specs.Statement.{Stmt, has};
 ghost use Rattle.semantics.specs.Equations.{enter as enterOf, cycle as cycleOf};
 ghost use Rattle.ir.specs.Entries.{Block};
-ghost use Rattle.theorems.specs.Direct.{placeFor};
+ghost use Rattle.semantics.specs.DirectRow.{placeFor};
 ghost use Rattle.direct.specs.Holding.{HeldIn};
 ghost use Rattle.direct.specs.Standing.{run, counted, Stands};
 use crate::Progress;

@@ -5,7 +5,7 @@ ghost use lib.ListN.{length, getD};
 ghost use lib.IntN.{pos};
 ghost use Rattle.design.specs.Expression.{Expr, items};
 ghost use Rattle.semantics.specs.Evaluation.{evaluate as evaluateOf};
-ghost use Rattle.format.specs.Words.{unsigned32};
+ghost use Rattle.semantics.specs.Twos.{unsigned32};
 ghost use Rattle.signed.specs.Signed.{checkedOf};
 ghost use Rattle.ir.specs.Operations.{op as operation, ops};
 ghost use Rattle.ir.specs.Arrays.{opsFrom};

@@ -10,7 +10,7 @@ use lib.Seq.{sets, take-nil}
 use lib.IntN.{ℤ, pos}
 use borrow.Author.Tests.{lt-ltb, le-ltb, ne-eqb}
 use Rattle.grammar.specs.Reader.{choose}
-use Rattle.format.specs.Words.{signed32}
+use Rattle.semantics.specs.Twos.{signed32}
 use Rattle.language.specs.Elaboration.{minus}
 use Rattle.elaborator.specs.Positions.{fieldAt, literalAt, bitAt}
 use Rattle.elaborator.specs.Names.{ofMode, countFrom, slotOf, eachFrom, slotsAfter, picked, Filled, initialAt}

@@ -6,7 +6,8 @@ use mathlib.Core.List.{List, [], _∷_, _++_, append-assoc}
 use lib.ListN.{length, getD, set, length-append}
 use lib.Seq.{sets}
 use lib.IntN.{ℤ, pos}
-use Rattle.format.specs.Words.{bytes2, bytes4, unsigned32}
+use Rattle.format.specs.Words.{bytes2, bytes4}
+use Rattle.semantics.specs.Twos.{unsigned32}
 use Rattle.format.specs.Image.{raw, rawBytes, rawsBytes}
 use Rattle.ir.specs.Arrays.{rowIn}
 use Rattle.encoder.specs.Followers.{links}

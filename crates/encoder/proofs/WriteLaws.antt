@@ -12,7 +12,8 @@ use borrow.Author.Tests.{le-leb, lt-leb}
 use Rattle.design.specs.Types.{Ty, std-logic, integer}
 use Rattle.design.specs.Statement.{size}
 use Rattle.design.specs.Process.{Source, Slot, Process, WellFormed, sourceTypes, slotTypes, initials}
-use Rattle.format.specs.Words.{bytes4, unsigned32}
+use Rattle.format.specs.Words.{bytes4}
+use Rattle.semantics.specs.Twos.{unsigned32}
 use Rattle.format.specs.Lines.{Line, lines, linesOf, line, reachesOf}
 use Rattle.format.specs.Signature.{typeByte, typeBytes, cellBytes, signatureBytes}
 use Rattle.format.specs.Image.{rawsOf, rawsBytes, lineCode, linesCode, pairs, joined, image, form1, sectionsFor, encodeTable}

@@ -6,7 +6,8 @@ use lib.IntN.{ℤ, pos}
 use lib.ListN.{getD}
 use lib.Dec.{eqb, ltb}
 use Rattle.ir.specs.Arrays.{Row, rowIn}
-use Rattle.format.specs.Words.{bytes2, bytes4, unsigned32}
+use Rattle.format.specs.Words.{bytes2, bytes4}
+use Rattle.semantics.specs.Twos.{unsigned32}
 use Rattle.format.specs.Image.{RawLine, raw}
 use Rattle.encoder.specs.Followers.{Links}
 

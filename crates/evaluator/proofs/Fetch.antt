@@ -12,7 +12,8 @@ use lib.Seq.{getD-drop, drop-drop}
 use lib.Dec.{leb, eqb}
 use borrow.Author.Tests.{le-leb, lt-leb}
 use Rattle.design.specs.Expression.{Leaf, int, bit, input, variable}
-use Rattle.format.specs.Words.{word4At, signed32}
+use Rattle.format.specs.Words.{word4At}
+use Rattle.semantics.specs.Twos.{signed32}
 use Rattle.format.specs.Code.{Operation, push, readInt, bitOf, readBit, readName, operator, readOperation}
 use Rattle.evaluator.specs.Position.{intAt, bitAt, nameAt, pushing, fetchAt}
 

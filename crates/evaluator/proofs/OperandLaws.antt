@@ -13,7 +13,8 @@ use mir.Syntax.{w32}
 use mir.Val.{SFits}
 use Rattle.design.specs.Expression.{Leaf, int, bit, input, variable, Out, fault, bind, nth, plainly, leafType}
 use Rattle.semantics.specs.Evaluation.{leafValue}
-use Rattle.format.specs.Words.{word4At, signed32}
+use Rattle.format.specs.Words.{word4At}
+use Rattle.semantics.specs.Twos.{signed32}
 use Rattle.format.specs.Code.{bitOf, withType}
 use Rattle.format.specs.Signature.{typeByte}
 use Rattle.signed.proofs.Range.{range-fits}

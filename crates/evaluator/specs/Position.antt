@@ -7,7 +7,8 @@ use Prim.Native.Nat.{ℕ, zero, suc, _+_}
 use lib.ListN.{length, getD}
 use lib.Dec.{ltb, leb, eqb}
 use Rattle.design.specs.Expression.{Leaf, int, bit, input, variable, Out, fine, fault}
-use Rattle.format.specs.Words.{word4At, signed32}
+use Rattle.format.specs.Words.{word4At}
+use Rattle.semantics.specs.Twos.{signed32}
 use Rattle.format.specs.Code.{Operation, push, apply1, apply2, bitOf, operator, Machine}
 
 -- "1 integer (4 bytes)": the literal whose operation starts at the byte k

@@ -13,8 +13,10 @@ use Rattle.language.proofs.Examples.{plain, place, whole, stdPorts, stdVars, st
 use Rattle.language.proofs.ExamplesReadings.{tallyText}
 use Rattle.format.specs.Words.{word2At, word4At}
 use Rattle.format.specs.Encode.{encode}
-use Rattle.format.specs.State.{Started, fresh, not-started, freshOf}
-use Rattle.format.specs.Cycle.{Call, Called, performed, not-performed, callsOf}
+use Rattle.format.specs.State.{freshOf}
+use Rattle.semantics.specs.Records.{Started, fresh, not-started}
+use Rattle.format.specs.Cycle.{callsOf}
+use Rattle.semantics.specs.Calls.{Call, Called, performed, not-performed}
 use Rattle.examples.proofs.Images.{opened, stateAt, did, rowOf, twoBits}
 
 -- the image of a text that is accepted

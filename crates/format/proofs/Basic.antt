@@ -21,6 +21,3 @@ onlyIf-some false y e = none-some y e
 pub cond-case : {X P : Type 0} (b : Bool) {x y z : X} → cond b x y ≡ z → (b ≡ true → x ≡ z → P) → (b ≡ false → y ≡ z → P) → P
 cond-case true e f g = f refl e
 cond-case false e f g = g refl e
-
-pub and-both : (a b : Bool) → a ≡ true → b ≡ true → (a && b) ≡ true
-and-both a b p q = rw (p, q)

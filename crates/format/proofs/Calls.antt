@@ -13,7 +13,8 @@ use Rattle.format.specs.Image.{Table}
 use Rattle.format.specs.Opening.{Opened, opened, not-opened, openOf}
 use Rattle.format.specs.State.{stateOk, memoryOf}
 use Rattle.format.specs.Walk.{tableCycle}
-use Rattle.format.specs.Cycle.{rowPlace, Called, not-performed, turnedBack, ended, tableRow, unless14, rowOf, unlessClosed, cycleOf}
+use Rattle.format.specs.Cycle.{rowPlace, ended, tableRow, rowOf, unlessClosed, cycleOf}
+use Rattle.semantics.specs.Calls.{Called, not-performed, turnedBack, unless14}
 
 module _ (s : State) (o : List ℤ) where
   -- where a call is refused, state and output row are as they came

@@ -14,7 +14,8 @@ use Rattle.design.specs.Expression.{Leaf, int, bit, input, variable, Unary, sig
 use Rattle.design.proofs.Types.{sameType-eq, sameType-refl}
 use Rattle.semantics.specs.Evaluation.{applyUnary, applyBinary, values, evaluate}
 use Rattle.semantics.proofs.Basic.{none-some, fault-fine, some-injective, fine-injective, eqb-true}
-use Rattle.format.specs.Words.{Bytes, word4, signed32}
+use Rattle.format.specs.Words.{Bytes, word4}
+use Rattle.semantics.specs.Twos.{signed32}
 use Rattle.format.specs.Code.{Operation, push, apply1, apply2, post, unaryByte, binaryByte, bitByte, first, others, operationBytes, code, readInt, bitOf, readBit, readName, operator, readOperation, operations, onto, run, runOperations, runCode, untyped, withType, typed, trees, valueOf, decode}
 use Rattle.format.proofs.Words.{word4-small, signed-range, bytes-integer}
 use Rattle.format.proofs.Basic.{andThen-some, map-some, cond-case}

@@ -11,7 +11,8 @@ use Rattle.design.specs.Expression.{Leaf, int, bit, input, variable, Unary, sig
 use Rattle.design.specs.Statement.{output, variable as assign, null}
 use Rattle.design.specs.Process.{typedAct}
 use Rattle.semantics.proofs.Basic.{none-some}
-use Rattle.format.specs.Words.{Bytes, bytes2, bytes4, unsigned32}
+use Rattle.format.specs.Words.{Bytes, bytes2, bytes4}
+use Rattle.semantics.specs.Twos.{unsigned32}
 use Rattle.format.specs.Code.{Operation, push, apply1, apply2, post, unaryByte, binaryByte, bitByte, first, others, operationBytes, code}
 use Rattle.format.specs.Signature.{Cell, Signature, types, typeByte, typeBytes, cellBytes, signatureBytes, GoodSignature}
 use Rattle.format.specs.Lines.{Line, waits, acts, branches}

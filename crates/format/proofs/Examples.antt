@@ -21,8 +21,10 @@ use Rattle.format.specs.Signature.{typeBytes, cellBytes, signatureBytes,
 use Rattle.format.specs.Image.{rawsBytes, lineCode, linesCode, rawOf, rawsOf, pairs, joined, image, form1, sectionsFor, encodeTable}
 use Rattle.format.specs.Good.{goodLine}
 use Rattle.format.specs.Opening.{readSections, readImage, wholeLines, sectionsOf, raws, lineOf, openLine, openLines, openTable, openSections, opened, not-opened, openOf}
-use Rattle.format.specs.State.{zeros, slotsOk, placeOk, stateOk, pad, stateFor, memoryOf, freshTable, fresh, freshOf}
-use Rattle.format.specs.Cycle.{rowPlace, performed, not-performed, Called, turnedBack, tableRow, rowOf, cycleOf, Call, callsOf}
+use Rattle.format.specs.State.{placeOk, stateOk, memoryOf, freshTable, freshOf}
+use Rattle.semantics.specs.Records.{zeros, slotsOk, pad, stateFor, fresh}
+use Rattle.format.specs.Cycle.{rowPlace, tableRow, rowOf, cycleOf, callsOf}
+use Rattle.semantics.specs.Calls.{performed, not-performed, Called, turnedBack, Call}
 use Rattle.format.specs.Encode.{signatureFor, tableOf, encode}
 
 -- form and count; a row for each pair; the signature; a row for each line; the code

@@ -10,8 +10,9 @@ use lib.IntN.{ℤ, pos, negsuc}
 use lib.Dec.{ltb, leb}
 use borrow.Author.Tests.{ltb-true, ltb-false, leb-true, lt-ltb, le-ltb, le-leb}
 use Rattle.design.specs.Types.{Ty, std-logic, integer, eqZ, inRange, inType}
-use Rattle.semantics.proofs.Basic.{false-true, eqb-true, and-left}
-use Rattle.format.specs.Words.{Bytes, word2, word4, bytes2, bytes4, signed32, unsigned32}
+use Rattle.semantics.proofs.Basic.{false-true, eqb-true, and-left, eqZ-true}
+use Rattle.format.specs.Words.{Bytes, word2, word4, bytes2, bytes4}
+use Rattle.semantics.specs.Twos.{signed32, unsigned32}
 
 -- Numbers.
 
@@ -102,10 +103,6 @@ integer-bytes z h = ap signed32 (word4-bytes4 (unsigned32 z) (unsigned-small z h
 -- four bytes read back from their integer
 pub bytes-integer : (a b c d : ℕ) → a < 256 → b < 256 → c < 256 → d < 256 → bytes4 (unsigned32 (signed32 (word4 a b c d))) ≡ a ∷ b ∷ c ∷ d ∷ []
 bytes-integer a b c d ha hb hc hd = ap bytes4 (unsigned-signed (word4 a b c d) (word4-small a b c d ha hb hc hd)) ∙ bytes4-word4 a b c d ha hb hc hd
-
-pub eqZ-true : (z : ℤ) (n : ℕ) → eqZ z (pos n) ≡ true → z ≡ pos n
-eqZ-true (pos a) n h = ap pos (eqb-true a n h)
-eqZ-true (negsuc a) n h = false-true h
 
 -- a value of any type is a 32-bit integer
 pub type-range : (t : Ty) (z : ℤ) → inType t z ≡ true → inRange z ≡ true

@@ -7,7 +7,8 @@ use lib.ListN.{length}
 use lib.Dec.{eqb}
 use Rattle.design.specs.Types.{Ty, ExprTy, boolean, sameType}
 use Rattle.design.specs.Expression.{Leaf, int, bit, input, variable, Unary, sign, invert, Binary, plus, minus, equal, unequal, less, at-most, greater, at-least, and, or, xor, Expr, leaf, unary, binary, Out, fine, fault, bind, Algebra, leafType, unaryType, binaryType}
-use Rattle.format.specs.Words.{word4, bytes4, signed32, unsigned32}
+use Rattle.format.specs.Words.{word4, bytes4}
+use Rattle.semantics.specs.Twos.{signed32, unsigned32}
 
 -- an operation: a literal or a name is pushed, an operator is applied to what was pushed
 pub data Operation : Type 0 where

@@ -9,30 +9,17 @@ use lib.Dec.{eqb}
 use Rattle.answers.specs.declared.State.{State}
 use Rattle.semantics.specs.Equations.{Result, passed, reached, refused}
 use Rattle.semantics.specs.Rows.{wrongValue}
+use Rattle.semantics.specs.Records.{stateFor}
+use Rattle.semantics.specs.Calls.{performed, Called, turnedBack, unless14, Call}
 use Rattle.format.specs.Walk.{tableCycle}
 use Rattle.format.specs.Signature.{Signature}
 use Rattle.format.specs.Image.{Table}
 use Rattle.format.specs.Opening.{Opened, opened, not-opened, openOf}
-use Rattle.format.specs.State.{stateOk, stateFor, memoryOf}
+use Rattle.format.specs.State.{stateOk, memoryOf}
 
 -- 14: "input or output row not as long as its count; else input value", at "0; its index"; none where the rows do not meet 14
 unfoldable pub rowPlace : Signature → List ℤ → ℕ → Option ℕ
 rowPlace σ i n = cond (eqb (length i) (length (σ .inputs)) && eqb n (length (σ .outputs))) (wrongValue (σ .inputs) i 0) (some 0)
-
--- a cycle performed, with its way: "the number of lines performed" is the way's length; or a refusal's number and place
-pub data Answer : Type 0 where
-  performed : (way : List ℕ) → Answer
-  not-performed : (number place : ℕ) → Answer
-
--- the answer, with state and output row as they are left
-pub record Called : Type 0 where
-  pub answer : Answer
-  pub state : State
-  pub row : List ℤ
-
--- "Buffers and state are untouched": a refused call hands state and output row back as they came
-abbrev pub turnedBack : ℕ → ℕ → State → List ℤ → Called
-turnedBack q k s o = record { answer = not-performed q k; state = s; row = o }
 
 -- "The wait reached becomes the place ..; the output row gets all outputs"; 16 at its line. That a cycle of an opened image is never passed is
 -- `image-outcome` of the crate `images`.
@@ -46,11 +33,6 @@ unfoldable pub tableRow : Table → State → List ℤ → List ℤ → Called
 tableRow t s i o =
     ended (tableCycle (t .lines) (t .reaches) (s .place) i (record { way = []; memory = memoryOf (t .signature) s })) s o
 
--- refusal 14 at the place k, or what comes after it
-abbrev pub unless14 : Option ℕ → State → List ℤ → Called → Called
-unless14 none s o r = r
-unless14 (some k) s o r = turnedBack 14 k s o
-
 -- one row on an opened table: 14, then 15, then 16
 unfoldable pub rowOf : Table → State → List ℤ → List ℤ → Called
 rowOf t s i o = unless14 (rowPlace (t .signature) i (length o)) s o (cond (stateOk t s) (tableRow t s i o) (turnedBack 15 0 s o))
@@ -63,11 +45,6 @@ unlessClosed (not-opened q p) s o k = turnedBack q p s o
 -- the cycle on an image's bytes: 11, 12, 13, then the row
 unfoldable pub cycleOf : List ℕ → State → List ℤ → List ℤ → Called
 cycleOf b s i o = unlessClosed (openOf b) s o (λ t. rowOf t s i o)
-
--- a call's input row, and its output row as it is lent
-pub record Call : Type 0 where
-  pub inputs : List ℤ
-  pub outputs : List ℤ
 
 -- "one claim about the whole list of cycle calls": what each call leaves, the next one getting the state that the last left
 unfoldable pub callsOf : List ℕ → State → List Call → List Called

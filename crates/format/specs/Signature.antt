@@ -8,7 +8,8 @@ use lib.ListN.{length}
 use lib.IntN.{ℤ}
 use lib.Dec.{leb, eqb}
 use Rattle.design.specs.Types.{Ty, std-logic, integer, inType}
-use Rattle.format.specs.Words.{word4, bytes4, signed32, unsigned32, onlyIf}
+use Rattle.format.specs.Words.{word4, bytes4, onlyIf}
+use Rattle.semantics.specs.Twos.{signed32, unsigned32}
 
 -- "for each output, then variable, type and 4-byte initial value"
 pub record Cell : Type 0 where

@@ -1,11 +1,9 @@
--- Bytes, little-endian numbers of two and four bytes, and 32-bit integers in two's complement. Assumes nothing.
-use mathlib.Core.Bool.{Bool, true, false, cond}
+-- Bytes, and little-endian numbers of two and four bytes. Assumes nothing.
+use mathlib.Core.Bool.{Bool, true, false}
 use mathlib.Core.Option.{Option, none}
 use mathlib.Core.List.{List, [], _∷_}
-use Prim.Native.Nat.{ℕ, _+_, _-_, _*_, _/_, _%_, _<_}
+use Prim.Native.Nat.{ℕ, _+_, _*_, _/_, _%_, _<_}
 use lib.ListN.{getD}
-use lib.IntN.{ℤ, pos, negsuc}
-use lib.Dec.{ltb}
 
 -- every element is a byte
 unfoldable pub Bytes : List ℕ → Type 0
@@ -35,15 +33,6 @@ word2At s k = word2 (getD s k 0) (getD s (k + 1) 0)
 -- the four-byte number at the byte k
 abbrev pub word4At : List ℕ → ℕ → ℕ
 word4At s k = word4 (getD s k 0) (getD s (k + 1) 0) (getD s (k + 2) 0) (getD s (k + 3) 0)
-
--- the integer of a four-byte number, in two's complement; negsuc n is -(n + 1)
-abbrev pub signed32 : ℕ → ℤ
-signed32 n = cond (ltb n 2147483648) (pos n) (negsuc (4294967295 - n))
-
--- the four-byte number of an integer
-abbrev pub unsigned32 : ℤ → ℕ
-unsigned32 (pos n) = n
-unsigned32 (negsuc n) = 4294967295 - n
 
 -- x where the test holds, else none
 abbrev pub onlyIf : {X : Type 0} → Bool → Option X → Option X

@@ -20,8 +20,10 @@ use Rattle.format.specs.Signature.{types}
 use Rattle.format.specs.Image.{Table}
 use Rattle.format.specs.Good.{GoodTable}
 use Rattle.format.specs.Opening.{opened, openOf}
-use Rattle.format.specs.State.{stateOk, stateFor, memoryOf}
-use Rattle.format.specs.Cycle.{rowPlace, turnedBack, ended, tableRow, unless14, rowOf, unlessClosed, cycleOf}
+use Rattle.format.specs.State.{stateOk, memoryOf}
+use Rattle.semantics.specs.Records.{stateFor}
+use Rattle.format.specs.Cycle.{rowPlace, ended, tableRow, rowOf, unlessClosed, cycleOf}
+use Rattle.semantics.specs.Calls.{turnedBack, unless14}
 use Rattle.format.proofs.Opens.{opens-exactly}
 use Rattle.simulation.specs.Walked.{WaitAt, Walked, waits-at, refuses-at}
 use Rattle.simulation.proofs.Walked.{from-inside, cycle-walked}

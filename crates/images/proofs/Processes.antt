@@ -21,9 +21,10 @@ use Rattle.format.specs.Signature.{Signature, types, initials, Initialised, Goo
 use Rattle.format.specs.Good.{fitsLine, within, goodLine, GoodLines, GoodTable}
 use Rattle.format.specs.Opening.{opened, openOf}
 use Rattle.format.specs.Encode.{cells, signatureFor, tableOf, encode}
-use Rattle.format.specs.State.{stateFor, freshTable, fresh, freshOf}
+use Rattle.format.specs.State.{freshTable, freshOf}
+use Rattle.semantics.specs.Records.{stateFor, fresh}
 use Rattle.format.specs.Cycle.{rowPlace}
-use Rattle.format.proofs.Basic.{and-both}
+use Rattle.semantics.proofs.Basic.{and-both}
 use Rattle.format.proofs.Opens.{table-opens}
 use Rattle.format.proofs.Encoded.{table-bytes}
 use Rattle.simulation.specs.Ranked.{Followers}

@@ -15,68 +15,18 @@ use Rattle.design.specs.Types.{Ty, eqZ, inType}
 use Rattle.semantics.specs.Equations.{Memory}
 use Rattle.semantics.specs.Values.{Values}
 use Rattle.semantics.proofs.Basic.{false-true, eqb-true, and-left, and-right, or-left, or-right}
+use Rattle.semantics.proofs.Slots.{pad-length, slots-ok, counted-slots, pad-take}
 use Rattle.semantics.proofs.Results.{or-case}
 use Rattle.format.specs.Lines.{Line, waits, acts, branches, line}
 use Rattle.format.specs.Signature.{Signature, Cell, types, initials, Initialised, GoodSignature}
 use Rattle.format.specs.Image.{Table}
 use Rattle.format.specs.Good.{GoodTable}
-use Rattle.format.specs.State.{zeros, slotsOk, isWait, placeOk, stateOk, pad, stateFor, memoryOf, freshTable}
-use Rattle.format.proofs.Basic.{and-both}
-use Rattle.format.proofs.Words.{eqZ-true}
+use Rattle.format.specs.State.{isWait, placeOk, stateOk, memoryOf, freshTable}
+use Rattle.semantics.specs.Records.{zeros, slotsOk, pad, stateFor}
+use Rattle.semantics.proofs.Basic.{and-both}
+use Rattle.semantics.proofs.Basic.{eqZ-true}
 use Rattle.simulation.specs.Walked.{WaitAt}
 use Rattle.images.specs.Outcome.{Typed, GoodState}
-
--- Slots.
-
-pub pad-length : (n : ℕ) (l : List ℤ) → length (pad n l) ≡ n
-unfolding pad
-pad-length zero l = refl
-pad-length (suc n) [] = ap suc (pad-length n [])
-pad-length (suc n) (z ∷ l) = ap suc (pad-length n l)
-
-zeros-pad : (n : ℕ) → zeros (pad n []) ≡ true
-unfolding pad zeros
-zeros-pad zero = refl
-zeros-pad (suc n) = zeros-pad n
-
-pad-zeros : (n : ℕ) (l : List ℤ) → length l ≡ n → zeros l ≡ true → l ≡ pad n []
-unfolding pad zeros
-pad-zeros zero [] e h = refl
-pad-zeros zero (z ∷ l) e h = absurd (omega arith)
-pad-zeros (suc n) [] e h = absurd (omega arith)
-pad-zeros (suc n) (z ∷ l) e h =
-    ap (λ y. y ∷ l) (eqZ-true z 0 (and-left (eqZ z (pos 0)) _ h)) ∙ ap (λ r. pos 0 ∷ r) (pad-zeros n l (omega arith) (and-right (eqZ z (pos 0)) _ h))
-
--- values of their types, padded, are accepted ..
-pub slots-ok : (n : ℕ) (ts : List Ty) (l : List ℤ) → Values ts l → length ts ≤ n → slotsOk ts (pad n l) ≡ true
-unfolding pad slotsOk Values
-slots-ok n [] [] h b = zeros-pad n
-slots-ok n [] (z ∷ l) h b = absurd h
-slots-ok n (t ∷ ts) [] h b = absurd h
-slots-ok zero (t ∷ ts) (z ∷ l) h b = absurd (omega arith)
-slots-ok (suc n) (t ∷ ts) (z ∷ l) h b = and-both _ _ (h .0) (slots-ok n ts l (h .1) (omega arith))
-
--- .. and nothing else is: the used slots are values of their types, and the slots are these, padded
-ok-slots : (n : ℕ) (ts : List Ty) (l : List ℤ) → length l ≡ n → slotsOk ts l ≡ true → Values ts (take (length ts) l) × (l ≡ pad n (take (length ts) l))
-unfolding pad slotsOk Values
-ok-slots n [] l e h = (tt, pad-zeros n l e h)
-ok-slots n (t ∷ ts) [] e h = false-true h
-ok-slots zero (t ∷ ts) (z ∷ l) e h = absurd (omega arith)
-ok-slots (suc n) (t ∷ ts) (z ∷ l) e h =
-    let r = ok-slots n ts l (omega arith) (and-right (inType t z) _ h) in
-    ((and-left (inType t z) _ h, r .0), ap (λ q. z ∷ q) (r .1))
-
-pub counted-slots : (n : ℕ) (ts : List Ty) (l : List ℤ) → (eqb (length l) n && slotsOk ts l) ≡ true → Values ts (take (length ts) l) × (l ≡ pad n (take (length ts) l))
-counted-slots n ts l h = ok-slots n ts l (eqb-true (length l) n (and-left (eqb (length l) n) _ h)) (and-right (eqb (length l) n) _ h)
-
--- values of their types are read back from the slots
-pub pad-take : (n : ℕ) (ts : List Ty) (l : List ℤ) → Values ts l → length ts ≤ n → take (length ts) (pad n l) ≡ l
-unfolding pad Values
-pad-take n [] [] h b = refl
-pad-take n [] (z ∷ l) h b = absurd h
-pad-take n (t ∷ ts) [] h b = absurd h
-pad-take zero (t ∷ ts) (z ∷ l) h b = absurd (omega arith)
-pad-take (suc n) (t ∷ ts) (z ∷ l) h b = ap (λ r. z ∷ r) (pad-take n ts l (h .1) (omega arith))
 
 pub types-length : (l : List Cell) → length (types l) ≡ length l
 types-length l = length-map l (λ c. c .type)

@@ -12,8 +12,9 @@ use Rattle.semantics.specs.Values.{Typed as TypedBy}
 use Rattle.format.specs.Walk.{from, tableCycle}
 use Rattle.format.specs.Signature.{Signature, types}
 use Rattle.format.specs.Image.{Table}
-use Rattle.format.specs.State.{stateFor, memoryOf}
-use Rattle.format.specs.Cycle.{performed, Called, turnedBack}
+use Rattle.format.specs.State.{memoryOf}
+use Rattle.semantics.specs.Records.{stateFor}
+use Rattle.semantics.specs.Calls.{performed, Called, turnedBack}
 use Rattle.simulation.specs.Walked.{WaitAt, WayFrom}
 
 -- input and output row are as long as their counts

@@ -22,10 +22,11 @@ use Rattle.language.proofs.Judged.{accepts, refuses}
 use Rattle.language.proofs.WellFormed.{valid-well-formed}
 use Rattle.semantics.specs.Rows.{Outcome, performed, row-refused, operator-refused, rowRefusal, concluded, atFirst}
 use Rattle.semantics.specs.Equations.{cycle}
-use Rattle.format.specs.State.{stateFor}
-use Rattle.format.specs.Cycle.{Call, turnedBack, unless14}
-use Rattle.theorems.specs.Comparison.{fed, laid, told}
-use Rattle.theorems.specs.Direct.{fitsText, keptOf, cycled, directRow, directOf, directFresh}
+use Rattle.semantics.specs.Records.{stateFor}
+use Rattle.semantics.specs.Calls.{Call, turnedBack, unless14}
+use Rattle.semantics.specs.Comparison.{fed, laid, told}
+use Rattle.semantics.specs.DirectRow.{fitsText, keptOf, cycled, directRow}
+use Rattle.behaviour.specs.Direct.{directOf, directFresh}
 use Rattle.ir.specs.Arrays.{NamesIn}
 use Rattle.frontend.specs.declared.Front.{Front}
 use Rattle.frontend.specs.declared.Front.the-variants.{Accepted, Refused}

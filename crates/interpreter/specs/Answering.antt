@@ -10,8 +10,8 @@ use Rattle.answers.specs.declared.Cycled.{Cycled}
 use Rattle.answers.specs.declared.Cycled.the-variants.{Performed, NotPerformed}
 use Rattle.answers.specs.declared.Started as declared
 use Rattle.answers.specs.declared.Started.the-variants.{Fresh, NotStarted}
-use Rattle.format.specs.State.{stateFor, Started, fresh, not-started}
-use Rattle.format.specs.Cycle.{Answer, performed, not-performed}
+use Rattle.semantics.specs.Records.{stateFor, Started, fresh, not-started}
+use Rattle.semantics.specs.Calls.{Answer, performed, not-performed}
 use Rattle.frontend.specs.Answered.{refusalOf}
 use Rattle.direct.specs.Calls as D
 

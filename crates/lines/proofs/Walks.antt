@@ -27,11 +27,12 @@ use Rattle.format.specs.Lines.{Line, waits, acts, branches, line, reach}
 use Rattle.format.specs.Walk.{step, walk}
 use Rattle.format.specs.Image.{Table, rawOf, lineCode}
 use Rattle.format.specs.Good.{fitsLine}
-use Rattle.format.specs.State.{pad}
+use Rattle.semantics.specs.Records.{pad}
 use Rattle.format.proofs.Lines.{fits-type}
 use Rattle.simulation.specs.Ranked.{Followers}
 use Rattle.images.specs.Outcome.{Typed}
-use Rattle.images.proofs.States.{pad-take, types-length}
+use Rattle.images.proofs.States.{types-length}
+use Rattle.semantics.proofs.Slots.{pad-take}
 use Rattle.images.proofs.Tables.{line-good, good-ranked}
 use Rattle.evaluator.specs.declared.Evaluated.{Evaluated}
 use Rattle.evaluator.specs.declared.Evaluated.the-variants.{Value, Fault}

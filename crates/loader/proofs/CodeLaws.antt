@@ -14,7 +14,8 @@ use borrow.Author.Tests.{lt-ltb, le-ltb, le-leb, lt-leb, eqb-true, eqb-false, ne
 use Rattle.design.specs.Types.{Ty, std-logic, integer, ExprTy, plain, boolean, sameTy, sameType}
 use Rattle.design.specs.Expression.{Leaf, int, bit, input, variable, Unary, sign, invert, Binary, plus, minus, equal, unequal, less, at-most, greater, at-least, and, or, xor, Expr, leaf, unary, binary, items, Out, fine, fault, bind, nth, plainly, leafType, sumType, orderType, equalityType, logicalType, unaryType, binaryType}
 use Rattle.semantics.proofs.Basic.{none-some, fault-fine, some-injective, fine-injective}
-use Rattle.format.specs.Words.{Bytes, word4At, signed32, onlyIf}
+use Rattle.format.specs.Words.{Bytes, word4At, onlyIf}
+use Rattle.semantics.specs.Twos.{signed32}
 use Rattle.format.specs.Code.{Operation, push, apply1, apply2, Taken, readInt, bitOf, readBit, readName, operator, readOperation, operations, Machine, onto, run, runOperations, runCode, withType, typed, trees, valueOf, decode}
 use Rattle.format.proofs.Words.{word4-small, signed-range, byte-at}
 use Rattle.format.proofs.Basic.{andThen-some, map-some, cond-case}

@@ -12,7 +12,8 @@ use mir.Val.{Fits}
 use Rattle.design.specs.Types.{Ty, std-logic, integer}
 use Rattle.design.specs.Expression.{nth, plainly}
 use Rattle.semantics.proofs.Basic.{false-true}
-use Rattle.format.specs.Words.{Bytes, bytes4, unsigned32}
+use Rattle.format.specs.Words.{Bytes, bytes4}
+use Rattle.semantics.specs.Twos.{unsigned32}
 use Rattle.format.specs.Signature.{Cell, Signature, types, typeByte, typeBytes, cellBytes, signatureBytes, signatureOf}
 use Rattle.format.proofs.Signature.{signature-exactly}
 use Rattle.loader.specs.Sections.{isSome}

@@ -13,7 +13,7 @@ use Rattle.semantics.proofs.Basic.{false-true, eqb-true, and-left, and-right}
 use Rattle.format.specs.Words.{word4, word2At, word4At, onlyIf}
 use Rattle.format.specs.Image.{Sections}
 use Rattle.format.specs.Opening.{readSections, readImage, wholeLines, sectionsOf, isEmpty}
-use Rattle.format.proofs.Basic.{and-both}
+use Rattle.semantics.proofs.Basic.{and-both}
 use Rattle.loader.specs.Sections.{isSome, signatureLength, linesLength, codeLength, linesStart, codeStart, part, parts, headed, paired, whole, sectioned}
 use Rattle.loader.proofs.Bools.{same-test}
 

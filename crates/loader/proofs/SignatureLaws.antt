@@ -16,7 +16,8 @@ use native.Mathlib.Decide.{decLt}
 use borrow.Author.Tests.{lt-ltb, le-ltb, le-leb, lt-leb, leb-true, ne-eqb}
 use Rattle.design.specs.Types.{Ty, inType}
 use Rattle.semantics.proofs.Basic.{none-some, some-injective}
-use Rattle.format.specs.Words.{word4, word4At, signed32, onlyIf}
+use Rattle.format.specs.Words.{word4, word4At, onlyIf}
+use Rattle.semantics.specs.Twos.{signed32}
 use Rattle.format.specs.Signature.{Cell, Signature, typeOfByte, readTypes, readCell, readCells, atEnd, signatureOf}
 use Rattle.format.specs.Opening.{isEmpty}
 use Rattle.format.proofs.Basic.{andThen-some, onlyIf-some}

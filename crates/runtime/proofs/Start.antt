@@ -13,7 +13,8 @@ use Rattle.format.specs.Words.{Bytes}
 use Rattle.format.specs.Signature.{signatureOf}
 use Rattle.format.specs.Image.{Table}
 use Rattle.format.specs.Opening.{opened, not-opened, openOf}
-use Rattle.format.specs.State.{freshTable, freshFrom, freshOf, stateFor}
+use Rattle.format.specs.State.{freshTable, freshFrom, freshOf}
+use Rattle.semantics.specs.Records.{stateFor}
 use Rattle.loader.specs.Open.{openedAs}
 use Rattle.table.proofs.Opened.{opens-signature}
 use Rattle.runtime.specs.Calls.{startedOf, startOf}

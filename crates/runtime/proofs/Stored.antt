@@ -8,7 +8,8 @@ use lib.IntN.{ℤ}
 use Rattle.semantics.proofs.Basic.{false-true}
 use Rattle.answers.specs.Answers.{linesOf}
 use Rattle.answers.specs.declared.State.{State}
-use Rattle.format.specs.Cycle.{Answer, performed, not-performed, cycleOf}
+use Rattle.format.specs.Cycle.{cycleOf}
+use Rattle.semantics.specs.Calls.{Answer, performed, not-performed}
 use Rattle.format.proofs.Calls.{refused-untouched}
 use Rattle.cycle.specs.declared.Advanced.{Advanced}
 use Rattle.cycle.specs.Advances.{cycledOf, isPerformed}

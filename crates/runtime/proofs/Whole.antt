@@ -22,7 +22,8 @@ use Rattle.format.specs.Lines.{reach}
 use Rattle.format.specs.Walk.{from}
 use Rattle.format.specs.Image.{Table}
 use Rattle.format.specs.Opening.{sectionsOf, Opened, opened, not-opened, openOf}
-use Rattle.format.specs.Cycle.{Answer, performed, not-performed, Called, rowOf, unlessClosed, cycleOf}
+use Rattle.format.specs.Cycle.{rowOf, unlessClosed, cycleOf}
+use Rattle.semantics.specs.Calls.{Answer, performed, not-performed, Called}
 use Rattle.images.specs.Outcome.{Outcome, row-refused, state-refused, operator-refused, performs}
 use Rattle.images.proofs.Outcomes.{row-outcome}
 use Rattle.loader.specs.Sections.{isSome, linesStart, codeStart}

@@ -8,8 +8,8 @@ use Rattle.answers.specs.declared.Started.the-variants.{Fresh, NotStarted}
 use Rattle.format.specs.Lines.{reach}
 use Rattle.format.specs.Walk.{from}
 use Rattle.format.specs.Opening.{Opened, opened, not-opened, openOf}
-use Rattle.format.specs.State.{stateFor, Started, fresh, not-started}
-use Rattle.format.specs.Cycle.{Answer, performed, not-performed}
+use Rattle.semantics.specs.Records.{stateFor, Started, fresh, not-started}
+use Rattle.semantics.specs.Calls.{Answer, performed, not-performed}
 use Rattle.cycle.specs.Advances.{refusalFor}
 
 -- "The way of a cycle lists the statements it performed"; a refused call performs none

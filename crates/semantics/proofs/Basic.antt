@@ -1,10 +1,12 @@
 -- Facts about tests, options and the fold over an expression that the other proofs cite. Assumes nothing.
 use Prim.Native.Nat.{ℕ}
 use native.Mathlib.Omega.{arith}
-use mathlib.Core.Path.{_≡_, refl, sym}
+use mathlib.Core.Path.{_≡_, refl, sym, ap}
 use mathlib.Core.Bool.{Bool, true, false, _&&_, _||_}
 use mathlib.Core.Option.{none, some}
+use lib.IntN.{ℤ, pos, negsuc}
 use lib.Dec.{eqb, T, eqb→eq, eqb-refl}
+use Rattle.design.specs.Types.{eqZ}
 use Rattle.design.specs.Expression.{Out, fine, fault, bind}
 
 -- distinct constructors are never equal
@@ -29,6 +31,10 @@ fault-injective x y e = cc
 pub eqb-true : (m n : ℕ) → eqb m n ≡ true → m ≡ n
 eqb-true m n e = eqb→eq m n (rw e tt)
 
+pub eqZ-true : (z : ℤ) (n : ℕ) → eqZ z (pos n) ≡ true → z ≡ pos n
+eqZ-true (pos a) n h = ap pos (eqb-true a n h)
+eqZ-true (negsuc a) n h = false-true h
+
 pub eqb-same : (n : ℕ) → eqb n n ≡ true
 eqb-same n = go (eqb n n) (eqb-refl n)
   where
@@ -43,6 +49,9 @@ and-left false b e = e
 pub and-right : (a b : Bool) → (a && b) ≡ true → b ≡ true
 and-right true b e = e
 and-right false b e = false-true e
+
+pub and-both : (a b : Bool) → a ≡ true → b ≡ true → (a && b) ≡ true
+and-both a b p q = rw (p, q)
 
 pub or-left : (a b : Bool) → a ≡ true → (a || b) ≡ true
 or-left a b e = rw e

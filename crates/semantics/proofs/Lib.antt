@@ -1,4 +1,5 @@
 pub mod Basic
+pub mod Slots
 pub mod Overflow
 pub mod Names
 pub mod Values
@@ -15,5 +16,7 @@ pub mod Way
 pub mod Ends
 pub mod WellTyped
 pub mod Rows
+pub mod DirectRows
+pub mod Described
 pub mod PublishedRows
 pub mod Tally

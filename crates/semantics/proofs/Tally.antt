@@ -1,6 +1,6 @@
 -- tally's rows by document 01's reading and by the published equations, both by computing: the trace of document 01 (P1). Assumes nothing.
 use mathlib.Core.Path.{_≡_, refl}
-use mathlib.Core.List.{List, [], _∷_}
+use mathlib.Core.List.{List, [], _∷_, map}
 use lib.IntN.{pos, negsuc}
 use native.Mathlib.Bridge.{le-by-compare, IsLe}
 use Rattle.design.specs.Types.{sameTy, sameType, inRange, inType}
@@ -9,11 +9,14 @@ use Rattle.design.specs.Statement.{size, has, seqClass, classOf, LoopsC}
 use Rattle.design.specs.Process.{isType, fits, typedAct, typed, WellFormed}
 use Rattle.semantics.specs.Evaluation.{binaryResult, asInteger, applyBinary, leafValue, evaluate}
 use Rattle.semantics.specs.Equations.{perform, holds, log, then, acted, tested, pick, start, resume, at, enter, cycle}
-use Rattle.semantics.specs.Rows.{Kept, Outcome, performed, operator-refused, atFirst, wrongValue, rowRefusal, concluded, judged, row, rowsFrom, rows}
+use Rattle.semantics.specs.Rows.{Call, Kept, Outcome, performed, operator-refused, atFirst, wrongValue, rowRefusal, concluded, judged, row, rowsFrom, rows}
 use Rattle.semantics.specs.Effects.{andThen}
 use Rattle.semantics.specs.Published.{«PRIMREC_option», «PRIMREC_sum», _⇒_∣_, «SIGNAL_ASSIGNMENT», «VARIABLE_ASSIGNMENT», «WAIT», «SEQ_AC», «SEQ_BC», «WHILE_C», «CLOSE_C»}
 use Rattle.semantics.specs.Denotation.{raised, performing, actSem, waitSem, conditionSem, sem, process}
 use Rattle.semantics.specs.PublishedRows.{concludedPublished, judgedPublished, publishedFrom, publishedRows}
+use Rattle.semantics.specs.Calls.{Called}
+use Rattle.semantics.specs.Calls as C
+use Rattle.semantics.specs.Comparison.{seenAll}
 use Rattle.semantics.specs.Tally.{tally, tallyCalls}
 
 -- "0 2 3 0", "1 2 3 0", "2 5 4 14", "3 2 3 14", "4 refused 16", "5 2 3 14": output row and way, and what is kept
@@ -50,3 +53,19 @@ tally-well-formed =
       class = refl;
       loops = ((refl, (tt, tt)), (tt, (tt, tt)));
     }
+
+-- the same calls, each with an output row of one 99
+abbrev lent : List C.Call
+lent = map (λ (c : Call). record { inputs = c .inputs; outputs = pos 99 ∷ [] }) tallyCalls
+
+-- what the equations' outcomes come to as answers of calls: ways, the refusal's number and place
+pub tally-answers : map (λ (r : Called). r .answer) (seenAll trace lent)
+    ≡ C.performed (0 ∷ 1 ∷ 2 ∷ []) ∷ C.performed (0 ∷ 1 ∷ 2 ∷ []) ∷ C.performed (0 ∷ 3 ∷ 4 ∷ 5 ∷ []) ∷ C.performed (0 ∷ 1 ∷ 2 ∷ []) ∷ C.not-performed 16 1 ∷ C.performed (0 ∷ 1 ∷ 2 ∷ []) ∷ []
+unfolding seenAll tallyCalls
+tally-answers = refl
+
+-- .. and as output rows: a refused call leaves the row as it was lent
+pub tally-left : map (λ (r : Called). r .row) (seenAll trace lent)
+    ≡ (pos 0 ∷ []) ∷ (pos 0 ∷ []) ∷ (pos 14 ∷ []) ∷ (pos 14 ∷ []) ∷ (pos 99 ∷ []) ∷ (pos 14 ∷ []) ∷ []
+unfolding seenAll tallyCalls
+tally-left = refl

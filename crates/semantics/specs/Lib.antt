@@ -16,3 +16,8 @@ pub mod Values
 pub mod Way
 pub mod Answer
 pub mod Tally
+pub mod Records
+pub mod Calls
+pub mod Twos
+pub mod Comparison
+pub mod DirectRow

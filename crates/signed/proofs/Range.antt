@@ -14,7 +14,7 @@ use borrow.Author.Tests.{ltb-true, ltb-false, le-leb, lt-leb, eq-eqb, ne-eqb, eq
 use Rattle.design.specs.Types.{eqZ, inRange}
 use Rattle.design.specs.Expression.{fine, fault}
 use Rattle.semantics.specs.Evaluation.{asInteger}
-use Rattle.format.specs.Words.{unsigned32}
+use Rattle.semantics.specs.Twos.{unsigned32}
 
 -- an integer is what 32 bits hold
 pub fits-range : (z : ℤ) → ltZ z (negsuc 2147483647) ≡ false → ltZ (pos 2147483647) z ≡ false → SFits w32 z

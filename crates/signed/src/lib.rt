@@ -5,7 +5,7 @@ ghost use lib.IntN.{_+ℤ_, _-ℤ_, negℤ};
 ghost use lib.Signed.{ltZ, leZ};
 ghost use Rattle.design.specs.Types.{eqZ};
 ghost use Rattle.semantics.specs.Evaluation.{asInteger, bitOf, isOne};
-ghost use Rattle.format.specs.Words.{signed32, unsigned32};
+ghost use Rattle.semantics.specs.Twos.{signed32, unsigned32};
 ghost use Rattle.signed.specs.Signed.{checkedOf, inTypeByte};
 
 // The result of an operator: an integer, or the number of the refusal (16 where the result is outside integer).

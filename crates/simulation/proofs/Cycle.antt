@@ -15,7 +15,7 @@ use Rattle.semantics.proofs.Basic.{false-true, eqb-true, or-other}
 use Rattle.semantics.proofs.Results.{then-assoc, then-stays, C-stops, has-below}
 use Rattle.format.specs.Lines.{Line, linesOf, line, next, reach, reachesOf}
 use Rattle.format.specs.Walk.{step, walk, from, tableCycle}
-use Rattle.simulation.specs.Places.{number}
+use Rattle.semantics.specs.Records.{number}
 use Rattle.simulation.proofs.Lines.{Each, each-both, linesOf-each}
 use Rattle.simulation.proofs.Ranked.{Falls, falls}
 use Rattle.simulation.proofs.Reaches.{reachesOf-each}

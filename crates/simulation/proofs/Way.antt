@@ -13,7 +13,7 @@ use Rattle.semantics.specs.Answer.{Placed}
 use Rattle.semantics.proofs.Results.{size-pos, has-below}
 use Rattle.format.specs.Lines.{linesOf, reach, reachesOf}
 use Rattle.format.specs.Walk.{from}
-use Rattle.simulation.specs.Places.{number}
+use Rattle.semantics.specs.Records.{number}
 use Rattle.simulation.specs.Walked.{Walked, waits-at, refuses-at}
 use Rattle.simulation.proofs.Lines.{linesOf-length}
 use Rattle.simulation.proofs.Reaches.{linesOf-ranked}

@@ -12,7 +12,8 @@ use borrow.Author.Tests.{eq-eqb, ne-eqb}
 use Rattle.answers.specs.declared.State.{State}
 use Rattle.format.specs.Signature.{Signature, types, initials, typeBytes, signatureOf}
 use Rattle.format.specs.Image.{Table}
-use Rattle.format.specs.State.{stateOk, stateFor, freshTable, pad}
+use Rattle.format.specs.State.{stateOk, freshTable}
+use Rattle.semantics.specs.Records.{stateFor, pad}
 use Rattle.format.specs.Cycle.{rowPlace}
 use Rattle.images.proofs.InputRows.{row-right}
 use Rattle.table.specs.declared.RowCheck.the-variants.{Right, WrongAt}

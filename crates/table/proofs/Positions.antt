@@ -15,9 +15,10 @@ use Rattle.design.specs.Types.{Ty, std-logic, integer, inType}
 use Rattle.design.specs.Expression.{nth}
 use Rattle.semantics.specs.Rows.{wrongValue}
 use Rattle.semantics.proofs.Basic.{none-some, some-injective, eqb-true, and-left, and-right}
-use Rattle.format.specs.Words.{word4, word4At, signed32}
+use Rattle.format.specs.Words.{word4, word4At}
+use Rattle.semantics.specs.Twos.{signed32}
 use Rattle.format.specs.Signature.{Cell, Signature, types, initials, typeByte, typeBytes, typeOfByte, readTypes, readCell, readCells, atEnd, signatureOf}
-use Rattle.format.specs.State.{slotsOk}
+use Rattle.semantics.specs.Records.{slotsOk}
 use Rattle.format.proofs.Basic.{andThen-some, onlyIf-some, cond-case}
 use Rattle.signed.specs.Signed.{inTypeByte, inSome}
 use Rattle.table.specs.Places.{outputsAt, variablesAt, wrongFrom, slotsAt, initialsAt, typeBytesAt}

@@ -13,7 +13,7 @@ use lib.Seq.{length-take-le, take-suc, take-suc-set, take-all, drop-cons, set-at
 use lib.IntN.{ℤ, pos}
 use lib.Dec.{ltb, leb, eqb}
 use borrow.Author.Tests.{lt-ltb, le-ltb, le-leb, lt-leb, eq-eqb, ne-eqb}
-use Rattle.format.specs.State.{zeros, pad}
+use Rattle.semantics.specs.Records.{zeros, pad}
 use Rattle.signed.specs.Signed.{inTypeByte}
 use Rattle.table.specs.Places.{wrongFrom, slotAt, slotsAt, initialAt, initialsAt, typeBytesAt, placeAt}
 

@@ -9,10 +9,11 @@ use lib.IntN.{ℤ, pos}
 use lib.Dec.{ltb, eqb}
 use Rattle.design.specs.Types.{eqZ}
 use Rattle.signed.specs.Signed.{inTypeByte}
-use Rattle.format.specs.Words.{word4At, signed32}
+use Rattle.format.specs.Words.{word4At}
+use Rattle.semantics.specs.Twos.{signed32}
 use Rattle.format.specs.Image.{Table}
 use Rattle.format.specs.Opening.{opened, openSections}
-use Rattle.format.specs.State.{zeros}
+use Rattle.semantics.specs.Records.{zeros}
 
 -- the three sections are those of an image that opens to the table t: what the opener establishes, and all that a cycle rests on
 abbrev pub Opens : List ℕ → List ℕ → List ℕ → Table → Type 0

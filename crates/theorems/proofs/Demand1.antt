@@ -19,14 +19,15 @@ use Rattle.format.specs.Image.{Table}
 use Rattle.format.specs.Opening.{Opened, opened, not-opened, openOf}
 use Rattle.format.specs.Refusals.{Refusal, sections-refused, signature-refused, line-refused}
 use Rattle.format.specs.State.{freshFrom, freshOf}
-use Rattle.format.specs.Cycle.{Called, Call, cycleOf}
+use Rattle.format.specs.Cycle.{cycleOf}
+use Rattle.semantics.specs.Calls.{Called, Call}
 use Rattle.format.specs.Encode.{tableOf}
 use Rattle.format.proofs.Refusals.{refused-exactly}
 use Rattle.images.specs.Outcome as O
 use Rattle.images.proofs.Outcomes.{row-outcome, image-outcome}
 use Rattle.images.proofs.Processes.{process-good}
 use Rattle.theorems.specs.Compile.{written, not-compiled, written-into, onVerdict, compileOf}
-use Rattle.theorems.specs.Direct.{unlessRefused, directOf}
+use Rattle.behaviour.specs.Direct.{unlessRefused, directOf}
 use Rattle.theorems.specs.Demand1.{Compiles, writes, Opens, opens, Starts, starts, Runs, performs, Demand1}
 use Rattle.theorems.specs.Demand1 as D
 use Rattle.theorems.proofs.Size.{valid-fits}

@@ -1,4 +1,4 @@
--- Demand 2 on the definitions, from the theorems of language and semantics. Assumes nothing.
+-- Demand 2 on the definitions, from the theorems of language, semantics and behaviour. Assumes nothing.
 use mathlib.Core.List.{List}
 use Prim.Native.Nat.{ℕ}
 use Rattle.language.proofs.Judged.{accepts, refuses}
@@ -6,6 +6,7 @@ use Rattle.language.proofs.Answers.{valid-one, one-reading}
 use Rattle.language.proofs.WellFormed.{valid-well-formed}
 use Rattle.semantics.proofs.Rows.{rows-answer}
 use Rattle.semantics.proofs.PublishedRows.{rows-published}
+use Rattle.behaviour.proofs.DirectRun.{direct-run}
 use Rattle.theorems.specs.Demand2.{Demand2}
 
 pub demand2 : (b : List ℕ) → Demand2 b
@@ -16,4 +17,5 @@ demand2 b = record {
   one-meaning = λ d e v w. valid-one v w;
   published = λ d v cs. rows-published d (valid-well-formed v) cs;
   answered = λ d v cs. rows-answer d (valid-well-formed v) cs;
+  direct = direct-run b;
 }

@@ -19,12 +19,14 @@ use Rattle.semantics.specs.Answer.{Invariant, Answers, by-14, by-16, performs, 
 use Rattle.semantics.proofs.Rows.{first-invariant, row-answers, row-invariant}
 use Rattle.format.specs.Opening.{opened, openOf}
 use Rattle.format.specs.State.{freshFrom, freshOf}
-use Rattle.format.specs.State as S
-use Rattle.format.specs.Cycle.{Called, Call, cycleOf, callsOf}
+use Rattle.semantics.specs.Records as S
+use Rattle.format.specs.Cycle.{cycleOf, callsOf}
+use Rattle.semantics.specs.Calls.{Called, Call}
 use Rattle.format.specs.Encode.{tableOf, encode}
 use Rattle.theorems.specs.Compile.{written, not-compiled, Compile, written-into, onVerdict, compileOf}
-use Rattle.theorems.specs.Comparison.{fed, laid, told, seen, equationCalls}
-use Rattle.theorems.specs.Direct.{directRow, unlessRefused, directOf, freshText, directFresh}
+use Rattle.semantics.specs.Comparison.{fed, laid, told, seen, equationCalls}
+use Rattle.semantics.specs.DirectRow.{directRow}
+use Rattle.behaviour.specs.Direct.{unlessRefused, directOf, freshText, directFresh}
 use Rattle.theorems.specs.Demand3.{Short, AllShort, Demand3}
 use Rattle.simulation.proofs.Way.{cycle-bound}
 use Rattle.images.proofs.Processes.{encode-opens}

@@ -19,13 +19,15 @@ use Rattle.semantics.specs.Answer.{Placed, Invariant}
 use Rattle.semantics.proofs.Basic.{false-true, eqb-true, eqb-same, and-left, and-right, or-left, or-right, or-other}
 use Rattle.semantics.proofs.Results.{has-below}
 use Rattle.format.specs.Lines.{Line, line, linesOf}
-use Rattle.format.specs.State.{slotsOk, isWait, placeOk, stateOk, pad, stateFor}
-use Rattle.format.specs.Cycle.{Called, turnedBack, unless14, tableRow, rowOf, Call}
+use Rattle.format.specs.State.{isWait, placeOk, stateOk}
+use Rattle.semantics.specs.Records.{slotsOk, pad, stateFor}
+use Rattle.format.specs.Cycle.{tableRow, rowOf}
+use Rattle.semantics.specs.Calls.{Called, turnedBack, unless14, Call}
 use Rattle.format.specs.Encode.{tableOf, signatureFor}
-use Rattle.simulation.specs.Places.{number}
-use Rattle.theorems.specs.Comparison.{fed, laid}
-use Rattle.theorems.specs.Direct.{fitsText, placeFor, keptOf, cycled, directRow}
-use Rattle.images.proofs.States.{counted-slots}
+use Rattle.semantics.specs.Records.{number}
+use Rattle.semantics.specs.Comparison.{fed, laid}
+use Rattle.semantics.specs.DirectRow.{fitsText, placeFor, keptOf, cycled, directRow}
+use Rattle.semantics.proofs.Described.{kept-invariant, kept-laid}
 use Rattle.images.proofs.Processes.{cells-types, row-refusal}
 use Rattle.simulation.proofs.Lines.{Each, linesOf-each, linesOf-length, below-or}
 use Rattle.theorems.proofs.OneRow.{wait-line, same-cycle}
@@ -76,58 +78,6 @@ same-place s n = same-bool _ (has s 0 n) there back
 same-15 : (p : Process) (s : State) → stateOk (tableOf p) s ≡ fitsText p s
 unfolding stateOk fitsText placeOk tableOf signatureFor
 same-15 p s = rw (same-place (p .body) (s .place), cells-types (p .outputs), cells-types (p .variables))
-
-number-back : (n : ℕ) → number (placeFor n) ≡ n
-unfolding placeFor
-number-back n = go (eqb n 512) refl
-  where
-    go : (b : Bool) → eqb n 512 ≡ b → number (cond b beginning (at n)) ≡ n
-    go true e = sym (eqb-true n 512 e)
-    go false e = refl
-
-placed-for : (s : Stmt) (n : ℕ) → (eqb n 512 || has s 0 n) ≡ true → Placed s (placeFor n)
-unfolding placeFor Placed
-placed-for s n e = go (eqb n 512) refl
-  where
-    go : (b : Bool) → eqb n 512 ≡ b → Placed s (cond b beginning (at n))
-    go true h = tt
-    go false h = or-other (eqb n 512) (has s 0 n) h e
-
-module _ (p : Process) (s : State) (f : fitsText p s ≡ true) where
-  abbrev place-fits : Bool
-  place-fits = eqb (s .place) 512 || has (p .body) 0 (s .place)
-
-  abbrev outputs-fit : Bool
-  outputs-fit = eqb (length (s .outputs)) 16 && slotsOk (slotTypes (p .outputs)) (s .outputs)
-
-  abbrev variables-fit : Bool
-  variables-fit = eqb (length (s .variables)) 32 && slotsOk (slotTypes (p .variables)) (s .variables)
-
-  parts : (place-fits ≡ true) × (outputs-fit ≡ true) × (variables-fit ≡ true)
-  unfolding fitsText
-  parts =
-      let r = and-right place-fits (outputs-fit && variables-fit) f in
-      (and-left place-fits (outputs-fit && variables-fit) f, and-left outputs-fit variables-fit r, and-right outputs-fit variables-fit r)
-
-  -- the used slots, in number and type as declared; with 0 after them they are all slots
-  used-outputs : Values (slotTypes (p .outputs)) (take (length (p .outputs)) (s .outputs)) × (s .outputs ≡ pad 16 (take (length (p .outputs)) (s .outputs)))
-  used-outputs = rw (length-map (p .outputs) (λ (x : Slot). x .type)) at (counted-slots 16 (slotTypes (p .outputs)) (s .outputs) (parts .1))
-
-  used-variables : Values (slotTypes (p .variables)) (take (length (p .variables)) (s .variables)) × (s .variables ≡ pad 32 (take (length (p .variables)) (s .variables)))
-  used-variables = rw (length-map (p .variables) (λ (x : Slot). x .type)) at (counted-slots 32 (slotTypes (p .variables)) (s .variables) (parts .2))
-
-  kept-invariant : Invariant p (keptOf p s)
-  unfolding keptOf
-  kept-invariant = record { place = placed-for (p .body) (s .place) (parts .0); well-typed = record { outputs = used-outputs .0; variables = used-variables .0 } }
-
-  -- it is the layout of what the equations keep of it
-  kept-laid : laid (keptOf p s) ≡ s
-  unfolding keptOf stateFor
-  kept-laid =
-      let a = number-back (s .place) in
-      let o = sym (used-outputs .1) in
-      let v = sym (used-variables .1) in
-      λ i. record { place = a i; outputs = o i; variables = v i }
 
 -- One call on the table is one call of the direct run, for every state record.
 table-direct : (p : Process) → WellFormed p → (s : State) (c : Call) → fitsText p s ≡ true → tableRow (tableOf p) s (c .inputs) (c .outputs) ≡ cycled p (keptOf p s) c

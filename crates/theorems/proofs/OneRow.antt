@@ -23,12 +23,15 @@ use Rattle.semantics.proofs.Ends.{cycle-ends}
 use Rattle.format.specs.Lines.{Line, line, linesOf}
 use Rattle.format.specs.Walk.{tableCycle}
 use Rattle.format.specs.Signature.{initials}
-use Rattle.format.specs.State.{isWait, placeOk, stateOk, stateFor, memoryOf, freshTable}
-use Rattle.format.specs.Cycle.{ended, tableRow, unless14, rowOf, Call}
+use Rattle.format.specs.State.{isWait, placeOk, stateOk, memoryOf, freshTable}
+use Rattle.semantics.specs.Records.{stateFor}
+use Rattle.format.specs.Cycle.{ended, tableRow, rowOf}
+use Rattle.semantics.specs.Calls.{unless14, Call}
 use Rattle.format.specs.Encode.{cells, signatureFor, tableOf}
-use Rattle.simulation.specs.Places.{number}
-use Rattle.theorems.specs.Comparison.{fed, laid, seen}
-use Rattle.images.proofs.States.{pad-length, slots-ok, memory-back}
+use Rattle.semantics.specs.Records.{number}
+use Rattle.semantics.specs.Comparison.{fed, laid, seen}
+use Rattle.images.proofs.States.{memory-back}
+use Rattle.semantics.proofs.Slots.{pad-length, slots-ok}
 use Rattle.images.proofs.Processes.{cells-types, signature-good, row-refusal}
 use Rattle.simulation.proofs.Lines.{Each, linesOf-each, linesOf-length}
 use Rattle.simulation.proofs.Cycle.{one-cycle}

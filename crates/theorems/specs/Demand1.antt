@@ -8,10 +8,12 @@ use lib.IntN.{ℤ}
 use Rattle.answers.specs.declared.State.{State}
 use Rattle.format.specs.Image.{Table}
 use Rattle.format.specs.Opening.{Opened, opened, not-opened, openOf}
-use Rattle.format.specs.State.{Started, fresh, not-started, freshOf}
-use Rattle.format.specs.Cycle.{Called, Call, performed, turnedBack, cycleOf}
+use Rattle.format.specs.State.{freshOf}
+use Rattle.semantics.specs.Records.{Started, fresh, not-started}
+use Rattle.format.specs.Cycle.{cycleOf}
+use Rattle.semantics.specs.Calls.{Called, Call, performed, turnedBack}
 use Rattle.theorems.specs.Compile.{Compile, written, not-compiled, compileOf}
-use Rattle.theorems.specs.Direct.{directOf}
+use Rattle.behaviour.specs.Direct.{directOf}
 
 -- a compile into the buffer b: "an accepted compile writes only the image's own bytes"; a refused one writes none, by a number from 1 to 10
 pub data Compiles (b : List ℕ) : Compile → Type 0 where

@@ -11,6 +11,7 @@ use Rattle.language.specs.Verdict.{accepted, refused, verdict}
 use Rattle.semantics.specs.Rows.{Call, rows, atFirst}
 use Rattle.semantics.specs.PublishedRows.{publishedRows}
 use Rattle.semantics.specs.Answer.{AllAnswer}
+use Rattle.behaviour.specs.DirectRun.{DirectRun}
 
 -- for every text b
 pub record Demand2 (b : List ℕ) : Type 0 where
@@ -25,3 +26,5 @@ pub record Demand2 (b : List ℕ) : Type 0 where
   pub published : (d : Process) → Valid b d → (cs : List Call) → publishedRows d cs ≡ rows d cs
   -- each row is performed, refused by 14 or refused by 16, exactly when document 01 says so
   pub answered : (d : Process) → Valid b d → (cs : List Call) → AllAnswer d (atFirst d) cs (rows d cs)
+  -- "The direct run of an accepted text gives, row by row, what the published ABC-VHDL equations give": every list of calls, from the fresh state
+  pub direct : (d : Process) → Valid b d → DirectRun b d

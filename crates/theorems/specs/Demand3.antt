@@ -11,11 +11,13 @@ use Rattle.semantics.specs.Rows.{atFirst}
 use Rattle.semantics.specs.Way.{Distinct}
 use Rattle.format.specs.Lines.{linesOf, reachesOf, reach}
 use Rattle.format.specs.Walk.{from}
-use Rattle.format.specs.State.{fresh, freshOf}
-use Rattle.format.specs.Cycle.{Answer, performed, not-performed, Called, Call, cycleOf, callsOf}
+use Rattle.format.specs.State.{freshOf}
+use Rattle.semantics.specs.Records.{fresh}
+use Rattle.format.specs.Cycle.{cycleOf, callsOf}
+use Rattle.semantics.specs.Calls.{Answer, performed, not-performed, Called, Call}
 use Rattle.theorems.specs.Compile.{compileOf}
-use Rattle.theorems.specs.Comparison.{equationCalls}
-use Rattle.theorems.specs.Direct.{directOf, directFresh}
+use Rattle.semantics.specs.Comparison.{equationCalls}
+use Rattle.behaviour.specs.Direct.{directOf, directFresh}
 
 -- a performed cycle from the place q: "no way has a line twice, so each performed cycle reaches a wait within as many lines as the text has
 -- statements"; "bounded by the follower's reach plus one"

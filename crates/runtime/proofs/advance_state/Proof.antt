@@ -50,7 +50,8 @@ use denote.Exit.{yes}
 use Rattle.answers.specs.Answers.{linesOf}
 use Rattle.answers.specs.declared.State.{State}
 use Rattle.answers.specs.declared.Cycled.{Cycled}
-use Rattle.format.specs.Cycle.{Called, cycleOf}
+use Rattle.format.specs.Cycle.{cycleOf}
+use Rattle.semantics.specs.Calls.{Called}
 use Rattle.cycle.specs.Advances.{cycledOf}
 use Rattle.runtime.specs.Calls.{wayOf, firstReach}
 use Rattle.runtime.specs.Outcomes.{Outcomes}

@@ -2,7 +2,7 @@
 use mathlib.Core.Path.{_≡_, sym, _∙_}
 use mathlib.Core.Bool.{true, false}
 use lib.ListN.{length}
-use Rattle.theorems.specs.Direct.{fitsText}
+use Rattle.semantics.specs.DirectRow.{fitsText}
 use Rattle.direct.proofs.CallLaws.{state-law, names-count, room-right, call-cycled, call-state}
 use borrow.Author.Needs.{needs}
 use Rattle.direct.proofs.calls.judged.Statement.{statement}

@@ -3,7 +3,7 @@ use mathlib.Core.Option.{some}
 use mathlib.Core.List.{[]}
 use native.Mathlib.Omega.{arith}
 use Rattle.semantics.specs.Equations.{enter as enterOf, cycle as cycleOf}
-use Rattle.theorems.specs.Direct.{placeFor}
+use Rattle.semantics.specs.DirectRow.{placeFor}
 use Rattle.direct.specs.Standing.{run}
 use borrow.Author.Needs.{needs}
 use Rattle.direct.proofs.cycles.cycle.Statement.{statement}

@@ -5,7 +5,7 @@ use lib.IntN.{pos}
 use mir.Syntax.{w32}
 use mir.Val.{SFits}
 use mir.Facts.{toZ-ofZ}
-use Rattle.format.specs.Words.{unsigned32}
+use Rattle.semantics.specs.Twos.{unsigned32}
 use Rattle.direct.specs.Stack.{stackOf}
 use Rattle.direct.proofs.StackLaws.{saying, step-literal, step-input, step-variable, step-unary, step-binary}
 use borrow.Author.Needs.{needs}

@@ -3,7 +3,7 @@ use Rattle.encoder.proofs.EmittedLaws.{put-cell}
 use mathlib.Core.Path.{_∙_, ap}
 use lib.IntN.{ℤ}
 use mir.Facts.{toZ-ofZ}
-use Rattle.format.specs.Words.{unsigned32}
+use Rattle.semantics.specs.Twos.{unsigned32}
 use borrow.Author.Needs.{needs}
 use Rattle.encoder.proofs.bytes.put_cell.Statement.{statement}
 use Rattle.encoder.proofs.bytes.put_cell.Tie as tie

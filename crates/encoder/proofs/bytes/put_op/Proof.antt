@@ -1,7 +1,7 @@
 -- `encoder::bytes::put_op` meets its contract: by the codes. Assumes nothing.
 use lib.IntN.{ℤ}
 use mir.Facts.{toZ-ofZ}
-use Rattle.format.specs.Words.{unsigned32}
+use Rattle.semantics.specs.Twos.{unsigned32}
 use borrow.Author.Tests.{eq-eqb, ne-eqb, lt-ltb, le-ltb}
 use Prim.Native.Nat.{ℕ, _%_}
 use mathlib.Core.Path.{refl, _∙_, ap}

@@ -3,7 +3,7 @@ use mathlib.Core.Path.{ap, _∙_}
 use mir.Syntax.{w32}
 use mir.Val.{SFits}
 use mir.Facts.{toZ-ofZ}
-use Rattle.format.specs.Words.{signed32}
+use Rattle.semantics.specs.Twos.{signed32}
 use borrow.Author.Needs.{needs}
 use Rattle.evaluator.proofs.OperandLaws.{int-found, int-short}
 use Rattle.evaluator.proofs.operand.integer.Statement.{statement}

@@ -4,7 +4,7 @@ use borrow.Author.Needs.{needs}
 use mir.Syntax.{w32}
 use mir.Val.{SFits}
 use mir.Facts.{toZ-ofZ}
-use Rattle.format.specs.Words.{signed32}
+use Rattle.semantics.specs.Twos.{signed32}
 use Rattle.table.proofs.signature.initial.Statement.{statement}
 use Rattle.table.proofs.signature.initial.Tie as tie
 

@@ -5,12 +5,11 @@ use lib.ListN.{length}
 use lib.IntN.{ℤ}
 use Rattle.answers.specs.declared.State.{State}
 use Rattle.design.specs.Process.{Process}
 use Rattle.semantics.specs.Rows.{Kept, Outcome, performed, row-refused, operator-refused, row}
 use Rattle.semantics.specs.Rows as R
-use Rattle.format.specs.State.{stateFor}
-use Rattle.format.specs.Cycle.{Answer, Called, Call}
-use Rattle.format.specs.Cycle as F
-use Rattle.simulation.specs.Places.{number}
+use Rattle.semantics.specs.Records.{number, stateFor}
+use Rattle.semantics.specs.Calls.{Answer, Called, Call}
+use Rattle.semantics.specs.Calls as C
 
 -- what the equations are fed of a call: "the input row and the output row's length"
 abbrev pub fed : Call → R.Call
@@ -22,9 +21,9 @@ laid k = stateFor (number (k .place)) (k .memory)
 
 -- an outcome as a call's answer: the way, or number and place
 abbrev pub told : Outcome → Answer
-told (performed row way) = F.performed way
-told (row-refused place) = F.not-performed 14 place
-told (operator-refused line) = F.not-performed 16 line
+told (performed row way) = C.performed way
+told (row-refused place) = C.not-performed 14 place
+told (operator-refused line) = C.not-performed 16 line
 
 -- the output row as it is left: all outputs, or as it was lent
 abbrev pub left : Outcome → List ℤ → List ℤ
@@ -40,3 +39,9 @@ seen r c = record { answer = told (r .0); state = laid (r .1); row = left (r .0)
 unfoldable pub equationCalls : Process → Kept → List Call → List Called
 equationCalls p k [] = []
 equationCalls p k (c ∷ cs) = let r = row p k (fed c) in seen r c ∷ equationCalls p (r .1) cs
+
+-- all calls, by a list of outcomes with what is kept after each
+unfoldable pub seenAll : List (Outcome × Kept) → List Call → List Called
+seenAll [] cs = []
+seenAll (r ∷ rs) [] = []
+seenAll (r ∷ rs) (c ∷ cs) = seen r c ∷ seenAll rs cs

@@ -1,18 +1,19 @@
--- The direct run: a cycle from the text, without an image, on any state record (document 01, "The product", "Classes and cycles"). Assumes nothing.
+-- A cycle of a process by the equations, on any state record: what the direct run does (document 01, "Classes and cycles", "State"). Assumes nothing.
+use mathlib.Core.Path.{_≡_}
 use mathlib.Core.Bool.{Bool, cond, _&&_, _||_}
-use mathlib.Core.List.{List, []}
+use mathlib.Core.List.{List, [], _∷_}
 use Prim.Native.Nat.{ℕ}
 use lib.ListN.{length, take}
 use lib.Dec.{eqb}
 use Rattle.answers.specs.declared.State.{State}
 use Rattle.design.specs.Statement.{has}
 use Rattle.design.specs.Process.{Process, slotTypes}
-use Rattle.language.specs.Verdict.{Verdict, accepted, refused, verdict}
 use Rattle.semantics.specs.Equations.{Place, beginning, at, cycle}
-use Rattle.semantics.specs.Rows.{Kept, rowRefusal, concluded, atFirst}
-use Rattle.format.specs.State.{slotsOk, Started, fresh, not-started}
-use Rattle.format.specs.Cycle.{Called, turnedBack, unless14, Call}
-use Rattle.theorems.specs.Comparison.{fed, laid, seen}
+use Rattle.semantics.specs.Rows.{Kept, rowRefusal, concluded}
+use Rattle.semantics.specs.Answer.{Invariant}
+use Rattle.semantics.specs.Records.{slotsOk}
+use Rattle.semantics.specs.Calls.{Called, turnedBack, unless14, Call}
+use Rattle.semantics.specs.Comparison.{fed, laid, seen}
 
 -- 15, "place or slot not as the State section has it for the .. text": 512 or a wait's number; 16 and 32 slots of the declared types, unused ones 0
 unfoldable pub fitsText : Process → State → Bool
@@ -38,18 +39,13 @@ unfoldable pub directRow : Process → State → Call → Called
 directRow p s c =
     unless14 (rowRefusal p (fed c)) s (c .outputs) (cond (fitsText p s) (cycled p (keptOf p s) c) (turnedBack 15 0 s (c .outputs)))
 
-abbrev pub unlessRefused : Verdict → State → Call → Called
-unlessRefused (accepted p) s c = directRow p s c
-unlessRefused (refused n k) s c = turnedBack n k s (c .outputs)
+-- all calls on a process, one after another, the first from the state s
+unfoldable pub directRows : Process → State → List Call → List Called
+directRows p s [] = []
+directRows p s (c ∷ cs) = let r = directRow p s c in r ∷ directRows p (r .state) cs
 
--- one call on a text: 1 to 9, then the row
-unfoldable pub directOf : List ℕ → State → Call → Called
-directOf text s c = unlessRefused (verdict text) s c
-
--- the fresh state of a text: the beginning and the initial values
-abbrev pub freshText : Verdict → Started
-freshText (accepted p) = fresh (laid (atFirst p))
-freshText (refused n k) = not-started n k
-
-unfoldable pub directFresh : List ℕ → Started
-directFresh text = freshText (verdict text)
+-- "place or slot .. as the State section has it for the .. text": the layout of a place of the body and of values of the declared numbers and types
+pub record Described (p : Process) (s : State) : Type 0 where
+  pub kept : Kept
+  pub invariant : Invariant p kept
+  pub layout : laid kept ≡ s

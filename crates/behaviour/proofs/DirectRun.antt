@@ -1,0 +1,49 @@
+-- The direct run of an accepted text is that of its process (`directRows`), whose calls are those of the equations, the published ones. Assumes nothing.
+use mathlib.Core.Path.{_≡_, refl, sym, _∙_, ap}
+use mathlib.Core.List.{List, [], _∷_, map}
+use Prim.Native.Nat.{ℕ}
+use Rattle.answers.specs.declared.State.{State}
+use Rattle.design.specs.Process.{Process, WellFormed}
+use Rattle.language.specs.Validity.{Valid}
+use Rattle.language.specs.Verdict.{Verdict, accepted, verdict}
+use Rattle.language.proofs.Judged.{accepts}
+use Rattle.language.proofs.WellFormed.{valid-well-formed}
+use Rattle.semantics.specs.Rows.{Kept, Outcome, rows, atFirst}
+use Rattle.semantics.specs.Records.{fresh}
+use Rattle.semantics.specs.Calls.{Call, Called}
+use Rattle.semantics.specs.Comparison.{fed, laid, seenAll, equationCalls}
+use Rattle.semantics.specs.DirectRow.{directRow, directRows}
+use Rattle.semantics.specs.PublishedRows.{publishedRows}
+use Rattle.semantics.proofs.Rows.{first-invariant}
+use Rattle.semantics.proofs.PublishedRows.{rows-published}
+use Rattle.semantics.proofs.DirectRows.{direct-rows, calls-seen}
+use Rattle.behaviour.specs.Direct.{unlessRefused, directOf, freshText, directFresh, directCalls}
+use Rattle.behaviour.specs.DirectRun.{DirectRun}
+
+module _ (text : List ℕ) (d : Process) (e : verdict text ≡ accepted d) where
+  one : (s : State) (c : Call) → directOf text s c ≡ directRow d s c
+  unfolding directOf
+  one s c = ap (λ (x : Verdict). unlessRefused x s c) e
+
+  -- the calls on the text are the calls on its process
+  calls : (s : State) (cs : List Call) → directCalls text s cs ≡ directRows d s cs
+  unfolding directCalls directRows
+  calls s [] = refl
+  calls s (c ∷ cs) = rw (one s c) (ap (λ (l : List Called). directRow d s c ∷ l) (calls (directRow d s c .state) cs))
+
+  start : directFresh text ≡ fresh (laid (atFirst d))
+  unfolding directFresh
+  start = ap freshText e
+
+  as-equations : WellFormed d → (cs : List Call) → directCalls text (laid (atFirst d)) cs ≡ equationCalls d (atFirst d) cs
+  as-equations w cs = calls (laid (atFirst d)) cs ∙ direct-rows d w (atFirst d) (first-invariant d w) cs
+
+  as-published : WellFormed d → (cs : List Call) → directCalls text (laid (atFirst d)) cs ≡ seenAll (publishedRows d (map fed cs)) cs
+  unfolding rows
+  as-published w cs = as-equations w cs ∙ (calls-seen d (atFirst d) cs ∙ ap (λ (l : List (Outcome × Kept)). seenAll l cs) (sym (rows-published d w (map fed cs))))
+
+pub direct-run : (text : List ℕ) (d : Process) → Valid text d → DirectRun text d
+direct-run text d v =
+    let e = accepts text d .1 v in
+    let w = valid-well-formed v in
+    record { starts = start text d e; equations = as-equations text d e w; published = as-published text d e w }

@@ -1,0 +1,32 @@
+-- The direct run: a cycle from the text, without an image, on any state record (document 01, "The product", "Turned back"). Assumes nothing.
+use mathlib.Core.List.{List, [], _∷_}
+use Prim.Native.Nat.{ℕ}
+use Rattle.answers.specs.declared.State.{State}
+use Rattle.language.specs.Verdict.{Verdict, accepted, refused, verdict}
+use Rattle.semantics.specs.Rows.{atFirst}
+use Rattle.semantics.specs.Records.{Started, fresh, not-started}
+use Rattle.semantics.specs.Calls.{Called, turnedBack, Call}
+use Rattle.semantics.specs.Comparison.{laid}
+use Rattle.semantics.specs.DirectRow.{directRow}
+
+-- the verdict's refusal, or the row on the process that the text means
+abbrev pub unlessRefused : Verdict → State → Call → Called
+unlessRefused (accepted p) s c = directRow p s c
+unlessRefused (refused n k) s c = turnedBack n k s (c .outputs)
+
+-- one call on a text: 1 to 9, then the row
+unfoldable pub directOf : List ℕ → State → Call → Called
+directOf text s c = unlessRefused (verdict text) s c
+
+-- the fresh state of a text: the beginning and the initial values
+abbrev pub freshText : Verdict → Started
+freshText (accepted p) = fresh (laid (atFirst p))
+freshText (refused n k) = not-started n k
+
+unfoldable pub directFresh : List ℕ → Started
+directFresh text = freshText (verdict text)
+
+-- all calls on a text, one after another, the first from the state s
+unfoldable pub directCalls : List ℕ → State → List Call → List Called
+directCalls text s [] = []
+directCalls text s (c ∷ cs) = let r = directOf text s c in r ∷ directCalls text (r .state) cs
