@@ -1,8 +1,9 @@
 -- Document 01's nine examples, P1 to P9, as one table of claims on whole texts, and the theorem that each holds, by computation. Assumes nothing.
 use mathlib.Core.Path.{_≡_, refl}
+use mathlib.Core.Bool.{Bool, true, false}
 use mathlib.Core.List.{List, [], _∷_, map}
 use Prim.Native.Nat.{ℕ}
-use lib.ListN.{length, replicate}
+use lib.ListN.{length, replicate, take}
 use lib.IntN.{ℤ, pos, negsuc}
 use Rattle.grammar.specs.Limits.{Each}
 use Rattle.answers.specs.declared.State.{State}
@@ -11,48 +12,77 @@ use Rattle.language.specs.Lexer.{tokenAt}
 use Rattle.language.specs.Verdict.{Verdict, accepted, refused, verdict}
 use Rattle.language.proofs.Examples.{plain, place, whole, stdPorts, stdVars, stmts, vars, passes}
 use Rattle.language.proofs.ExamplesReadings.{tallyText}
-use Rattle.format.specs.Words.{word2At, word4At}
-use Rattle.format.specs.Encode.{encode}
-use Rattle.format.specs.State.{freshOf}
+use Rattle.semantics.specs.Equations as Equations
+use Rattle.semantics.specs.Rows.{atFirst}
+use Rattle.semantics.specs.Rows as Rows
 use Rattle.semantics.specs.Records.{Started, fresh, not-started}
-use Rattle.format.specs.Cycle.{callsOf}
 use Rattle.semantics.specs.Calls.{Call, Called, performed, not-performed}
+use Rattle.semantics.specs.Comparison.{equationCalls}
+use Rattle.semantics.specs.Comparison as Comparison
+use Rattle.semantics.specs.DirectRow as DirectRow
+use Rattle.behaviour.specs.Direct.{directOf, directFresh, directCalls}
+use Rattle.format.specs.Words.{word2At, word4At}
+use Rattle.format.specs.State.{freshOf}
+use Rattle.format.specs.Cycle.{callsOf}
+use Rattle.theorems.specs.Compile.{Compiled, written, not-compiled, compileOf}
 use Rattle.examples.proofs.Images.{opened, stateAt, did, rowOf, twoBits}
 
--- the image of a text that is accepted
-abbrev onVerdict : Verdict → List ℕ
-onVerdict (accepted p) = encode p
-onVerdict (refused n k) = []
+-- the image that a compile into 200 bytes writes; none where it is refused
+abbrev writtenIn : Compiled → List ℕ → List ℕ
+writtenIn (written n) b = take n b
+writtenIn (not-compiled q k) b = []
 
 unfoldable pub imageOf : List ℕ → List ℕ
-imageOf text = onVerdict (verdict text)
+imageOf text = let r = compileOf text (replicate 200 0) in writtenIn (r .answer) (r .buffer)
 
--- the answers to these calls, from the fresh state of an image
-abbrev fromStart : Started → List ℕ → List Call → List Called
-fromStart (fresh s) image cs = callsOf image s cs
-fromStart (not-started n k) image cs = []
+-- the answers to these calls, from the fresh state: of the image ..
+abbrev fromStart : Started → (State → List Called) → List Called
+fromStart (fresh s) f = f s
+fromStart (not-started n k) f = []
 
-unfoldable pub traceOf : List ℕ → List Call → List Called
-traceOf text cs = fromStart (freshOf (imageOf text)) (imageOf text) cs
+unfoldable pub tableTrace : List ℕ → List Call → List Called
+tableTrace text cs = fromStart (freshOf (imageOf text)) (λ s. callsOf (imageOf text) s cs)
+
+-- .. of the direct run ..
+unfoldable pub directTrace : List ℕ → List Call → List Called
+directTrace text cs = fromStart (directFresh text) (λ s. directCalls text s cs)
+
+-- .. and of the equations
+abbrev onVerdict : Verdict → List Call → List Called
+onVerdict (accepted p) cs = equationCalls p (atFirst p) cs
+onVerdict (refused n k) cs = []
+
+unfoldable pub equationTrace : List ℕ → List Call → List Called
+equationTrace text cs = onVerdict (verdict text) cs
+
+-- the text is accepted
+abbrev isAccepted : Verdict → Bool
+isAccepted (accepted p) = true
+isAccepted (refused n k) = false
+
+-- opens all that the direct run and the equations compute by, beside what the image and its calls do
+unfoldable all-computed : List ℕ → List Call → List Called
+unfolding opened Equations.pick Equations.start Equations.resume Equations.enter Equations.cycle Rows.atFirst Rows.rowRefusal Rows.concluded Rows.judged Rows.row Comparison.equationCalls DirectRow.fitsText DirectRow.placeFor DirectRow.keptOf DirectRow.directRow directOf directFresh directCalls equationTrace
+all-computed text cs = equationTrace text cs
 
 -- what an example claims
 pub data Claim : Type 0 where
-  -- calls on the text's image, from its fresh state, leave these answers, states and output rows
+  -- calls from the fresh state leave these answers, states and output rows: on the text's image, by the direct run and by the equations
   traces : (text : List ℕ) → List Call → List Called → Claim
   -- the two-byte numbers at these offsets of the text's image
   words2 : (text offsets values : List ℕ) → Claim
   -- the four-byte numbers at these offsets of the text's image, and its length
   words4 : (text offsets values : List ℕ) → (size : ℕ) → Claim
-  -- the text, without its caret, is refused by this number at the caret, and this token is handed out
-  refuses : (number : ℕ) → (text token : List ℕ) → Claim
+  -- the text, without its caret, is refused by this number at the caret, and this token is handed out; its neighbour is accepted
+  refuses : (number : ℕ) → (text token neighbour : List ℕ) → Claim
   -- both texts have one image, and it is not empty
   one-image : (text other : List ℕ) → (size : ℕ) → Claim
 
 abbrev pub Says : Claim → Type 0
-Says (traces t cs rs) = traceOf t cs ≡ rs
+Says (traces t cs rs) = (tableTrace t cs ≡ rs) × (directTrace t cs ≡ rs) × (equationTrace t cs ≡ rs)
 Says (words2 t os vs) = map (word2At (imageOf t)) os ≡ vs
 Says (words4 t os vs n) = (map (word4At (imageOf t)) os ≡ vs) × (length (imageOf t) ≡ n)
-Says (refuses n t w) = (verdict (plain t) ≡ refused n (place t)) × (tokenAt (plain t) (place t) ≡ w)
+Says (refuses n t w u) = (verdict (plain t) ≡ refused n (place t)) × (tokenAt (plain t) (place t) ≡ w) × (isAccepted (verdict (plain u)) ≡ true)
 Says (one-image t u n) = (imageOf t ≡ imageOf u) × (length (imageOf t) ≡ n)
 
 abbrev row8 : Call
@@ -73,11 +103,12 @@ nine =
     -- P3
     words4 tallyText (4 ∷ 8 ∷ 12 ∷ 16 ∷ 20 ∷ 24 ∷ []) (28 ∷ 14 ∷ 42 ∷ 72 ∷ 114 ∷ 20 ∷ []) 134 ∷
     -- P4
-    refuses 9 (whole stdPorts stdVars "^process" (bytes "if '1' = '1' then wait until clk = '1'; end if;")) (bytes "process") ∷
+    refuses 9 (whole stdPorts stdVars "^process" (bytes "if '1' = '1' then wait until clk = '1'; end if;")) (bytes "process")
+    (stmts "if '1' = '1' then wait until clk = '1'; else wait until clk = '1'; end if;") ∷
     -- P5
-    refuses 3 (stmts "f := a and b ^or c;") (bytes "or") ∷
+    refuses 3 (stmts "f := a and b ^or c;") (bytes "or") (stmts "f := a and b and c;") ∷
     -- P6
-    refuses 3 (stmts "s := s - ^-1;") (bytes "-") ∷
+    refuses 3 (stmts "s := s - ^-1;") (bytes "-") (stmts "s := s - 1;") ∷
     -- P7
     one-image (twoBits (bytes "not a = b")) (twoBits (bytes "(not a) = b")) 83 ∷
     -- P8
@@ -86,8 +117,9 @@ nine =
     traces (stmts "s := 3; u := -(-2147483647 - 1);") (row8 ∷ [])
     (record { answer = not-performed 16 1; state = state8 512 (pos 0) (pos 0); row = pos 99 ∷ pos 99 ∷ [] } ∷ []) ∷
     -- P9
-    refuses 4 (vars "variable s : integer := -^2147483648;") (bytes "2147483648") ∷ []
+    refuses 4 (vars "variable s : integer := -^2147483648;") (bytes "2147483648") (vars "variable s : integer := -2147483647;") ∷ []
 
 pub nine-hold : Each Says nine
-unfolding opened passes imageOf traceOf
-nine-hold = (refl, (refl, ((refl, refl), ((refl, refl), ((refl, refl), ((refl, refl), ((refl, refl), (refl, (refl, ((refl, refl), tt))))))))))
+unfolding all-computed passes imageOf tableTrace directTrace equationTrace
+nine-hold =
+    ((refl, refl, refl), (refl, ((refl, refl), ((refl, refl, refl), ((refl, refl, refl), ((refl, refl, refl), ((refl, refl), ((refl, refl, refl), ((refl, refl, refl), ((refl, refl, refl), tt))))))))))

@@ -1,37 +1,42 @@
--- Demand 1: by cases on the verdict, on the opened image and on a row's outcome. Assumes nothing.
-use mathlib.Core.Path.{_≡_, refl}
+-- Demand 1: by cases on the verdict, on the opened image and on the direct row. Assumes nothing.
+use mathlib.Core.Path.{_≡_, refl, sym, _∙_, ap, subst}
 use mathlib.Core.Bool.{Bool, true, false, cond}
+use mathlib.Core.Option.{Option, none, some}
 use mathlib.Core.List.{List, _++_}
 use Prim.Native.Nat.{ℕ, _≤_}
 use native.Mathlib.Omega.{arith}
 use lib.ListN.{length, drop}
 use lib.Dec.{leb}
-use borrow.Author.Tests.{leb-true}
+use borrow.Author.Tests.{leb-true, leb-false}
 use Rattle.answers.specs.declared.State.{State}
-use Rattle.design.specs.Process.{WellFormed}
+use Rattle.design.specs.Process.{Process, WellFormed}
 use Rattle.language.specs.Rules.{table}
 use Rattle.language.specs.Validity.{Valid, here, there, Refuses, too-long, no-token, no-sentence, past-limit, offends}
 use Rattle.language.specs.Verdict.{Verdict, accepted, refused, verdict}
 use Rattle.language.proofs.Judged as J
 use Rattle.language.proofs.WellFormed.{valid-well-formed}
+use Rattle.semantics.specs.Rows.{rowRefusal, row, atFirst}
+use Rattle.semantics.specs.InputRow.{Meets14}
+use Rattle.semantics.specs.Calls.{Call}
+use Rattle.semantics.specs.Comparison.{fed, laid, seen}
+use Rattle.semantics.specs.DirectRow.{fitsText, directRow, Described}
+use Rattle.semantics.proofs.Basic.{none-some, false-true}
+use Rattle.semantics.proofs.Rows.{meets-14-exactly, row-answers}
+use Rattle.semantics.proofs.DirectRows.{direct-row}
+use Rattle.semantics.proofs.Described.{fits-exactly, direct-15}
 use Rattle.format.specs.Words.{Bytes}
-use Rattle.format.specs.Image.{Table}
 use Rattle.format.specs.Opening.{Opened, opened, not-opened, openOf}
 use Rattle.format.specs.Refusals.{Refusal, sections-refused, signature-refused, line-refused}
 use Rattle.format.specs.State.{freshFrom, freshOf}
 use Rattle.format.specs.Cycle.{cycleOf}
-use Rattle.semantics.specs.Calls.{Called, Call}
-use Rattle.format.specs.Encode.{tableOf}
+use Rattle.format.specs.Encode.{encode}
+use Rattle.format.proofs.Opens.{opens-exactly}
 use Rattle.format.proofs.Refusals.{refused-exactly}
-use Rattle.images.specs.Outcome as O
-use Rattle.images.proofs.Outcomes.{row-outcome, image-outcome}
-use Rattle.images.proofs.Processes.{process-good}
+use Rattle.images.proofs.Outcomes.{image-outcome}
+use Rattle.behaviour.specs.Direct.{unlessRefused, directOf, freshText, directFresh}
 use Rattle.theorems.specs.Compile.{written, not-compiled, written-into, onVerdict, compileOf}
-use Rattle.behaviour.specs.Direct.{unlessRefused, directOf}
-use Rattle.theorems.specs.Demand1.{Compiles, writes, Opens, opens, Starts, starts, Runs, performs, Demand1}
-use Rattle.theorems.specs.Demand1 as D
-use Rattle.theorems.proofs.Size.{valid-fits}
-use Rattle.theorems.proofs.Direct.{row-direct}
+use Rattle.theorems.specs.Promises.{Compiles, writes, too-short, Opens, opens, Starts, Runs, runs, RunsText, by-14, by-15, answers, StartsText, Demand1}
+use Rattle.theorems.specs.Promises as D
 
 -- the numbers of a text's refusals
 refuses-9 : (b : List ℕ) (n p : ℕ) → Refuses b n p → (1 ≤ n) × (n ≤ 9)
@@ -47,73 +52,95 @@ refuses-9 b n p (offends h (there f (there g (there i (here e l))))) = (omega ar
 refuses-9 b n p (offends h (there f (there g (there i (there j (here e l)))))) = (omega arith, omega arith)
 
 -- a compile
-written-compiles : (i buffer : List ℕ) → Compiles buffer (written-into i buffer)
-unfolding written-into
-written-compiles i buffer = fits (leb (length i) (length buffer)) refl
-  where
-    fits : (b : Bool) → leb (length i) (length buffer) ≡ b
-        → Compiles buffer (cond b (record { answer = written (length i); buffer = i ++ drop (length i) buffer }) (record { answer = not-compiled 10 (length i); buffer = buffer }))
-    fits true e = writes i (leb-true (length i) (length buffer) e)
-    fits false e = D.refuses 10 (length i) (omega arith) (omega arith)
+module _ (text buffer : List ℕ) where
+  written-compiles : (d : Process) → Valid text d → Compiles text buffer (written-into (encode d) buffer)
+  unfolding written-into
+  written-compiles d v = fits (leb (length (encode d)) (length buffer)) refl
+    where
+      fits : (b : Bool) → leb (length (encode d)) (length buffer) ≡ b
+          → Compiles text buffer
+          (cond b (record { answer = written (length (encode d)); buffer = encode d ++ drop (length (encode d)) buffer }) (record { answer = not-compiled 10 (length (encode d)); buffer = buffer }))
+      fits true e = writes d v (leb-true (length (encode d)) (length buffer) e)
+      fits false e = too-short d v (leb-false (length (encode d)) (length buffer) e)
 
-compiles : (text buffer : List ℕ) → Compiles buffer (compileOf text buffer)
-unfolding compileOf
-compiles text buffer = on (verdict text) refl
-  where
-    on : (v : Verdict) → verdict text ≡ v → Compiles buffer (onVerdict v buffer)
-    on (accepted p) e = written-compiles _ buffer
-    on (refused n k) e = let r = refuses-9 text n k (J.refuses text n k .0 e) in D.refuses n k (r .0) (omega (arith, r .1))
+  compiles : Compiles text buffer (compileOf text buffer)
+  unfolding compileOf
+  compiles = on (verdict text) refl
+    where
+      on : (v : Verdict) → verdict text ≡ v → Compiles text buffer (onVerdict v buffer)
+      on (accepted d) e = written-compiles d (J.accepts text d .0 e)
+      on (refused n k) e = let c = J.refuses text n k .0 e in let r = refuses-9 text n k c in D.refuses n k (r .0) (r .1) c
 
 -- an image
 module _ (image : List ℕ) (h : Bytes image) where
-  numbers : (q k : ℕ) → openOf image ≡ not-opened q k → (11 ≤ q) × (q ≤ 13)
-  numbers q k e = go (refused-exactly image h q k .0 e)
-    where
-      go : Refusal image q k → (11 ≤ q) × (q ≤ 13)
-      go (sections-refused n p x) = (omega arith, omega arith)
-      go (signature-refused n p x s x′) = (omega arith, omega arith)
-      go (line-refused n x s σ g l) = (omega arith, omega arith)
+  numbers : (q k : ℕ) → Refusal image q k → (11 ≤ q) × (q ≤ 13)
+  numbers q k (sections-refused n p x) = (omega arith, omega arith)
+  numbers q k (signature-refused n p x s x′) = (omega arith, omega arith)
+  numbers q k (line-refused n x s σ g l) = (omega arith, omega arith)
 
-  image-opens : Opens (openOf image)
+  image-opens : Opens image (openOf image)
   image-opens = on (openOf image) refl
     where
-      on : (o : Opened) → openOf image ≡ o → Opens o
-      on (opened t) e = opens t
-      on (not-opened q k) e = let r = numbers q k e in D.refuses q k (r .0) (r .1)
+      on : (o : Opened) → openOf image ≡ o → Opens image o
+      on (opened t) e = let g = opens-exactly image t h .0 e in opens t (g .0) (g .1)
+      on (not-opened q k) e = let c = refused-exactly image h q k .0 e in let r = numbers q k c in D.refuses q k (r .0) (r .1) c
 
-  image-starts : Starts (freshOf image)
+  image-starts : Starts image (freshOf image)
   unfolding freshOf
   image-starts = on (openOf image) refl
     where
-      on : (o : Opened) → openOf image ≡ o → Starts (freshFrom o)
-      on (opened t) e = starts _
-      on (not-opened q k) e = let r = numbers q k e in D.refuses q k (r .0) (r .1)
+      on : (o : Opened) → openOf image ≡ o → Starts image (freshFrom o)
+      on (opened t) e = D.starts t e
+      on (not-opened q k) e = let c = refused-exactly image h q k .0 e in let r = numbers q k c in D.refuses q k (r .0) (r .1) c
 
--- a row
-outcome-runs : (low : ℕ) → low ≤ 14 → (t : Table) (s : State) (c : Call) (r : Called) → O.Outcome t s (c .inputs) (c .outputs) r → Runs low s c r
-outcome-runs low h t s c r (O.row-refused k m) = D.refuses 14 k h (omega arith)
-outcome-runs low h t s c r (O.state-refused m g) = D.refuses 15 0 (omega arith) (omega arith)
-outcome-runs low h t s c r (O.operator-refused x m g b e) = D.refuses 16 x (omega arith) (omega arith)
-outcome-runs low h t s c r (O.performs p τ m g e w y n l) = performs _ _ _ l
+  image-runs : (s : State) (c : Call) → Runs image s c (cycleOf image s (c .inputs) (c .outputs))
+  unfolding cycleOf
+  image-runs s c = on (openOf image) refl
+    where
+      on : (o : Opened) → openOf image ≡ o → Runs image s c (cycleOf image s (c .inputs) (c .outputs))
+      on (opened t) e = runs t e _ (image-outcome image t h e s (c .inputs) (c .outputs))
+      on (not-opened q k) e = let x = refused-exactly image h q k .0 e in let r = numbers q k x in rw e (D.refuses q k (r .0) (r .1) x)
 
-image-runs : (image : List ℕ) → Bytes image → (s : State) (c : Call) → Runs 11 s c (cycleOf image s (c .inputs) (c .outputs))
-unfolding cycleOf
-image-runs image h s c = on (openOf image) refl
+-- a text
+module _ (text : List ℕ) (s : State) (c : Call) where
+  not-14 : (d : Process) → rowRefusal d (fed c) ≡ none → (k : ℕ) → Meets14 d (fed c) k → ⊥
+  not-14 d e k m = none-some k (sym e ∙ meets-14-exactly d (fed c) k .1 m)
+
+  -- a state that is described: the row of the equations from what is kept
+  described-runs : (d : Process) → Valid text d → WellFormed d → rowRefusal d (fed c) ≡ none → (g : Described d s) → RunsText text s c (directRow d s c)
+  described-runs d v w e g =
+      let x : directRow d s c ≡ seen (row d (g .kept) (fed c)) c = subst (λ (z : State). directRow d z c ≡ seen (row d (g .kept) (fed c)) c) (g .layout) (direct-row d w (g .kept) (g .invariant) c) in
+      subst (RunsText text s c) (sym x) (answers d v (not-14 d e) g (row d (g .kept) (fed c)) (row-answers d w (g .kept) (fed c)))
+
+  process-runs : (d : Process) → Valid text d → WellFormed d → RunsText text s c (directRow d s c)
+  unfolding directRow
+  process-runs d v w = judge (rowRefusal d (fed c)) refl
+    where
+      state : rowRefusal d (fed c) ≡ none → (b : Bool) → fitsText d s ≡ b → RunsText text s c (directRow d s c)
+      state e true f = described-runs d v w e (fits-exactly d w s .0 f)
+      state e false f =
+          let n : Described d s → ⊥ = λ g. false-true (sym f ∙ fits-exactly d w s .1 g) in
+          subst (RunsText text s c) (sym (direct-15 d w s c e n)) (by-15 d v (not-14 d e) n)
+
+      judge : (o : Option ℕ) → rowRefusal d (fed c) ≡ o → RunsText text s c (directRow d s c)
+      judge (some k) e = rw e (by-14 d v k (meets-14-exactly d (fed c) k .0 e))
+      judge none e = state e (fitsText d s) refl
+
+  text-runs : RunsText text s c (directOf text s c)
+  unfolding directOf
+  text-runs = on (verdict text) refl
+    where
+      on : (v : Verdict) → verdict text ≡ v → RunsText text s c (unlessRefused v s c)
+      on (accepted d) e = let v = J.accepts text d .0 e in process-runs d v (valid-well-formed v)
+      on (refused n k) e = let x = J.refuses text n k .0 e in let r = refuses-9 text n k x in D.refuses n k (r .0) (r .1) x
+
+text-starts : (text : List ℕ) → StartsText text (directFresh text)
+unfolding directFresh
+text-starts text = on (verdict text) refl
   where
-    on : (o : Opened) → openOf image ≡ o → Runs 11 s c (cycleOf image s (c .inputs) (c .outputs))
-    on (opened t) e = outcome-runs 11 (omega arith) t s c _ (image-outcome image t h e s (c .inputs) (c .outputs))
-    on (not-opened q k) e = let r = numbers image h q k e in rw e (D.refuses q k (r .0) (omega (arith, r .1)))
-
-text-runs : (text : List ℕ) (s : State) (c : Call) → Runs 1 s c (directOf text s c)
-unfolding directOf
-text-runs text s c = on (verdict text) refl
-  where
-    on : (v : Verdict) → verdict text ≡ v → Runs 1 s c (unlessRefused v s c)
-    on (accepted p) e =
-        let v : Valid text p = J.accepts text p .0 e in
-        let w : WellFormed p = valid-well-formed v in
-        outcome-runs 1 (omega arith) (tableOf p) s c _ (rw (← row-direct p w s c) (row-outcome (tableOf p) (process-good p w (valid-fits text p v)) s (c .inputs) (c .outputs)))
-    on (refused n k) e = let r = refuses-9 text n k (J.refuses text n k .0 e) in D.refuses n k (r .0) (omega (arith, r .1))
+    on : (v : Verdict) → verdict text ≡ v → StartsText text (freshText v)
+    on (accepted d) e = D.starts d (J.accepts text d .0 e) (laid (atFirst d)) (ap freshText e)
+    on (refused n k) e = let x = J.refuses text n k .0 e in let r = refuses-9 text n k x in D.refuses n k (r .0) (r .1) x
 
 -- THE THEOREM
 pub demand1 : (text buffer image : List ℕ) → Bytes image → (s : State) (c : Call) → Demand1 text buffer image s c
@@ -124,4 +151,5 @@ demand1 text buffer image h s c =
       started = image-starts image h;
       cycled = image-runs image h s c;
       run = text-runs text s c;
+      run-started = text-starts text;
     }

@@ -7,7 +7,7 @@ use Rattle.language.proofs.WellFormed.{valid-well-formed}
 use Rattle.semantics.proofs.Rows.{rows-answer}
 use Rattle.semantics.proofs.PublishedRows.{rows-published}
 use Rattle.behaviour.proofs.DirectRun.{direct-run}
-use Rattle.theorems.specs.Demand2.{Demand2}
+use Rattle.theorems.specs.Promises.{Demand2}
 
 pub demand2 : (b : List ℕ) → Demand2 b
 demand2 b = record {

@@ -27,7 +27,7 @@ use Rattle.theorems.specs.Compile.{written, not-compiled, Compile, writt
 use Rattle.semantics.specs.Comparison.{fed, laid, told, seen, equationCalls}
 use Rattle.semantics.specs.DirectRow.{directRow}
 use Rattle.behaviour.specs.Direct.{unlessRefused, directOf, freshText, directFresh}
-use Rattle.theorems.specs.Demand3.{Short, AllShort, Demand3}
+use Rattle.theorems.specs.Promises.{Short, AllShort, Demand3}
 use Rattle.simulation.proofs.Way.{cycle-bound}
 use Rattle.images.proofs.Processes.{encode-opens}
 use Rattle.theorems.proofs.Size.{valid-fits}
@@ -67,15 +67,16 @@ module _ (p : Process) (w : WellFormed p) (o : openOf (encode p) ≡ opened (tab
   ways-short (c ∷ cs) k v = (way-short k v c, ways-short cs (row p k (fed c) .1) (row-invariant p w k (fed c) v))
 
 -- what a compile that wrote n bytes wrote
-record Wrote (text buffer : List ℕ) (n : ℕ) : Type 0 where
-  process : Process
-  verdict : verdict text ≡ accepted process
-  image : take n (compileOf text buffer .buffer) ≡ encode process
+pub record Wrote (text buffer : List ℕ) (n : ℕ) : Type 0 where
+  pub process : Process
+  pub verdict : verdict text ≡ accepted process
+  pub count : length (encode process) ≡ n
+  pub image : take n (compileOf text buffer .buffer) ≡ encode process
 
 not-written : {A : Type 0} {q k n : ℕ} → not-compiled q k ≡ written n → A
 not-written e = absurd (let z : _≡_ {A = ℕ} 0 1 = cc in omega arith)
 
-wrote : (text buffer : List ℕ) (n : ℕ) → compileOf text buffer .answer ≡ written n → Wrote text buffer n
+pub wrote : (text buffer : List ℕ) (n : ℕ) → compileOf text buffer .answer ≡ written n → Wrote text buffer n
 unfolding compileOf written-into
 wrote text buffer n e = on (verdict text) refl
   where
@@ -88,7 +89,7 @@ wrote text buffer n e = on (verdict text) refl
             let c : compileOf text buffer ≡ record { answer = written (length (encode p)); buffer = encode p ++ drop (length (encode p)) buffer } = rw (h, l) in
             let a : written (length (encode p)) ≡ written n = sym (ap (λ (r : Compile). r .answer) c) ∙ e in
             let m : length (encode p) ≡ n = cc in
-            record { process = p; verdict = h; image = ap (λ (r : Compile). take n (r .buffer)) c ∙ take-at (encode p) (drop (length (encode p)) buffer) n m }
+            record { process = p; verdict = h; count = m; image = ap (λ (r : Compile). take n (r .buffer)) c ∙ take-at (encode p) (drop (length (encode p)) buffer) n m }
         fits false l =
             let c : compileOf text buffer ≡ record { answer = not-compiled 10 (length (encode p)); buffer = buffer } = rw (h, l) in
             not-written (sym (ap (λ (r : Compile). r .answer) c) ∙ e)

@@ -4,3 +4,4 @@ pub mod OneRow
 pub mod Direct
 pub mod Demand1
 pub mod Demand3
+pub mod Main

@@ -1,4 +1,2 @@
-pub mod Demand2
 pub mod Compile
-pub mod Demand1
-pub mod Demand3
+pub mod Promises

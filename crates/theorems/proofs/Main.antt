@@ -1,0 +1,93 @@
+-- The promises, each proved in a few lines from the theorems below. Assumes nothing.
+use mathlib.Core.Path.{_≡_, refl, sym, _∙_, ap, subst}
+use mathlib.Core.List.{List, [], _∷_}
+use Prim.Native.Nat.{ℕ, _≤_}
+use native.Mathlib.Omega.{arith}
+use lib.ListN.{length}
+use Rattle.answers.specs.declared.State.{State}
+use Rattle.design.specs.Process.{Process, WellFormed}
+use Rattle.language.specs.Validity.{Valid}
+use Rattle.language.proofs.Judged.{accepts}
+use Rattle.language.proofs.WellFormed.{valid-well-formed}
+use Rattle.semantics.specs.Calls.{Answer, performed, not-performed, Called, Call}
+use Rattle.format.specs.Words.{Bytes}
+use Rattle.format.specs.Image.{Table}
+use Rattle.format.specs.Opening.{Opened, opened, not-opened, openOf}
+use Rattle.format.specs.Cycle.{cycleOf, callsOf}
+use Rattle.format.specs.Encode.{encode, tableOf}
+use Rattle.images.specs.Outcome.{Outcome, row-refused, state-refused, operator-refused, performs, GoodState}
+use Rattle.images.proofs.Outcomes.{image-outcome}
+use Rattle.images.proofs.Processes.{encode-opens}
+use Rattle.behaviour.specs.Direct.{directOf, directCalls}
+use Rattle.theorems.specs.Compile.{written, compileOf}
+use Rattle.theorems.specs.Promises.{Demand1, Demand2, Demand3, Compiled, Returned}
+use Rattle.theorems.proofs.Size.{valid-fits}
+use Rattle.theorems.proofs.Demand1 as D1
+use Rattle.theorems.proofs.Demand2 as D2
+use Rattle.theorems.proofs.Demand3 as D3
+use Rattle.theorems.proofs.Demand3.{Wrote, wrote}
+
+-- DEMAND 1, for every text, buffer, image (a list of bytes), state record and call
+pub demand1 : (text buffer image : List ℕ) → Bytes image → (s : State) (c : Call) → Demand1 text buffer image s c
+demand1 = D1.demand1
+
+-- DEMAND 2, for every text
+pub demand2 : (text : List ℕ) → Demand2 text
+demand2 = D2.demand2
+
+-- DEMAND 3, for every text and buffer, where the compile wrote n bytes
+pub demand3 : (text buffer : List ℕ) (n : ℕ) → compileOf text buffer .answer ≡ written n → Demand3 text buffer n
+demand3 = D3.demand3
+
+-- calls that agree one by one agree as a list
+calls-agree : (image text : List ℕ) → ((s : State) (c : Call) → cycleOf image s (c .inputs) (c .outputs) ≡ directOf text s c)
+    → (s : State) (cs : List Call) → callsOf image s cs ≡ directCalls text s cs
+unfolding callsOf directCalls
+calls-agree image text h s [] = refl
+calls-agree image text h s (c ∷ cs) = rw (h s c) (ap (λ (l : List Called). directOf text s c ∷ l) (calls-agree image text h (directOf text s c .state) cs))
+
+-- what a compile wrote
+pub compiled : (text buffer : List ℕ) (n : ℕ) → compileOf text buffer .answer ≡ written n → Compiled text buffer n
+compiled text buffer n e =
+    let r = wrote text buffer n e in
+    let v : Valid text (r .process) = accepts text (r .process) .0 (r .verdict) in
+    let f = valid-fits text (r .process) v in
+    record {
+      process = r .process;
+      valid = v;
+      bytes = r .image;
+      size = subst (λ (m : ℕ). m ≤ 65535) (r .count) f;
+      opens = ap openOf (r .image) ∙ encode-opens (r .process) (valid-well-formed v) f;
+      agree = calls-agree _ text (D3.demand3 text buffer n e .direct);
+    }
+
+-- a call on an image that does not open
+closed-answer : (image : List ℕ) (s : State) (c : Call) (q x : ℕ) → openOf image ≡ not-opened q x → cycleOf image s (c .inputs) (c .outputs) .answer ≡ not-performed q x
+unfolding cycleOf
+closed-answer image s c q x e = rw e
+
+refused-performs : (q x : ℕ) (way : List ℕ) → not-performed q x ≡ performed way → ⊥
+refused-performs q x way e = let z : _≡_ {A = ℕ} 0 1 = cc in omega arith
+
+-- a state that a cycle returned
+not-15 : (t : Table) (s : State) (d : Call) (r : Called) (k : ℕ) → GoodState t s → Outcome t s (d .inputs) (d .outputs) r → r .answer ≡ not-performed 15 k → ⊥
+not-15 t s d r k g (row-refused x m) e = let z : _≡_ {A = ℕ} 14 15 = cc in omega arith
+not-15 t s d r k g (state-refused m b) e = b g
+not-15 t s d r k g (operator-refused x m b l q) e = let z : _≡_ {A = ℕ} 16 15 = cc in omega arith
+not-15 t s d r k g (performs p τ m b q w y n l) e = let z : _≡_ {A = ℕ} 0 1 = cc in omega arith
+
+returns-good : (t : Table) (s : State) (c : Call) (r : Called) (way : List ℕ) → Outcome t s (c .inputs) (c .outputs) r → r .answer ≡ performed way → GoodState t (r .state)
+returns-good t s c r way (row-refused x m) e = absurd (let z : _≡_ {A = ℕ} 0 1 = cc in omega arith)
+returns-good t s c r way (state-refused m b) e = absurd (let z : _≡_ {A = ℕ} 0 1 = cc in omega arith)
+returns-good t s c r way (operator-refused x m b l q) e = absurd (let z : _≡_ {A = ℕ} 0 1 = cc in omega arith)
+returns-good t s c r way (performs p τ m b q w y n l) e = n
+
+pub returned : (image : List ℕ) → Bytes image → (s : State) (c : Call) → Returned image s c
+returned image h s c = record { never-15 = λ way e d k f. on (openOf image) refl way e d k f }
+  where
+    on : (o : Opened) → openOf image ≡ o → (way : List ℕ) → cycleOf image s (c .inputs) (c .outputs) .answer ≡ performed way
+        → (d : Call) (k : ℕ) → cycleOf image (cycleOf image s (c .inputs) (c .outputs) .state) (d .inputs) (d .outputs) .answer ≡ not-performed 15 k → ⊥
+    on (opened t) e way a d k f =
+        let g = returns-good t s c _ way (image-outcome image t h e s (c .inputs) (c .outputs)) a in
+        not-15 t _ d _ k g (image-outcome image t h e _ (d .inputs) (d .outputs)) f
+    on (not-opened q x) e way a d k f = refused-performs q x way (sym (closed-answer image s c q x e) ∙ a)

@@ -1,0 +1,147 @@
+-- What the buyer was promised: demands 1, 2 and 3, for every text, buffer, image, state record and list of calls. To be read first. The definitions that are
+-- named here are those that stand in the `ensures` of the public functions: compile (`compileOf`), open (`openOf`), fresh (`freshOf`), cycle (`cycleOf`),
+-- direct (`directOf`), direct_fresh (`directFresh`). They are functions, so every call ends and a refusal has one place. Assumes nothing.
+use mathlib.Core.Path.{_≡_}
+use mathlib.Core.Logic.{_↔_}
+use mathlib.Core.List.{List, [], _∷_, _++_}
+use Prim.Native.Nat.{ℕ, suc, _≤_, _<_}
+use lib.ListN.{length, take, drop}
+use Rattle.answers.specs.declared.State.{State}
+use Rattle.grammar.specs.Tree.{Text}
+use Rattle.design.specs.Statement.{size}
+use Rattle.design.specs.Process.{Process}
+use Rattle.language.specs.Reading.{reading}
+use Rattle.language.specs.Validity.{Parses, Valid, Refuses}
+use Rattle.language.specs.Verdict.{accepted, refused, verdict}
+use Rattle.semantics.specs.Rows.{Kept, Outcome, rows, atFirst}
+use Rattle.semantics.specs.Rows as R
+use Rattle.semantics.specs.InputRow.{Meets14}
+use Rattle.semantics.specs.PublishedRows.{publishedRows}
+use Rattle.semantics.specs.Answer.{Answers, AllAnswer}
+use Rattle.semantics.specs.Way.{Distinct}
+use Rattle.semantics.specs.Records.{Started, fresh, not-started}
+use Rattle.semantics.specs.Calls.{Answer, performed, not-performed, Called, Call, turnedBack}
+use Rattle.semantics.specs.Comparison.{fed, seen, equationCalls}
+use Rattle.semantics.specs.DirectRow.{Described}
+use Rattle.format.specs.Image.{Table, encodeTable}
+use Rattle.format.specs.Good.{GoodTable}
+use Rattle.format.specs.Lines.{linesOf, reachesOf, reach}
+use Rattle.format.specs.Walk.{from}
+use Rattle.format.specs.Opening.{Opened, opened, not-opened, openOf}
+use Rattle.format.specs.Refusals.{Refusal}
+use Rattle.format.specs.State.{freshTable, freshOf}
+use Rattle.format.specs.Cycle.{cycleOf, callsOf}
+use Rattle.format.specs.Encode.{tableOf, encode}
+use Rattle.images.specs.Outcome as Image
+use Rattle.behaviour.specs.Direct.{directOf, directFresh, directCalls}
+use Rattle.behaviour.specs.DirectRun.{DirectRun}
+use Rattle.theorems.specs.Compile.{Compile, written, not-compiled, compileOf}
+
+-- DEMAND 1. "Nothing that comes in can upset it: every text, image, state and input row gets a result or a numbered refusal; every call ends; a refusal has
+-- its place fixed and alters no byte of image, state or output row." Each operation below comes to one of the cases that are listed, and each case holds
+-- the condition that document 01 has for it. The cases exclude each other, so each is met exactly when its condition holds.
+
+-- compile: 1 to 9 by the table's rows, 10 where the image does not fit, else the image, "only the image's own bytes"
+pub data Compiles (text buffer : List ℕ) : Compile → Type 0 where
+  writes : (d : Process) → Valid text d → length (encode d) ≤ length buffer
+      → Compiles text buffer (record { answer = written (length (encode d)); buffer = encode d ++ drop (length (encode d)) buffer })
+  too-short : (d : Process) → Valid text d → length buffer < length (encode d)
+      → Compiles text buffer (record { answer = not-compiled 10 (length (encode d)); buffer = buffer })
+  refuses : (q k : ℕ) → 1 ≤ q → q ≤ 9 → Refuses text q k → Compiles text buffer (record { answer = not-compiled q k; buffer = buffer })
+
+-- open: the table whose bytes these are, or 11, 12 or 13
+pub data Opens (image : List ℕ) : Opened → Type 0 where
+  opens : (t : Table) → image ≡ encodeTable t → GoodTable t → Opens image (opened t)
+  refuses : (q k : ℕ) → 11 ≤ q → q ≤ 13 → Refusal image q k → Opens image (not-opened q k)
+
+-- fresh: "place 512 and the initial values", or 11, 12 or 13
+pub data Starts (image : List ℕ) : Started → Type 0 where
+  starts : (t : Table) → openOf image ≡ opened t → Starts image (fresh (freshTable t))
+  refuses : (q k : ℕ) → 11 ≤ q → q ≤ 13 → Refusal image q k → Starts image (not-started q k)
+
+-- cycle: 11, 12 or 13 of the image; else 14, 15 or 16 or a cycle performed, as `Outcome` of the crate images has it. Refused, state and output row are as they came
+pub data Runs (image : List ℕ) (s : State) (c : Call) : Called → Type 0 where
+  runs : (t : Table) → openOf image ≡ opened t → (r : Called) → Image.Outcome t s (c .inputs) (c .outputs) r → Runs image s c r
+  refuses : (q k : ℕ) → 11 ≤ q → q ≤ 13 → Refusal image q k → Runs image s c (turnedBack q k s (c .outputs))
+
+-- direct: 1 to 9 of the text, 14, 15; else the row as the equations answer it, performed or refused by 16
+pub data RunsText (text : List ℕ) (s : State) (c : Call) : Called → Type 0 where
+  refuses : (q k : ℕ) → 1 ≤ q → q ≤ 9 → Refuses text q k → RunsText text s c (turnedBack q k s (c .outputs))
+  by-14 : (d : Process) → Valid text d → (k : ℕ) → Meets14 d (fed c) k → RunsText text s c (turnedBack 14 k s (c .outputs))
+  by-15 : (d : Process) → Valid text d → ((k : ℕ) → Meets14 d (fed c) k → ⊥) → (Described d s → ⊥) → RunsText text s c (turnedBack 15 0 s (c .outputs))
+  answers : (d : Process) → Valid text d → ((k : ℕ) → Meets14 d (fed c) k → ⊥) → (g : Described d s) → (r : Outcome × Kept) → Answers d (g .kept) (fed c) r
+      → RunsText text s c (seen r c)
+
+-- direct_fresh: the beginning and the initial values, or 1 to 9
+pub data StartsText (text : List ℕ) : Started → Type 0 where
+  starts : (d : Process) → Valid text d → (s : State) → directFresh text ≡ fresh s → StartsText text (fresh s)
+  refuses : (q k : ℕ) → 1 ≤ q → q ≤ 9 → Refuses text q k → StartsText text (not-started q k)
+
+pub record Demand1 (text buffer image : List ℕ) (s : State) (c : Call) : Type 0 where
+  pub compiled : Compiles text buffer (compileOf text buffer)
+  pub opened : Opens image (openOf image)
+  pub started : Starts image (freshOf image)
+  pub cycled : Runs image s c (cycleOf image s (c .inputs) (c .outputs))
+  pub run : RunsText text s c (directOf text s c)
+  pub run-started : StartsText text (directFresh text)
+
+-- DEMAND 2, for every text b.
+pub record Demand2 (b : List ℕ) : Type 0 where
+  -- "A text is accepted exactly when the grammar, the limits, the name, value, clock and type rules and the A, B, C classes of document 01 allow it"
+  pub accepts : (d : Process) → (verdict b ≡ accepted d) ↔ Valid b d
+  -- and it is refused, by this number at this place, exactly when a row of the table says so
+  pub refuses : (n p : ℕ) → (verdict b ≡ refused n p) ↔ Refuses b n p
+  -- "and it has one reading"
+  pub one-reading : (t u : Text) → Parses b t → Parses b u → reading t ≡ reading u
+  pub one-meaning : (d e : Process) → Valid b d → Valid b e → d ≡ e
+  -- "row by row, what the published ABC-VHDL equations give, within 32-bit integers": the rows of document 01's reading are those of B.3's equations
+  pub published : (d : Process) → Valid b d → (cs : List R.Call) → publishedRows d cs ≡ rows d cs
+  -- each row is performed, refused by 14 or refused by 16, exactly when document 01 says so
+  pub answered : (d : Process) → Valid b d → (cs : List R.Call) → AllAnswer d (atFirst d) cs (rows d cs)
+  -- "The direct run of an accepted text gives, row by row, what the published ABC-VHDL equations give": every list of calls, from the fresh state
+  pub direct : (d : Process) → Valid b d → DirectRun b d
+
+-- DEMAND 3, for one compile that wrote n bytes.
+
+-- a performed cycle from the place q: "no way has a line twice, so each performed cycle reaches a wait within as many lines as the text has
+-- statements"; "bounded by the follower's reach plus one"
+abbrev pub Short : Process → ℕ → Answer → Type 0
+Short p q (performed way) = Distinct way × (length way ≤ size (p .body)) × (length way ≤ suc (reach (reachesOf (p .body)) (from (linesOf (p .body)) q)))
+Short p q (not-performed n k) = Unit {0}
+
+-- all calls, the first from the state s
+abbrev pub AllShort : Process → State → List Called → Type 0
+AllShort p s [] = Unit {0}
+AllShort p s (r ∷ rs) = Short p (s .place) (r .answer) × AllShort p (r .state) rs
+
+-- The image that a compile wrote has a fresh state, and from it every list of calls, refused ones included, leaves after every call what the equations
+-- of the text leave: the answer (the way, whose length is the line count; or number and place), the whole state record, the output row. From any other
+-- state record, reached or not, a call leaves what the direct run of the text leaves.
+pub record Demand3 (text buffer : List ℕ) (n : ℕ) : Type 0 where
+  pub process : Process
+  pub valid : Valid text process
+  pub state : State
+  pub starts : freshOf (take n (compileOf text buffer .buffer)) ≡ fresh state
+  pub same : (cs : List Call) → callsOf (take n (compileOf text buffer .buffer)) state cs ≡ equationCalls process (atFirst process) cs
+  pub short : (cs : List Call) → AllShort process state (equationCalls process (atFirst process) cs)
+  pub direct : (s : State) (c : Call) → cycleOf (take n (compileOf text buffer .buffer)) s (c .inputs) (c .outputs) ≡ directOf text s c
+  pub direct-start : freshOf (take n (compileOf text buffer .buffer)) ≡ directFresh text
+
+-- COROLLARIES that an auditor asks for.
+
+-- of a compile that wrote n bytes
+pub record Compiled (text buffer : List ℕ) (n : ℕ) : Type 0 where
+  pub process : Process
+  pub valid : Valid text process
+  -- "what a compile writes" is one byte string for each design
+  pub bytes : take n (compileOf text buffer .buffer) ≡ encode process
+  pub size : n ≤ 65535
+  -- what a compile writes, open accepts
+  pub opens : openOf (take n (compileOf text buffer .buffer)) ≡ opened (tableOf process)
+  -- direct run and table agree call by call, whatever state record both start from
+  pub agree : (s : State) (cs : List Call) → callsOf (take n (compileOf text buffer .buffer)) s cs ≡ directCalls text s cs
+
+-- a state that a cycle returned is never refused by 15, whatever image it was
+pub record Returned (image : List ℕ) (s : State) (c : Call) : Type 0 where
+  pub never-15 : (way : List ℕ) → cycleOf image s (c .inputs) (c .outputs) .answer ≡ performed way
+      → (d : Call) (k : ℕ) → cycleOf image (cycleOf image s (c .inputs) (c .outputs) .state) (d .inputs) (d .outputs) .answer ≡ not-performed 15 k → ⊥
