@@ -21,6 +21,8 @@ pub mod limits;
 pub mod loader;
 pub mod names;
 pub mod parser;
+#[cfg(proved)]
+pub mod proved;
 pub mod row;
 pub mod state;
 pub mod table;
