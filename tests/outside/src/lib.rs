@@ -28,4 +28,5 @@ pub mod trace;
 pub mod tree;
 pub mod types;
 pub mod values;
+pub mod vectors;
 pub mod verdict;
