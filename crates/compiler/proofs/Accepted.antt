@@ -2,15 +2,15 @@
 use mathlib.Core.Path.{_≡_, refl, sym, _∙_, ap, subst}
 use mathlib.Core.Bool.{Bool, true, false, cond}
 use mathlib.Core.List.{List, _∷_, _++_}
-use Prim.Native.Nat.{ℕ, _≤_}
+use Prim.Native.Nat.{ℕ}
 use native.Mathlib.Omega.{arith}
 use lib.Dec.{leb, eqb}
-use lib.ListN.{length, drop, length-map}
+use lib.ListN.{length, drop}
 use lib.IntN.{ℤ}
 use Rattle.answers.specs.declared.Refusal.{Refusal}
 use Rattle.answers.specs.declared.Refusal.the-variants.{BufferTooShort}
 use Rattle.answers.specs.declared.Compiled.the-variants.{Written, NotCompiled}
-use Rattle.design.specs.Process.{Source, Slot, Process, WellFormed}
+use Rattle.design.specs.Process.{Process, WellFormed}
 use Rattle.grammar.specs.Tree.{Text}
 use Rattle.grammar.specs.Limits.{Each}
 use Rattle.language.specs.Rules.{Rule, table}
@@ -20,7 +20,6 @@ use Rattle.language.proofs.Judged.{accepts, refuses}
 use Rattle.language.proofs.WellFormed.{valid-well-formed}
 use Rattle.format.specs.Encode.{encode}
 use Rattle.theorems.specs.Compile.{Compile, written, not-compiled, onVerdict, compileOf, written-into}
-use Rattle.ir.specs.Arrays.{BodyIn, NamesIn}
 use Rattle.encoder.specs.declared.Encoded.{Encoded}
 use Rattle.encoder.specs.declared.Encoded.the-variants as E
 use Rattle.encoder.specs.Outcome.{answerFor, bufferFor}
@@ -30,7 +29,7 @@ use Rattle.frontend.specs.declared.layout.Counts.{Counts}
 use Rattle.frontend.specs.Answered.{refusalOf}
 use Rattle.frontend.specs.Designs.{Holds}
 use Rattle.frontend.specs.Fronts.{FrontAs}
-use Rattle.compiler.specs.Compiles.{refusalFor, compiledOf}
+use Rattle.compiler.specs.Compiles.{compiledOf}
 
 -- THE FRONT END
 
@@ -53,24 +52,6 @@ design-of text {r} {c} ops args lines is os vs ps qs f e = go (verdict text) ref
         let y : d ≡ c = cc in
         record { process = p; is-verdict = h; holds = subst (λ (u : Counts). Holds p ops args lines is os vs ps qs u) y k; formed = valid-well-formed (accepts text p .0 h) }
     go (refused n k) h g = not-accepted (sym e ∙ g)
-
--- the encoder's bounds
-pub bounds : {text ops : List ℕ} {args : List ℤ} {lines is os vs : List ℕ} {ps qs : List ℤ} {c : Counts} → Design text ops args lines is os vs ps qs c
-    → (c .operations ≤ 16384) × (c .statements ≤ 512) × (c .inputs ≤ 16) × (c .outputs ≤ 16) × (c .variables ≤ 32)
-bounds d =
-    let b = d .holds .body in
-    let n = d .holds .declared in
-    let w = d .formed in
-    let i = n .inputs .0 in
-    let o = n .outputs .0 in
-    let v = n .variables .0 in
-    let li = length-map (d .process .inputs) (λ (s : Source). s .type) in
-    let lo = length-map (d .process .outputs) (λ (s : Slot). s .type) in
-    let lv = length-map (d .process .variables) (λ (s : Slot). s .type) in
-    let wi = w .inputs in
-    let wo = w .outputs in
-    let wv = w .variables in
-    (b .code .short, b .lines .short, omega arith, omega arith, omega arith)
 
 -- THE COMPILE
 

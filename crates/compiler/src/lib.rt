@@ -1,6 +1,5 @@
 // The compiler: a text to the image of its design in the caller's buffer, or its refusal.
 ghost use mathlib.Core.Path.{_≡_};
-ghost use Prim.Native.Nat.{_≤_};
 ghost use Rattle.design.specs.Process.{Process, WellFormed};
 ghost use Rattle.format.specs.Encode.{encode};
 ghost use Rattle.theorems.specs.Compile.{compileOf, written-into};
@@ -25,7 +24,6 @@ fn write_image(
     c: Counts,
     image: &mut [u8],
 ) -> Compiled
-    requires { ⌜ (c .operations ≤ 16384) × (c .statements ≤ 512) × (c .inputs ≤ 16) × (c .outputs ≤ 16) × (c .variables ≤ 32) ⌝ }
     ensures { λ r. ⌜ ((p : Process) → Holds p (now (ops .entry)) (now (args .entry)) (now (lines .entry)) is os vs «at_outputs» «at_variables» c → WellFormed p
         → (r ≡ compiledOf (written-into (encode p) (now (image .entry)) .answer)) × (now (image .exit) ≡ written-into (encode p) (now (image .entry)) .buffer)) ⌝ }
 {

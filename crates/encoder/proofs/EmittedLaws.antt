@@ -11,6 +11,7 @@ use lib.Dec.{eqb, ltb}
 use lib.IntN.{ℤ, pos}
 use Rattle.design.specs.Types.{Ty, ExprTy}
 use Rattle.design.specs.Expression.{Leaf, int, bit, input, variable, Unary, sign, invert, Binary, plus, minus, equal, unequal, less, at-most, greater, at-least, and, or, xor, Expr, leaf, unary, binary, nth, plainly, leafType, typeOf}
+use Rattle.semantics.specs.Twos.{unsigned32}
 use Rattle.format.specs.Words as Words
 use Rattle.format.specs.Image.{raw, rawBytes}
 use Rattle.format.specs.Code.{push, apply1, apply2, post, operationBytes, code}
@@ -49,7 +50,7 @@ pub width-op : (c : ℕ) (z : ℤ) → opWidth c ≡ length (opBytes c z)
 unfolding opWidth opBytes
 width-op c z = go (eqb c 1) (ltb c 5)
   where
-    go : (a b : Bool) → cond a 5 (cond b 2 1) ≡ length (cond a (c ∷ Words.bytes4 (Words.unsigned32 z)) (cond b (c ∷ Words.unsigned32 z % 256 ∷ []) (c ∷ [])))
+    go : (a b : Bool) → cond a 5 (cond b 2 1) ≡ length (cond a (c ∷ Words.bytes4 (unsigned32 z)) (cond b (c ∷ unsigned32 z % 256 ∷ []) (c ∷ [])))
     go true b = refl
     go false true = refl
     go false false = refl

@@ -5,3 +5,4 @@ mod EmittedLaws
 mod SectionsLaws
 mod ImageLaws
 mod WriteLaws
+pub mod Counts

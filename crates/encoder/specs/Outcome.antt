@@ -1,6 +1,6 @@
 -- What encoding into a lent buffer answers and leaves there: refusal 10 with the bytes needed, or the image's own bytes and no other. Assumes nothing.
 use mathlib.Core.Path.{_≡_}
-use mathlib.Core.Bool.{cond}
+use mathlib.Core.Bool.{Bool, cond, _&&_}
 use mathlib.Core.List.{List, _++_}
 use Prim.Native.Nat.{ℕ}
 use lib.IntN.{ℤ}
@@ -34,3 +34,7 @@ abbrev pub Encodes : List ℕ → List ℤ → ℕ → List ℕ → ℕ → List
 Encodes codes args k rows n is os vs atOutputs atVariables i o v before after answer =
     (p : Process) → BodyIn p codes args rows k n → NamesIn p is os vs atOutputs atVariables i o v → WellFormed p
     → (answer ≡ answerFor (encode p) before) × (after ≡ bufferFor (encode p) before)
+
+-- "Limits": counts that a design can have; a text of 16,384 bytes has no more operations. Other counts get no byte written and 0 bytes needed
+abbrev pub countsOk : ℕ → ℕ → ℕ → ℕ → ℕ → Bool
+countsOk k n i o v = leb k 16384 && (leb n 512 && (leb i 16 && (leb o 16 && leb v 32)))

@@ -1,6 +1,9 @@
 // The image of a design that stands in arrays: followers, reaches, code, and the image's bytes in the caller's buffer.
+ghost use mathlib.Core.Path.{_≡_};
+ghost use mathlib.Core.Bool.{false};
 ghost use Prim.Native.Nat.{_<_, _≤_};
-ghost use Rattle.encoder.specs.Outcome.{LinesStored, Encodes};
+ghost use Rattle.encoder.specs.declared.Encoded.the-variants.{TooShort};
+ghost use Rattle.encoder.specs.Outcome.{LinesStored, Encodes, countsOk};
 
 mod bytes;
 mod followers;
@@ -26,8 +29,8 @@ fn put_body(image: &mut [u8], at: usize, codes: &[u8; 16384], rows: &[u16; 3072]
     sections::put_lines(image, at, codes, rows, n, &next, &other, &reach);
 }
 
-// Encodes a design of k operations, n statements, i inputs, o outputs and v variables.
-pub fn write(
+// Encodes a design whose counts are within the limits.
+fn write_counted(
     codes: &[u8; 16384],
     args: &[i32; 16384],
     k: usize,
@@ -58,4 +61,65 @@ pub fn write(
     put_body(image, 28 + s, codes, rows, n);
     sections::put_code(image, 28 + s + l, codes, args, k);
     Encoded::Written(size)
+}
+
+// Whether these counts are within the limits.
+fn within(k: usize, n: usize, i: usize, o: usize, v: usize) -> bool
+    ensures { λ r. ⌜ r ≡ countsOk k n i o v ⌝ }
+{
+    if 16384 < k {
+        return false;
+    }
+    if 512 < n {
+        return false;
+    }
+    if 16 < i {
+        return false;
+    }
+    if 16 < o {
+        return false;
+    }
+    v <= 32
+}
+
+// Encodes a design of k operations, n statements, i inputs, o outputs and v variables; counts past the limits are those of no design, and nothing is
+// written for them.
+pub fn write(
+    codes: &[u8; 16384],
+    args: &[i32; 16384],
+    k: usize,
+    rows: &[u16; 3072],
+    n: usize,
+    is: &[u8],
+    os: &[u8],
+    vs: &[u8],
+    at_outputs: &[i32],
+    at_variables: &[i32],
+    i: usize,
+    o: usize,
+    v: usize,
+    image: &mut [u8],
+) -> Encoded
+    ensures { λ r. ⌜ Encodes (now (codes .entry)) (now (args .entry)) k (now (rows .entry)) n (now (is .entry)) (now (os .entry)) (now (vs .entry)) (now («at_outputs» .entry)) (now («at_variables» .entry)) i o v (now (image .entry)) (now (image .exit)) r
+        × (countsOk k n i o v ≡ false → (r ≡ TooShort 0) × (now (image .exit) ≡ now (image .entry))) ⌝ }
+{
+    if within(k, n, i, o, v) {
+        return write_counted(
+            codes,
+            args,
+            k,
+            rows,
+            n,
+            is,
+            os,
+            vs,
+            at_outputs,
+            at_variables,
+            i,
+            o,
+            v,
+            image,
+        );
+    }
+    Encoded::TooShort(0)
 }

@@ -30,4 +30,5 @@ pub mod trace;
 pub mod tree;
 pub mod types;
 pub mod values;
+pub mod vectors;
 pub mod verdict;

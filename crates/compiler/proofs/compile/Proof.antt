@@ -1,7 +1,7 @@
 -- `compiler::compile` meets its contract. Assumes nothing.
 use mathlib.Core.Path.{refl}
 use denote.Ref.{now}
-use Rattle.compiler.proofs.Accepted.{design-of, bounds, compiled-accepted, compiled-refused}
+use Rattle.compiler.proofs.Accepted.{design-of, compiled-accepted, compiled-refused}
 use borrow.Author.Needs.{needs}
 use Rattle.compiler.proofs.compile.Statement.{statement}
 use Rattle.compiler.proofs.compile.Tie as tie
@@ -13,7 +13,7 @@ enum-known-front : tie.Need-enum-known-front
 enum-known-front c = search needs
 
 write-image-requires : tie.Need-write-image-requires
-write-image-requires c κs = bounds (design-of _ _ _ _ _ _ _ _ _ (c .before .before .before .before .before .before .before .accept .ensures (record { ops-size = refl; args-size = refl; lines-size = refl; inputs-size = refl; outputs-size = refl; variables-size = refl; at-outputs-size = refl; at-variables-size = refl })) (c .before .before .before .before .before .front .given .1))
+write-image-requires c κs = search needs
 
 enum-known-front-2 : tie.Need-enum-known-front-2
 enum-known-front-2 c = search needs

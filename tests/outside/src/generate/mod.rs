@@ -10,3 +10,4 @@ pub mod rows;
 pub mod spelling;
 pub mod states;
 pub mod texts;
+pub mod vectors;
