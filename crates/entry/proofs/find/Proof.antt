@@ -1,0 +1,39 @@
+-- `entry::find` meets its contract: the bounds that the opener answers, or its refusal as two numbers. Assumes nothing.
+use mathlib.Core.Path.{sym, _∙_}
+use Rattle.entry.proofs.LendingLaws.{found-image, found-none}
+use borrow.Author.Needs.{needs}
+use Rattle.entry.proofs.find.Statement.{statement}
+use Rattle.entry.proofs.find.Tie as tie
+
+open-requires : tie.Need-open-requires
+open-requires c κs = search needs
+
+enum-known-o : tie.Need-enum-known-o
+enum-known-o c = search needs
+
+enum-known-o-2 : tie.Need-enum-known-o-2
+enum-known-o-2 c = search needs
+
+number-requires : tie.Need-number-requires
+number-requires c κs = search needs
+
+place-requires : tie.Need-place-requires
+place-requires c κs = search needs
+
+returns : tie.Need-returns
+returns c = found-image (c .before .before .before .before .before .args .bytes .now) _ (sym (c .before .o .given .1) ∙ c .before .before .before .«open» .ensures)
+
+returns-2 : tie.Need-returns-2
+returns-2 c = found-none (c .before .before .before .before .before .before .before .args .bytes .now) _ _ _ (sym (c .before .before .before .o2 .given .1) ∙ c .before .before .before .before .before .«open» .ensures) (c .before .number .ensures) (c .place .ensures)
+
+pub find-spec : {M : Type 1} → statement M
+find-spec =
+    tie.close
+    (tie.spec
+    open-requires
+    enum-known-o
+    enum-known-o-2
+    number-requires
+    place-requires
+    returns
+    returns-2)

@@ -1,0 +1,113 @@
+// The opened image: the caller's bytes and the bounds of the three sections, which it lends out as parts of those bytes.
+ghost use mathlib.Core.Path.{_≡_};
+ghost use Rattle.entry.specs.Lending.{openingOf, Lends};
+use answers::Opened;
+use answers::Sections;
+
+// What opening an image finds: the refusal's number and place, or 0, and the bounds of the sections, which are 0 where the image is refused.
+pub struct Opening {
+    pub number: u32,
+    pub place: usize,
+    pub sections: Sections,
+}
+
+// An image with what opening it has found.
+pub struct Image<'a> {
+    pub bytes: &'a [u8],
+    pub opening: Opening,
+}
+
+// What opening finds.
+pub fn find(bytes: &[u8]) -> Opening
+    ensures { λ r. ⌜ r ≡ openingOf (now (bytes .entry)) ⌝ }
+{
+    let o = loader::open(bytes);
+    match o {
+        Opened::Image(at) => Opening {
+            number: 0,
+            place: 0,
+            sections: at,
+        },
+        Opened::NotOpened(r) => {
+            let number = answers::number(r);
+            let place = answers::place(r);
+            let none = Sections {
+                signature: 0,
+                lines: 0,
+                code: 0,
+                end: 0,
+            };
+            Opening {
+                number: number,
+                place: place,
+                sections: none,
+            }
+        }
+    }
+}
+
+// The bytes from a start up to an end, as that part; an empty part where they do not lie in the bytes.
+fn between<'a>(bytes: &'a [u8], start: usize, end: usize) -> &'a [u8]
+    ensures { λ r. ⌜ Lends (bytes .entry) start end r ⌝ }
+{
+    if end < start {
+        return &bytes[0..0];
+    }
+    if bytes.len() < end {
+        return &bytes[0..0];
+    }
+    &bytes[start..end]
+}
+
+// The signature section by its bounds.
+fn signature_part<'a>(bytes: &'a [u8], o: Opening) -> &'a [u8]
+    ensures { λ r. ⌜ Lends (bytes .entry) (o .sections .signature) (o .sections .lines) r ⌝ }
+{
+    let at = o.sections;
+    between(bytes, at.signature, at.lines)
+}
+
+// The lines section by its bounds.
+fn lines_part<'a>(bytes: &'a [u8], o: Opening) -> &'a [u8]
+    ensures { λ r. ⌜ Lends (bytes .entry) (o .sections .lines) (o .sections .code) r ⌝ }
+{
+    let at = o.sections;
+    between(bytes, at.lines, at.code)
+}
+
+// The code section by its bounds.
+fn code_part<'a>(bytes: &'a [u8], o: Opening) -> &'a [u8]
+    ensures { λ r. ⌜ Lends (bytes .entry) (o .sections .code) (o .sections .end) r ⌝ }
+{
+    let at = o.sections;
+    between(bytes, at.code, at.end)
+}
+
+// Any bytes opened as an image, or refused by 11, 12 or 13.
+pub fn open<'a>(bytes: &'a [u8]) -> Image<'a>
+    ensures { λ r. ⌜ (r .bytes ≡ bytes .entry) × (r .opening ≡ openingOf (now (bytes .entry))) ⌝ }
+{
+    let o = find(bytes);
+    Image { bytes, opening: o }
+}
+
+// The signature section.
+pub fn signature<'a>(i: Image<'a>) -> &'a [u8]
+    ensures { λ r. ⌜ Lends (i .entry .bytes) (i .entry .opening .sections .signature) (i .entry .opening .sections .lines) r ⌝ }
+{
+    signature_part(i.bytes, i.opening)
+}
+
+// The lines section.
+pub fn lines<'a>(i: Image<'a>) -> &'a [u8]
+    ensures { λ r. ⌜ Lends (i .entry .bytes) (i .entry .opening .sections .lines) (i .entry .opening .sections .code) r ⌝ }
+{
+    lines_part(i.bytes, i.opening)
+}
+
+// The code section.
+pub fn code<'a>(i: Image<'a>) -> &'a [u8]
+    ensures { λ r. ⌜ Lends (i .entry .bytes) (i .entry .opening .sections .code) (i .entry .opening .sections .end) r ⌝ }
+{
+    code_part(i.bytes, i.opening)
+}

@@ -1,0 +1,29 @@
+-- `exports::answer::cycled` meets its contract, case by case. Assumes nothing.
+use mathlib.Core.Path.{sym, ap, _∙_}
+use Rattle.exports.specs.Numbers.{cycledNumbers}
+use borrow.Author.Needs.{needs}
+use Rattle.exports.proofs.answer.cycled.Statement.{statement}
+use Rattle.exports.proofs.answer.cycled.Tie as tie
+
+enum-known-c : tie.Need-enum-known-c
+enum-known-c c = search needs
+
+done-requires : tie.Need-done-requires
+done-requires c κs = search needs
+
+enum-known-c-2 : tie.Need-enum-known-c-2
+enum-known-c-2 c = search needs
+
+refused-requires : tie.Need-refused-requires
+refused-requires c κs = search needs
+
+returns : tie.Need-returns
+returns c = c .done .ensures ∙ sym (ap cycledNumbers (c .before .before .c .given .1))
+
+returns-2 : tie.Need-returns-2
+returns-2 c = c .refused .ensures ∙ sym (ap cycledNumbers (c .before .before .c2 .given .1))
+
+pub cycled-spec : {M : Type 1} → statement M
+cycled-spec =
+    tie.close
+    (tie.spec enum-known-c done-requires enum-known-c-2 refused-requires returns returns-2)

@@ -1,0 +1,28 @@
+-- `exports::answer::opened` meets its contract, case by case. Assumes nothing.
+use mathlib.Core.Path.{sym, ap, _∙_}
+use Rattle.exports.specs.Numbers.{openedNumbers}
+use borrow.Author.Needs.{needs}
+use Rattle.exports.proofs.answer.opened.Statement.{statement}
+use Rattle.exports.proofs.answer.opened.Tie as tie
+
+enum-told : tie.Need-enum-told
+enum-told c = search needs
+
+done-requires : tie.Need-done-requires
+done-requires c κs = search needs
+
+enum-known-o : tie.Need-enum-known-o
+enum-known-o c = search needs
+
+refused-requires : tie.Need-refused-requires
+refused-requires c κs = search needs
+
+returns : tie.Need-returns
+returns c = c .done .ensures ∙ sym (ap openedNumbers (c .before .enum-told .given .1))
+
+returns-2 : tie.Need-returns-2
+returns-2 c = c .refused .ensures ∙ sym (ap openedNumbers (c .before .before .o .given .1))
+
+pub opened-spec : {M : Type 1} → statement M
+opened-spec =
+    tie.close (tie.spec enum-told done-requires enum-known-o refused-requires returns returns-2)

@@ -1,0 +1,28 @@
+-- `exports::answer::started` meets its contract, case by case. Assumes nothing.
+use mathlib.Core.Path.{sym, ap, _∙_}
+use Rattle.exports.specs.Numbers.{startedNumbers}
+use borrow.Author.Needs.{needs}
+use Rattle.exports.proofs.answer.started.Statement.{statement}
+use Rattle.exports.proofs.answer.started.Tie as tie
+
+enum-told : tie.Need-enum-told
+enum-told c = search needs
+
+done-requires : tie.Need-done-requires
+done-requires c κs = search needs
+
+enum-known-s : tie.Need-enum-known-s
+enum-known-s c = search needs
+
+refused-requires : tie.Need-refused-requires
+refused-requires c κs = search needs
+
+returns : tie.Need-returns
+returns c = c .done .ensures ∙ sym (ap startedNumbers (c .before .enum-told .given .1))
+
+returns-2 : tie.Need-returns-2
+returns-2 c = c .refused .ensures ∙ sym (ap startedNumbers (c .before .before .s .given .1))
+
+pub started-spec : {M : Type 1} → statement M
+started-spec =
+    tie.close (tie.spec enum-told done-requires enum-known-s refused-requires returns returns-2)

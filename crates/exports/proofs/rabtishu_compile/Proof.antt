@@ -1,0 +1,21 @@
+-- `exports::rabtishu_compile` meets its contract: the compiler's, its answer as three numbers. Assumes nothing.
+use mathlib.Core.Path.{ap, _∙_}
+use Rattle.exports.specs.Numbers.{compiledNumbers}
+use borrow.Author.Needs.{needs}
+use Rattle.exports.proofs.rabtishu_compile.Statement.{statement}
+use Rattle.exports.proofs.rabtishu_compile.Tie as tie
+
+compile-requires : tie.Need-compile-requires
+compile-requires c κs = search needs
+
+compiled-requires : tie.Need-compiled-requires
+compiled-requires c κs = search needs
+
+same-length : tie.Need-same-length
+same-length c = search needs
+
+returns : tie.Need-returns
+returns c = (c .compiled .ensures ∙ ap compiledNumbers (c .before .before .before .compile .ensures .0), c .before .before .before .compile .ensures .1)
+
+pub rabtishu-compile-spec : {M : Type 1} → statement M
+rabtishu-compile-spec = tie.close (tie.spec compile-requires compiled-requires same-length returns)

@@ -1,0 +1,46 @@
+-- `exports::rabtishu_direct_fresh` meets its contract: the fresh state of the text is stored where there is one. Assumes nothing.
+use mathlib.Core.Path.{refl, ap, _∙_}
+use Rattle.interpreter.specs.Answering.{startedOf, startOf}
+use Rattle.behaviour.specs.Direct.{directFresh}
+use Rattle.exports.specs.Numbers.{isFresh, startedNumbers}
+use Rattle.exports.proofs.CallLaws.{started-stored, started-kept}
+use borrow.Author.Needs.{needs}
+use Rattle.exports.proofs.rabtishu_direct_fresh.Statement.{statement}
+use Rattle.exports.proofs.rabtishu_direct_fresh.Tie as tie
+
+fresh-requires : tie.Need-fresh-requires
+fresh-requires c κs = search needs
+
+started-requires : tie.Need-started-requires
+started-requires c κs = search needs
+
+is-fresh-requires : tie.Need-is-fresh-requires
+is-fresh-requires c κs = search needs
+
+from-state-requires : tie.Need-from-state-requires
+from-state-requires c κs = search needs
+
+returns : tie.Need-returns
+returns c =
+    let f = directFresh (c .before .before .before .before .before .before .before .args .text .now) in (
+      c .before .before .before .before .started .ensures ∙ ap startedNumbers (c .before .before .before .before .before .fresh .ensures .0),
+      started-stored startedOf startOf (λ s. refl) (λ q k. refl) (λ s. refl) f _ _ _ _ (c .before .before .before .is-fresh .ensures ∙ ap isFresh (c .before .before .before .before .before .fresh .ensures .0)) (c .before .before .if1 .taken) (c .before .before .before .before .before .fresh .ensures .1) (c .from-state .ensures),
+    )
+
+returns-2 : tie.Need-returns-2
+returns-2 c =
+    let f = directFresh (c .before .before .before .before .before .args .text .now) in (
+      c .before .before .started .ensures ∙ ap startedNumbers (c .before .before .before .fresh .ensures .0),
+      started-kept startedOf startOf (λ s. refl) (λ q k. refl) (λ s. refl) f _ _ (c .before .is-fresh .ensures ∙ ap isFresh (c .before .before .before .fresh .ensures .0)) (c .if1 .left),
+    )
+
+pub rabtishu-direct-fresh-spec : {M : Type 1} → statement M
+rabtishu-direct-fresh-spec =
+    tie.close
+    (tie.spec
+    fresh-requires
+    started-requires
+    is-fresh-requires
+    from-state-requires
+    returns
+    returns-2)

@@ -1,0 +1,52 @@
+-- The three numbers of an answer at the C interface: the refusal's number or 0, its place or 0, a count (document 01, "Turned back", "State"). Assumes
+-- nothing.
+use mathlib.Core.Bool.{Bool, true, false}
+use mathlib.Core.List.{List, [], _∷_}
+use Prim.Native.Nat.{ℕ, _%_, _^_}
+use Rattle.answers.specs.Answers.{numberOf, placeOf}
+use Rattle.answers.specs.declared.Refusal.{Refusal}
+use Rattle.answers.specs.declared.Compiled.{Compiled}
+use Rattle.answers.specs.declared.Compiled.the-variants.{Written, NotCompiled}
+use Rattle.answers.specs.declared.Opened.{Opened}
+use Rattle.answers.specs.declared.Opened.the-variants.{Image, NotOpened}
+use Rattle.answers.specs.declared.Started.{Started}
+use Rattle.answers.specs.declared.Started.the-variants.{Fresh, NotStarted}
+use Rattle.answers.specs.declared.Cycled.{Cycled}
+use Rattle.answers.specs.declared.Cycled.the-variants.{Performed, NotPerformed}
+
+-- the low 32 bits of a place or a count
+abbrev pub low32 : ℕ → ℕ
+low32 n = n % 2 ^ 32
+
+-- turned back: the columns "No" and "Place"; nothing is counted
+abbrev pub refusedAs : Refusal → List ℕ
+refusedAs r = numberOf r ∷ low32 (placeOf r) ∷ 0 ∷ []
+
+-- done: no refusal, and so many image bytes or lines
+abbrev pub doneAs : ℕ → List ℕ
+doneAs n = 0 ∷ 0 ∷ low32 n ∷ []
+
+-- a compile: the image bytes written
+abbrev pub compiledNumbers : Compiled → List ℕ
+compiledNumbers (Written n) = doneAs n
+compiledNumbers (NotCompiled r) = refusedAs r
+
+-- an image opened: nothing is counted
+abbrev pub openedNumbers : Opened → List ℕ
+openedNumbers (Image at) = doneAs 0
+openedNumbers (NotOpened r) = refusedAs r
+
+-- a fresh state: nothing is counted
+abbrev pub startedNumbers : Started → List ℕ
+startedNumbers Fresh = doneAs 0
+startedNumbers (NotStarted r) = refusedAs r
+
+-- a cycle: "the number of lines performed, the wait it ends on included"; "A refused cycle answers 0 lines."
+abbrev pub cycledNumbers : Cycled → List ℕ
+cycledNumbers (Performed n) = doneAs n
+cycledNumbers (NotPerformed r) = refusedAs r
+
+-- whether a fresh state is there
+abbrev pub isFresh : Started → Bool
+isFresh Fresh = true
+isFresh (NotStarted r) = false

@@ -1,0 +1,93 @@
+// The three numbers of an answer: the refusal's number or 0, its place or 0, a count.
+ghost use mathlib.Core.Path.{_≡_};
+ghost use Rattle.cycle.specs.Advances.{isPerformed};
+ghost use Rattle.exports.specs.Numbers.{low32, refusedAs, doneAs, compiledNumbers, openedNumbers, startedNumbers, cycledNumbers, isFresh};
+use answers::Compiled;
+use answers::Cycled;
+use answers::Opened;
+use answers::Refusal;
+use answers::Started;
+
+// The low 32 bits of a place or a count.
+fn low(n: usize) -> u32
+    ensures { λ r. ⌜ r ≡ low32 n ⌝ }
+{
+    (n & 0xffffffff) as u32
+}
+
+// Turned back: number and place.
+fn refused(r: Refusal) -> [u32; 3]
+    ensures { λ a. ⌜ a ≡ refusedAs r ⌝ }
+{
+    let number = answers::number(r);
+    let place = low(answers::place(r));
+    [number, place, 0]
+}
+
+// Done: so many image bytes or lines.
+fn done(n: usize) -> [u32; 3]
+    ensures { λ a. ⌜ a ≡ doneAs n ⌝ }
+{
+    let count = low(n);
+    [0, 0, count]
+}
+
+// The answer of a compile.
+pub(crate) fn compiled(c: Compiled) -> [u32; 3]
+    ensures { λ a. ⌜ a ≡ compiledNumbers c ⌝ }
+{
+    match c {
+        Compiled::Written(n) => done(n),
+        Compiled::NotCompiled(r) => refused(r),
+    }
+}
+
+// The answer of an image opened.
+pub(crate) fn opened(o: Opened) -> [u32; 3]
+    ensures { λ a. ⌜ a ≡ openedNumbers o ⌝ }
+{
+    match o {
+        Opened::Image(_) => done(0),
+        Opened::NotOpened(r) => refused(r),
+    }
+}
+
+// The answer of a fresh state asked for.
+pub(crate) fn started(s: Started) -> [u32; 3]
+    ensures { λ a. ⌜ a ≡ startedNumbers s ⌝ }
+{
+    match s {
+        Started::Fresh => done(0),
+        Started::NotStarted(r) => refused(r),
+    }
+}
+
+// The answer of a cycle.
+pub(crate) fn cycled(c: Cycled) -> [u32; 3]
+    ensures { λ a. ⌜ a ≡ cycledNumbers c ⌝ }
+{
+    match c {
+        Cycled::Performed(n) => done(n),
+        Cycled::NotPerformed(r) => refused(r),
+    }
+}
+
+// Whether a fresh state is there.
+pub(crate) fn is_fresh(s: Started) -> bool
+    ensures { λ r. ⌜ r ≡ isFresh s ⌝ }
+{
+    match s {
+        Started::Fresh => true,
+        Started::NotStarted(_) => false,
+    }
+}
+
+// Whether a cycle was performed.
+pub(crate) fn is_performed(c: Cycled) -> bool
+    ensures { λ r. ⌜ r ≡ isPerformed c ⌝ }
+{
+    match c {
+        Cycled::Performed(_) => true,
+        Cycled::NotPerformed(_) => false,
+    }
+}

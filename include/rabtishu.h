@@ -1,0 +1,86 @@
+/*
+ * rabtishu.h: the C interface of Rabtishu, a compiler from ABC-VHDL to cycle tables for countdown boards.
+ *
+ * The functions are those of crates/exports, proved to meet contracts by the definitions in crates/exports/specs.
+ * Build the library by `rt staticlib exports`, and link target/staticlib/libexports.a.
+ * No function allocates memory, keeps anything between calls, reads or writes a file, or fails in another way than by its answer.
+ *
+ * What a call is lent
+ *   text, image     n bytes; a text has no ending 0
+ *   inputs          ni numbers, one for each data input (the clock is none) in the order of the text
+ *   outputs         no numbers, one for each output
+ *   state           49 numbers: the place, 16 output slots, 32 variable slots
+ *   answer          3 numbers: the refusal's number or 0; its place or 0; a count
+ * Each pointer with a length must point to that many elements; state and answer must point to 49 and 3.
+ * What is written (image, outputs, state, answer) must not overlap anything else that the call is lent.
+ * A length of 0 is fine; nothing is then read or written through its pointer, which may be NULL.
+ *
+ * What a call writes
+ *   answer is written by every call. Nothing else is written where answer[0] is not 0.
+ *   An accepted compile writes the image's own bytes, the first answer[2] of the buffer, and no other.
+ *
+ * The state's place is 512 for the beginning, else the line of a wait. It is a full 32-bit number: a place outside 0 to 65535 is refused as any
+ * other wrong place is. Unused slots are 0, a std_logic slot is 0 or 1.
+ *
+ * Refusals, in the order in which a call comes to them; within one number the lowest place is told, and 3 and 4 are one stage
+ *    No  given for                                                        place
+ *     1  text longer than 16384 bytes                                     0
+ *     2  byte that begins no token, malformed word                        its first byte
+ *     3  no sentence                                                      first token that cannot continue, or the text's length
+ *     4  limit passed                                                     token that passes it
+ *     5  name unknown, declared twice, of the wrong kind, output read     that name
+ *     6  wrong type                                                       operator, target, `if`, `while`, or value
+ *     7  output or variable group without value                           its first name
+ *     8  wrong clock                                                      that name
+ *     9  wrong class of a while's body or of the process body             `while`; `process`
+ *    10  image buffer too short                                           bytes needed
+ *    11  image: form, count, pairs, length, lines section                 0
+ *    12  image: signature                                                 0
+ *    13  image: lines or code                                             lowest bad line, or the line count
+ *    14  input or output row of a wrong length; wrong input value         0; its index
+ *    15  place or slot of the state                                       0
+ *    16  result of +, - or sign outside integer                           its line
+ * Places of 1 to 9 are byte offsets of the text.
+ *
+ * Stack: rabtishu_compile, rabtishu_direct_fresh and rabtishu_direct keep their arrays on the stack of the caller's thread; docs/ARCHITECTURE.md has
+ * their sizes.
+ */
+#ifndef RABTISHU_H
+#define RABTISHU_H
+
+#include <stddef.h>
+#include <stdint.h>
+
+#ifdef __cplusplus
+extern "C" {
+#endif
+
+/* A text to its image in a buffer of `room` bytes. Refusals 1 to 10; the count is the number of image bytes. A buffer of exactly that length is enough. */
+void rabtishu_compile(const uint8_t *text, size_t n, uint8_t *image, size_t room, uint32_t answer[3]);
+
+/* Checks an image, whatever its bytes are. Refusals 11 to 13; the count is 0. */
+void rabtishu_open(const uint8_t *image, size_t n, uint32_t answer[3]);
+
+/* The fresh state of an image: place 512 and the initial values. Refusals 11 to 13; the count is 0. */
+void rabtishu_fresh(const uint8_t *image, size_t n, int32_t state[49], uint32_t answer[3]);
+
+/* One cycle on an image: the state advances, and the output row gets all outputs. Refusals 11 to 16; the count is the number of lines performed, the
+ * wait that the cycle ends on included. The image is checked in every call. */
+void rabtishu_cycle(const uint8_t *image, size_t n, int32_t state[49], const int32_t *inputs, size_t ni, int32_t *outputs, size_t no,
+                    uint32_t answer[3]);
+
+/* The fresh state of a text, without an image. Refusals 1 to 9; the count is 0. */
+void rabtishu_direct_fresh(const uint8_t *text, size_t n, int32_t state[49], uint32_t answer[3]);
+
+/* One cycle from a text, without an image; the text is read in every call. Refusals 1 to 9 and 14 to 16; the count is as for rabtishu_cycle. */
+void rabtishu_direct(const uint8_t *text, size_t n, int32_t state[49], const int32_t *inputs, size_t ni, int32_t *outputs, size_t no,
+                     uint32_t answer[3]);
+
+/* The length of the token that starts at a place of a text, or 0 where none starts: for 1 to 9, the token is text[place .. place + length]. */
+size_t rabtishu_token_at(const uint8_t *text, size_t n, size_t place);
+
+#ifdef __cplusplus
+}
+#endif
+
+#endif

@@ -1,0 +1,128 @@
+/* Document 01's tally through the C interface: compiled, opened, run by table and by text, and calls that are refused. Prints what `expected` holds. */
+#include "rabtishu.h"
+
+#include <stdio.h>
+#include <string.h>
+
+static const char tally[] =
+    "entity tally is port (clk : in std_logic; d : in integer; total : out integer := 0); end tally;\n"
+    "architecture a of tally is begin process variable s : integer := 0; begin\n"
+    "while s < 10 loop s := s + d; wait until clk = '1'; end loop;\n"
+    "total <= s; s := 0; wait until clk = '1';\n"
+    "end process; end a;\n";
+
+static const int32_t rows[] = {7, 7, 1, -5, INT32_MIN, 20};
+
+static const uint8_t *text = (const uint8_t *)tally;
+static const size_t length = sizeof tally - 1;
+
+static void told(const char *what, const uint32_t answer[3])
+{
+    printf("%s: %u %u %u\n", what, answer[0], answer[1], answer[2]);
+}
+
+/* Every byte of a buffer is the guard byte. */
+static int guarded(const void *bytes, size_t n)
+{
+    const uint8_t *b = bytes;
+    for (size_t k = 0; k < n; k++)
+        if (b[k] != 0xa5)
+            return 0;
+    return 1;
+}
+
+static void row_told(int row, const int32_t state[49], int32_t total, const uint32_t answer[3])
+{
+    if (answer[0])
+        printf("%d refused %u\n", row, answer[0]);
+    else
+        printf("%d %d %u %d\n", row, state[0], answer[2], total);
+}
+
+/* The trace of the six rows, by the table where an image is given, else from the text. */
+static void trace(const uint8_t *image, size_t n)
+{
+    int32_t state[49];
+    uint32_t answer[3];
+    if (image)
+        rabtishu_fresh(image, n, state, answer);
+    else
+        rabtishu_direct_fresh(text, length, state, answer);
+    told("fresh", answer);
+    printf("place %d output %d variable %d last %d\n", state[0], state[1], state[17], state[48]);
+    for (int k = 0; k < 6; k++) {
+        int32_t total = 99;
+        if (image)
+            rabtishu_cycle(image, n, state, &rows[k], 1, &total, 1, answer);
+        else
+            rabtishu_direct(text, length, state, &rows[k], 1, &total, 1, answer);
+        row_told(k, state, total, answer);
+    }
+}
+
+/* A refused call alters neither state nor row. */
+static void refused(const uint8_t *image, size_t n, int32_t place, int32_t slot)
+{
+    int32_t state[49] = {0}, before[49], row = 99;
+    uint32_t answer[3];
+    state[0] = place;
+    state[48] = slot;
+    memcpy(before, state, sizeof state);
+    rabtishu_cycle(image, n, state, rows, 1, &row, 1, answer);
+    told("table", answer);
+    printf("%s\n", memcmp(before, state, sizeof state) || row != 99 ? "altered" : "untouched");
+    rabtishu_direct(text, length, state, rows, 1, &row, 1, answer);
+    told("text", answer);
+    printf("%s\n", memcmp(before, state, sizeof state) || row != 99 ? "altered" : "untouched");
+}
+
+int main(void)
+{
+    uint8_t image[256];
+    int32_t state[49];
+    uint32_t answer[3];
+
+    memset(image, 0xa5, sizeof image);
+    rabtishu_compile(text, length, image, 133, answer);
+    told("133 bytes", answer);
+    printf("%s\n", guarded(image, sizeof image) ? "untouched" : "altered");
+    rabtishu_compile(text, length, image, 134, answer);
+    told("134 bytes", answer);
+    printf("%s\n", guarded(image + 134, sizeof image - 134) ? "untouched" : "altered");
+    memset(image, 0xa5, sizeof image);
+    rabtishu_compile(text, length, image, sizeof image, answer);
+    told("256 bytes", answer);
+    printf("%s\n", guarded(image + 134, sizeof image - 134) ? "untouched" : "altered");
+
+    rabtishu_open(image, 134, answer);
+    told("opened", answer);
+    rabtishu_open(image, 133, answer);
+    told("cut", answer);
+    rabtishu_open(NULL, 0, answer);
+    told("empty image", answer);
+    rabtishu_compile(NULL, 0, NULL, 0, answer);
+    told("empty text", answer);
+
+    trace(image, 134);
+    trace(NULL, 0);
+
+    refused(image, 134, 513, 0);
+    refused(image, 134, 65536 + 512, 0);
+    refused(image, 134, -1, 0);
+    refused(image, 134, 512, 1);
+
+    memset(state, 0xa5, sizeof state);
+    rabtishu_fresh(image, 133, state, answer);
+    told("fresh of a cut image", answer);
+    printf("%s\n", guarded(state, sizeof state) ? "untouched" : "altered");
+    rabtishu_direct_fresh((const uint8_t *)"entity 5", 8, state, answer);
+    told("fresh of a wrong text", answer);
+    printf("%s\n", guarded(state, sizeof state) ? "untouched" : "altered");
+
+    printf("token at 0: %zu\n", rabtishu_token_at(text, length, 0));
+    printf("token at 1: %zu\n", rabtishu_token_at(text, length, 1));
+    printf("token at 7: %zu\n", rabtishu_token_at(text, length, 7));
+    printf("token at the end: %zu\n", rabtishu_token_at(text, length, length));
+    printf("token of nothing: %zu\n", rabtishu_token_at(NULL, 0, 0));
+    return 0;
+}
