@@ -45,6 +45,38 @@ pub const PROVED: Board = Board {
     token_at,
 };
 
+/// The same without guards and copies, to be timed.
+pub const PLAIN: Board = Board {
+    name: "plain",
+    compile: |text, image| {
+        let mut answer = [0; 3];
+        let (n, room) = (text.len(), image.len());
+        let (from, to) = (text.as_ptr(), image.as_mut_ptr());
+        // SAFETY: the pointers and lengths are those of slices that live until the call is over.
+        unsafe { rabtishu_compile(from, n, to, room, answer.as_mut_ptr()) };
+        answer
+    },
+    open: |image| {
+        let mut answer = [0; 3];
+        // SAFETY: as in `compile`.
+        unsafe { rabtishu_open(image.as_ptr(), image.len(), answer.as_mut_ptr()) };
+        answer
+    },
+    cycle: |image, state, inputs, outputs| plainly(rabtishu_cycle, image, state, inputs, outputs),
+    direct: |text, state, inputs, outputs| plainly(rabtishu_direct, text, state, inputs, outputs),
+    ..PROVED
+};
+
+fn plainly(run: Run, bytes: &[u8], state: &mut State, inputs: &[i32], outputs: &mut [i32]) -> Answer {
+    let mut answer = [0; 3];
+    let (n, ni, no) = (bytes.len(), inputs.len(), outputs.len());
+    let (from, at) = (bytes.as_ptr(), state.as_mut_ptr());
+    let (read, to) = (inputs.as_ptr(), outputs.as_mut_ptr());
+    // SAFETY: the pointers and lengths are those of slices that live until the call is over.
+    unsafe { run(from, n, at, read, ni, to, no, answer.as_mut_ptr()) };
+    answer
+}
+
 /// How many elements stand before and behind what is lent.
 const GUARD: usize = 8;
 
