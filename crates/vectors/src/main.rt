@@ -9,14 +9,8 @@
 // the fresh state; and for each row the answer of the cycle on the image, the output row and the state after it. `same` says that the direct run from the
 // text gave all of this too; where it did not, its own answer follows. Buffers hold 165 before a call; `untouched` says that they still do.
 use answers::Compiled;
-use answers::Cycled;
 use answers::Refusal;
-use answers::Started;
-use answers::State;
-use libc::STDOUT_FILENO;
-use words::byte;
 use words::word2;
-use words::word4;
 
 mod compiling;
 mod print;

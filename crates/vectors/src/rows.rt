@@ -1,11 +1,14 @@
 // The rows of a case, each by the cycle on the image and by the direct run from the text.
+ghost use mathlib.Core.Path.{_≡_};
 ghost use Prim.Native.Nat.{_≤_};
+ghost use Rattle.format.specs.Cycle.{cycleOf};
+ghost use Rattle.cycle.specs.Advances.{cycledOf};
 use crate::print;
 use answers::Cycled;
 use answers::Refusal;
 use answers::Started;
 use answers::State;
-use libc::STDOUT_FILENO;
+use cycle::Advanced;
 use words::byte;
 use words::word4;
 
@@ -102,6 +105,20 @@ fn print_direct(
     print::state(state);
 }
 
+// A cycle on an image by a state record of the caller's own, which is lent to it.
+fn advance(image: &[u8], s: State, inputs: &[i32], row: &mut [i32]) -> Advanced
+    ensures { λ a. ⌜ (a .answer ≡ cycledOf (cycleOf (now (image .entry)) s (now (inputs .entry)) (now (row .entry)) .answer))
+        × (a .state ≡ cycleOf (now (image .entry)) s (now (inputs .entry)) (now (row .entry)) .state)
+        × (now (row .exit) ≡ cycleOf (now (image .entry)) s (now (inputs .entry)) (now (row .entry)) .row) ⌝ }
+{
+    let mut state = s;
+    let answer = runtime::advance_state(image, &mut state, inputs, row);
+    Advanced {
+        state: state,
+        answer: answer,
+    }
+}
+
 // One row by table and text; the state that the table leaves.
 fn run_row(
     text: &[u8],
@@ -111,7 +128,7 @@ fn run_row(
     row: &mut [i32],
     direct_row: &mut [i32],
 ) -> State {
-    let a = runtime::cycle(image, before, inputs, row);
+    let a = advance(image, before, inputs, row);
     let answer = a.answer;
     let state = a.state;
     print::cycled(answer);

@@ -1,0 +1,5 @@
+pub mod Putting
+pub mod NameBytes
+pub mod Listed
+pub mod Accepting
+pub mod Tally

@@ -1,0 +1,112 @@
+-- The bytes of a name token's number are the token's bytes folded to lower case. Assumes nothing.
+use mathlib.Core.Path.{_≡_, refl, sym, _∙_, ap}
+use mathlib.Core.Bool.{Bool, true, false, cond, _||_}
+use mathlib.Core.List.{List, [], _∷_, _++_, append-nil, map}
+use Prim.Native.Nat.{ℕ, zero, suc, _+_, _*_, _-_, _/_, _%_, _≤_, _<_}
+use native.Mathlib.Omega.{arith}
+use lib.Dec.{eqb}
+use lib.ListN.{length, drop, length-take}
+use borrow.Author.Tests.{ne-eqb}
+use Rattle.grammar.specs.Token.{Token, NAME}
+use Rattle.language.specs.Bytes.{bytes, between, elem, blank, quote, mark, none, byteKind, kindCode, is, inWord, lower}
+use Rattle.language.specs.Words.{folded}
+use Rattle.language.specs.Lexing.{all}
+use Rattle.language.proofs.Facts.{clash, and-true-both, eqb-eq}
+use Rattle.language.proofs.Folding.{between-le}
+use Rattle.lexer.specs.Places.{part}
+use Rattle.lexer.specs.TokenValues.{tokenValue, Valued}
+use Rattle.labels.specs.Header.{digits, nameBytes}
+
+-- a byte of a word is no NUL and below 123
+word-byte : (b : ℕ) → inWord b ≡ true → (0 < b) × (b < 123)
+unfolding inWord is byteKind
+word-byte b e = first (between 97 122 b) refl
+  where
+    fourth : (q : Bool) → eqb b 95 ≡ q → between 97 122 b ≡ false → between 65 90 b ≡ false → between 48 57 b ≡ false → (0 < b) × (b < 123)
+    fourth true h l u d = let s = eqb-eq b 95 h in (omega arith, omega arith)
+    fourth false h l u d = others (elem b (32 ∷ 9 ∷ 10 ∷ 13 ∷ [])) (eqb b 39) (elem b (bytes "();:,+-=<>/")) (rw (l, u, d, h) at e)
+      where
+        others : (x y z : Bool)
+            → (eqb 0 (kindCode (cond x blank (cond y quote (cond z mark none)))) || (eqb 1 (kindCode (cond x blank (cond y quote (cond z mark none)))) || eqb 2 (kindCode (cond x blank (cond y quote (cond z mark none)))))) ≡ true
+            → (0 < b) × (b < 123)
+        others true y z f = clash (sym f)
+        others false true z f = clash (sym f)
+        others false false true f = clash (sym f)
+        others false false false f = clash (sym f)
+
+    third : (q : Bool) → between 48 57 b ≡ q → between 97 122 b ≡ false → between 65 90 b ≡ false → (0 < b) × (b < 123)
+    third true h l u = let s = between-le 48 57 b h in (omega arith, omega arith)
+    third false h l u = fourth (eqb b 95) refl l u h
+
+    second : (q : Bool) → between 65 90 b ≡ q → between 97 122 b ≡ false → (0 < b) × (b < 123)
+    second true h l = let s = between-le 65 90 b h in (omega arith, omega arith)
+    second false h l = third (between 48 57 b) refl l h
+
+    first : (q : Bool) → between 97 122 b ≡ q → (0 < b) × (b < 123)
+    first true h = let s = between-le 97 122 b h in (omega arith, omega arith)
+    first false h = second (between 65 90 b) refl h
+
+-- so a folded byte is a digit to base 256, and not 0
+lower-range : (b : ℕ) → inWord b ≡ true → (0 < lower b) × (lower b < 256)
+unfolding lower
+lower-range b e = go (between 65 90 b) (word-byte b e)
+  where
+    go : (u : Bool) → (0 < b) × (b < 123) → (0 < cond u (b + 32) b) × (cond u (b + 32) b < 256)
+    go true h = (omega arith, omega arith)
+    go false h = (omega arith, omega arith)
+
+-- one digit is taken off
+digit-off : (n v x : ℕ) (l : List ℕ) → 0 < x → x < 256 → digits (suc n) (v * 256 + x) l ≡ digits n v (x ∷ l)
+unfolding digits
+digit-off n v x l p q =
+    let a : (v * 256 + x) / 256 ≡ v = omega arith in
+    let b : (v * 256 + x) % 256 ≡ x = omega arith in
+    rw (ne-eqb (v * 256 + x) 0 (λ e. omega arith), a, b)
+
+-- all digits of a word are taken off
+digits-off : (w : List ℕ) → all inWord w ≡ true → (n v : ℕ) (l : List ℕ) → digits (n + length w) (folded v w) l ≡ digits n v (map lower w ++ l)
+unfolding folded all
+digits-off [] p n v l = let z : n + 0 ≡ n = omega arith in rw z
+digits-off (b ∷ w) p n v l =
+    let s = and-true-both (inWord b) (all inWord w) p in
+    let r = lower-range b (s .0) in
+    let z : n + suc (length w) ≡ suc n + length w = omega arith in
+    rw z (digits-off w (s .1) (suc n) (v * 256 + lower b) l ∙ digit-off n v (lower b) (map lower w ++ l) (r .0) (r .1))
+
+no-digits : (n : ℕ) (l : List ℕ) → digits n 0 l ≡ l
+unfolding digits
+no-digits zero l = refl
+no-digits (suc n) l = refl
+
+-- the bytes of a word of at most 32, from its folded number
+pub word-bytes : (w : List ℕ) → all inWord w ≡ true → length w ≤ 32 → nameBytes (folded 0 w) ≡ map lower w
+unfolding nameBytes
+word-bytes w p h =
+    let z : 32 ≡ (32 - length w) + length w = omega arith in
+    ap (λ (n : ℕ). digits n (folded 0 w) []) z ∙ (digits-off w p (32 - length w) 0 [] ∙ (no-digits (32 - length w) (map lower w ++ []) ∙ append-nil (map lower w)))
+
+name-value : (w : List ℕ) (k : ℕ) → k ≡ NAME → tokenValue k w ≡ folded 0 w
+unfolding tokenValue between
+name-value w k e = rw e
+
+-- THE LAW: the bytes of a name token's number are its bytes in the text, folded to lower case
+pub name-bytes : (text : List ℕ) (x : Token) → Valued text x → x .kind ≡ NAME → x .size ≤ 32 → nameBytes (x .value) ≡ map lower (part text (x .place) (x .size))
+name-bytes text x a k s =
+    let w = part text (x .place) (x .size) in
+    let v : x .value ≡ folded 0 (part text (x .place) (x .size)) = a .value ∙ name-value (part text (x .place) (x .size)) (x .kind) k in
+    let l = length-take (x .size) (drop (x .place) text) in
+    ap nameBytes v ∙ word-bytes (part text (x .place) (x .size)) (a .word k) (omega arith)
+
+-- at most 32 bytes, whatever the number
+digits-short : (n v : ℕ) (l : List ℕ) → length (digits n v l) ≤ n + length l
+unfolding digits
+digits-short zero v l = omega arith
+digits-short (suc n) v l = go (eqb v 0) (digits-short n (v / 256) (v % 256 ∷ l))
+  where
+    go : (b : Bool) → length (digits n (v / 256) (v % 256 ∷ l)) ≤ n + suc (length l) → length (cond b l (digits n (v / 256) (v % 256 ∷ l))) ≤ suc n + length l
+    go true h = omega arith
+    go false h = omega arith
+
+pub name-short : (v : ℕ) → length (nameBytes v) ≤ 32
+unfolding nameBytes
+name-short v = let h = digits-short 32 v [] in omega arith

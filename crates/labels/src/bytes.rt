@@ -1,0 +1,42 @@
+// Bytes put behind those of a line.
+ghost use mathlib.Core.Path.{_≡_};
+ghost use mathlib.Core.List.{[], _∷_, map};
+ghost use Rattle.language.specs.Bytes.{lower};
+ghost use Rattle.labels.specs.Lines.{Puts};
+
+// "in lower case": a capital as its small letter.
+fn lower_case(b: u8) -> u8
+    ensures { λ r. ⌜ r ≡ lower b ⌝ }
+{
+    if b < b'A' {
+        return b;
+    }
+    if b > b'Z' {
+        return b;
+    }
+    b + 32
+}
+
+// One byte; where there is no room, none.
+pub(crate) fn put(out: &mut [u8; 560], n: usize, b: u8) -> usize
+    ensures { λ r. ⌜ Puts (now (out .entry)) n (b ∷ []) (now (out .exit)) r ⌝ }
+{
+    if n < 560 {
+        out[n] = b;
+        return n + 1;
+    }
+    n
+}
+
+// The bytes of a word, folded to lower case.
+pub(crate) fn put_folded(word: &[u8], out: &mut [u8; 560], n: usize) -> usize
+    ensures { λ r. ⌜ Puts (now (out .entry)) n (map lower (now (word .entry))) (now (out .exit)) r ⌝ }
+{
+    let mut m = n;
+    let mut i = 0;
+    while i < word.len() {
+        m = put(out, m, lower_case(word[i]));
+        i += 1;
+    }
+    m
+}

@@ -1,0 +1,143 @@
+// The header of a trace, from the text: `cycle wait lines`, then the output names in lower case.
+ghost use mathlib.Core.Path.{_≡_};
+ghost use mathlib.Core.List.{List, []};
+ghost use Rattle.grammar.specs.Token.{Token};
+ghost use Rattle.grammar.specs.Tree.{Text};
+ghost use Rattle.grammar.specs.Acceptance as Grammar;
+ghost use Rattle.grammar.specs.Reader.{answer};
+ghost use Rattle.design.specs.Process.{Process};
+ghost use Rattle.language.specs.Elaboration.{elaborate};
+ghost use Rattle.language.specs.Verdict.{verdict, accepted as acceptedAs};
+ghost use Rattle.cursor.specs.Tokens.{Holds};
+ghost use Rattle.syntax.specs.Arrays.{TokensIn};
+ghost use Rattle.scope.specs.Resolves.{WordsIn};
+ghost use Rattle.labels.specs.Header.{headerOf, isAccepted};
+ghost use Rattle.labels.specs.Lines.{lineOf, Headed, Shows};
+ghost use Rattle.labels.specs.Positions.{headerAt};
+
+mod bytes;
+mod names;
+
+use frontend::Front;
+use lexer::Lexed;
+use parser::Parsing;
+
+// Bytes and how many of them count; those behind are 0.
+pub struct Line {
+    pub bytes: [u8; 560],
+    pub size: usize,
+}
+
+// No bytes.
+fn blank() -> Line
+    ensures { λ r. ⌜ r ≡ lineOf [] ⌝ }
+{
+    let bytes = [0u8; 560];
+    Line { bytes, size: 0 }
+}
+
+// Whether the text is accepted; the arrays of its design are of no use here.
+fn accepted(text: &[u8]) -> bool
+    ensures { λ r. ⌜ r ≡ isAccepted (verdict (now (text .entry))) ⌝ }
+{
+    let mut ops = [0u8; 16384];
+    let mut args = [0i32; 16384];
+    let mut lines = [0u16; 3072];
+    let mut is = [0u8; 32];
+    let mut os = [0u8; 32];
+    let mut vs = [0u8; 32];
+    let mut at_outputs = [0i32; 32];
+    let mut at_variables = [0i32; 32];
+    let front = frontend::accept(
+        text,
+        &mut ops,
+        &mut args,
+        &mut lines,
+        &mut is,
+        &mut os,
+        &mut vs,
+        &mut at_outputs,
+        &mut at_variables,
+    );
+    match front {
+        Front::Accepted(_) => true,
+        Front::Refused(_) => false,
+    }
+}
+
+// The header of the d declared names of a text of n tokens.
+fn declared_line(
+    text: &[u8],
+    starts: &[u16; 16384],
+    sizes: &[u16; 16384],
+    n: usize,
+    decls: &[u16; 390],
+    d: usize,
+) -> Line
+    ensures { λ r. ⌜ Shows (r .bytes) (r .size) (headerAt (now (text .entry)) (now (starts .entry)) (now (sizes .entry)) n (now (decls .entry)) d) ⌝ }
+{
+    let mut bytes = [0u8; 560];
+    let first = bytes::put_folded(b"cycle wait lines", &mut bytes, 0);
+    let next = names::put_outputs(text, starts, sizes, n, decls, d, &mut bytes, first);
+    let size = bytes::put(&mut bytes, next, b'\n');
+    Line { bytes, size }
+}
+
+// The header of a text of n tokens that parses.
+fn parsed_line(
+    text: &[u8],
+    kinds: &[u8; 16384],
+    starts: &[u16; 16384],
+    sizes: &[u16; 16384],
+    n: usize,
+    long: &[u8; 16384],
+) -> Line
+    ensures { λ r. ⌜ ((ts : List Token) (t : Text) → TokensIn ts (now (kinds .entry)) (now (starts .entry)) n → WordsIn (now (text .entry)) ts (now (sizes .entry)) n
+        → Holds ts (now (kinds .entry)) (now (long .entry)) n → answer ts ≡ Grammar.accepted t → Shows (r .bytes) (r .size) (headerOf (elaborate t))) ⌝ }
+{
+    let mut codes = [0u8; 16384];
+    let mut indices = [0u16; 16384];
+    let mut rows = [0u16; 3072];
+    let mut decls = [0u16; 390];
+    let parsing = parser::parse(
+        kinds,
+        long,
+        n,
+        &mut codes,
+        &mut indices,
+        &mut rows,
+        &mut decls,
+    );
+    match parsing {
+        Parsing::Tree(p) => declared_line(text, starts, sizes, n, &decls, p.names),
+        Parsing::NotParsed(_, _) => blank(),
+    }
+}
+
+// The header of a text that is accepted.
+fn accepted_line(text: &[u8]) -> Line
+    ensures { λ r. ⌜ ((p : Process) → verdict (now (text .entry)) ≡ acceptedAs p → Shows (r .bytes) (r .size) (headerOf p)) ⌝ }
+{
+    let mut kinds = [0u8; 16384];
+    let mut starts = [0u16; 16384];
+    let mut sizes = [0u16; 16384];
+    let lexed = lexer::lex(text, &mut kinds, &mut starts, &mut sizes);
+    match lexed {
+        Lexed::Tokens(n) => {
+            let mut long = [0u8; 16384];
+            limits::mark(text, &kinds, &starts, &sizes, n, &mut long);
+            parsed_line(text, &kinds, &starts, &sizes, n, &long)
+        }
+        Lexed::NotLexed(_) => blank(),
+    }
+}
+
+// The header of an accepted text; of a refused one no bytes.
+pub fn header(text: &[u8]) -> Line
+    ensures { λ r. ⌜ Headed (now (text .entry)) r ⌝ }
+{
+    if accepted(text) {
+        return accepted_line(text);
+    }
+    blank()
+}

@@ -1,0 +1,79 @@
+// The output names of a text, from the arrays of its tokens and its declared names.
+ghost use mathlib.Core.Path.{_≡_};
+ghost use Prim.Native.Nat.{min};
+ghost use Rattle.scope.specs.Positions.{foldedAt};
+ghost use Rattle.labels.specs.Lines.{Puts};
+ghost use Rattle.labels.specs.Positions.{nameIn, labelAt, labelsFrom};
+use crate::bytes;
+
+// The index of the token of a declared name.
+fn name_at(decls: &[u16; 390], k: usize) -> usize
+    ensures { λ r. ⌜ r ≡ nameIn (now (decls .entry)) k ⌝ }
+{
+    if k < 65 {
+        return offences::wide(decls[6 * k]);
+    }
+    0
+}
+
+// The bytes of the token at an index.
+fn put_token(
+    text: &[u8],
+    starts: &[u16; 16384],
+    sizes: &[u16; 16384],
+    n: usize,
+    i: usize,
+    out: &mut [u8; 560],
+    m: usize,
+) -> usize
+    ensures { λ r. ⌜ Puts (now (out .entry)) m (foldedAt (now (text .entry)) (now (starts .entry)) (now (sizes .entry)) n i) (now (out .exit)) r ⌝ }
+{
+    let start = offences::wide(syntax::place_at(starts, n, i));
+    let size = offences::wide(syntax::place_at(sizes, n, i));
+    let word = lexer::parts::part_of(text, start, size);
+    bytes::put_folded(word, out, m)
+}
+
+// A space and the name, if the declared name is an output.
+fn put_output(
+    text: &[u8],
+    starts: &[u16; 16384],
+    sizes: &[u16; 16384],
+    n: usize,
+    decls: &[u16; 390],
+    d: usize,
+    k: usize,
+    out: &mut [u8; 560],
+    m: usize,
+) -> usize
+    ensures { λ r. ⌜ Puts (now (out .entry)) m (labelAt (now (text .entry)) (now (starts .entry)) (now (sizes .entry)) n (now (decls .entry)) d k) (now (out .exit)) r ⌝ }
+{
+    if offences::mode_at(decls, d, k) != 1 {
+        return m;
+    }
+    let next = bytes::put(out, m, b' ');
+    put_token(text, starts, sizes, n, name_at(decls, k), out, next)
+}
+
+// All outputs, in declared order.
+pub(crate) fn put_outputs(
+    text: &[u8],
+    starts: &[u16; 16384],
+    sizes: &[u16; 16384],
+    n: usize,
+    decls: &[u16; 390],
+    d: usize,
+    out: &mut [u8; 560],
+    m: usize,
+) -> usize
+    ensures { λ r. ⌜ Puts (now (out .entry)) m (labelsFrom (labelAt (now (text .entry)) (now (starts .entry)) (now (sizes .entry)) n (now (decls .entry)) d) 0 (min d 65)) (now (out .exit)) r ⌝ }
+{
+    let end = offences::at_most(d, 65);
+    let mut next = m;
+    let mut k = 0;
+    while k < end {
+        next = put_output(text, starts, sizes, n, decls, d, k, out, next);
+        k += 1;
+    }
+    next
+}
