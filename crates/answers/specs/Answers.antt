@@ -1,5 +1,7 @@
 -- Document 01's number, place and values for each case of an answer. Assumes nothing.
+use mathlib.Core.Bool.{cond}
 use Prim.Native.Nat.{ℕ}
+use lib.Dec.{eqb}
 use Rattle.answers.specs.declared.Refusal.{Refusal}
 use Rattle.answers.specs.declared.Refusal.the-variants.{TextTooLong, NoToken, NoSentence, LimitPassed, WrongName, WrongType, NoValue, WrongClock, WrongClass, BufferTooShort, BadSections, BadSignature, BadLine, BadRow, BadState, OutOfRange}
 use Rattle.answers.specs.declared.Compiled.{Compiled}
@@ -44,6 +46,14 @@ placeOf (BadLine p) = p
 placeOf (BadRow p) = p
 placeOf BadState = 0
 placeOf (OutOfRange p) = p
+
+-- the row of the table with that number of 1 to 16, at that place; 16 for any other number
+abbrev pub refusalOf : ℕ → ℕ → Refusal
+refusalOf n p =
+    cond (eqb n 1) TextTooLong (cond (eqb n 2) (NoToken p) (cond (eqb n 3) (NoSentence p) (cond (eqb n 4) (LimitPassed p)
+    (cond (eqb n 5) (WrongName p) (cond (eqb n 6) (WrongType p) (cond (eqb n 7) (NoValue p) (cond (eqb n 8) (WrongClock p)
+    (cond (eqb n 9) (WrongClass p) (cond (eqb n 10) (BufferTooShort p) (cond (eqb n 11) BadSections (cond (eqb n 12) BadSignature
+    (cond (eqb n 13) (BadLine p) (cond (eqb n 14) (BadRow p) (cond (eqb n 15) BadState (OutOfRange p)))))))))))))))
 
 -- how many bytes a compile wrote; a refused one writes none
 abbrev pub bytesOf : Compiled → ℕ

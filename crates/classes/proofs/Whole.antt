@@ -11,11 +11,13 @@ use Rattle.language.specs.Lists.{unless, each, lowest}
 use Rattle.language.specs.Declarations.{statements}
 use Rattle.language.specs.Classes.{classes, isC, loopsOf, orWhole, loops}
 use Rattle.statements.specs.Entries.{bodyEntries}
-use Rattle.syntax.specs.Lowest.{number, lowestOf}
+use Rattle.syntax.specs.declared.Finding.{Finding}
+use Rattle.syntax.specs.Lowest.{number, lowestOf, findingFrom}
+use Rattle.syntax.proofs.Lowest.{finding-lowest}
 use Rattle.syntax.specs.Arrays.{TokensIn, RowsIn, numberIn}
 use Rattle.classes.specs.declared.Summary.{Summary}
 use Rattle.classes.specs.Codes.{classCode}
-use Rattle.classes.specs.Judged.{BlockFound, Judged}
+use Rattle.classes.specs.Judged.{BlockFound, Judged, Finds}
 use Rattle.classes.proofs.Codes.{whole-is}
 use Rattle.classes.proofs.Rows.{rows-of, place-is}
 use Rattle.classes.proofs.Found.{body-found}
@@ -52,3 +54,7 @@ module _ {rows places : List ℕ} {n s to : ℕ} {f : Summary} (top : to ≡ max
         o ∙ (rw (k, q, w .0, whole-is (classes (t .body)), place-is h process, p)
         (sym (whole-none (each loopsOf (statements (t .body))) (isC (classes (t .body))) (t .process .place) (sym (w .1) ∙ z))));
   }
+
+-- the number, told as the stage's answer
+pub finds : {rows places : List ℕ} {n s process a : ℕ} {r : Finding} → Judged rows places n s process a → r ≡ findingFrom a → Finds rows places n s process r
+finds j e = record { is = λ ts kinds t T R q. finding-lowest (loops t) e (j .is ts kinds t T R q) }

@@ -7,7 +7,8 @@ use Rattle.grammar.specs.Tree.{Stmt, Text}
 use Rattle.language.specs.Classes.{loops}
 use Rattle.cursor.specs.Tokens.{tokenAt}
 use Rattle.statements.specs.Entries.{stmtEntries, bodyEntries}
-use Rattle.syntax.specs.Lowest.{lowestOf}
+use Rattle.syntax.specs.declared.Finding.{Finding}
+use Rattle.syntax.specs.Lowest.{lowestOf, findingOf}
 use Rattle.syntax.specs.Arrays.{TokensIn, RowsIn}
 use Rattle.classes.specs.declared.Summary.{Summary}
 use Rattle.classes.specs.Lists.{listEntries, ofStatement, ofList}
@@ -24,3 +25,7 @@ pub record BlockFound (rows places : List ℕ) (n from to : ℕ) (r : Summary) :
 -- "while with a classed body that is not C; if none, process body not C": the lowest place for every text that the arrays hold
 pub record Judged (rows places : List ℕ) (n s process r : ℕ) : Type 0 where
   pub is : (ts : List Token) (kinds : List ℕ) (t : Text) → TokensIn ts kinds places n → RowsIn ts (bodyEntries (t .body)) rows s → tokenAt ts process ≡ t .process → r ≡ lowestOf (loops t)
+
+-- the same as the stage's answer
+pub record Finds (rows places : List ℕ) (n s process : ℕ) (r : Finding) : Type 0 where
+  pub is : (ts : List Token) (kinds : List ℕ) (t : Text) → TokensIn ts kinds places n → RowsIn ts (bodyEntries (t .body)) rows s → tokenAt ts process ≡ t .process → r ≡ findingOf (loops t)

@@ -4,7 +4,9 @@ ghost use mathlib.Core.Path.{_≡_};
 ghost use Prim.Native.Nat.{_+_, _<_, _≤_, min, max};
 ghost use Rattle.classes.specs.Codes.{sequenceCode, ifCode, whileCode, bodyAllowed};
 ghost use Rattle.classes.specs.Held.{numberOf};
-ghost use Rattle.classes.specs.Judged.{StatementFound, BlockFound, Judged};
+ghost use Rattle.classes.specs.Judged.{StatementFound, BlockFound, Judged, Finds};
+use syntax::Finding;
+use syntax::found;
 use syntax::lower;
 use syntax::offence;
 use syntax::place_at;
@@ -179,7 +181,13 @@ fn block(rows: &[u16; 3072], places: &[u16; 16384], n: usize, from: usize, to: u
 }
 
 // Refusal 9 of a text of s statements: the lowest offence (0 for none, else the place plus 1); process is the index of the token `process`.
-pub fn judge(rows: &[u16; 3072], places: &[u16; 16384], n: usize, s: usize, process: usize) -> usize
+fn lowest_place(
+    rows: &[u16; 3072],
+    places: &[u16; 16384],
+    n: usize,
+    s: usize,
+    process: usize,
+) -> usize
     ensures { λ r. ⌜ Judged (now (rows .entry)) (now (places .entry)) n s process r ⌝ }
 {
     let body = block(rows, places, n, 0, clamp(s, 0, 512));
@@ -187,4 +195,17 @@ pub fn judge(rows: &[u16; 3072], places: &[u16; 16384], n: usize, s: usize, proc
         return body.lowest;
     }
     offence(body.class == 3, place_at(places, n, process))
+}
+
+// The lowest offence of refusal 9 of a text of s statements.
+pub fn judge(
+    rows: &[u16; 3072],
+    places: &[u16; 16384],
+    n: usize,
+    s: usize,
+    process: usize,
+) -> Finding
+    ensures { λ r. ⌜ Finds (now (rows .entry)) (now (places .entry)) n s process r ⌝ }
+{
+    found(lowest_place(rows, places, n, s, process))
 }

@@ -9,7 +9,8 @@ use Rattle.language.specs.Declarations.{Decl, declared, clockOf}
 use Rattle.language.specs.Elaboration.{position}
 use Rattle.language.specs.Names.{names}
 use Rattle.language.specs.Clock.{clock}
-use Rattle.syntax.specs.Lowest.{lowestOf}
+use Rattle.syntax.specs.declared.Finding.{Finding}
+use Rattle.syntax.specs.Lowest.{lowestOf, findingOf, findingFrom}
 use Rattle.offences.specs.Laid.{Laid}
 use Rattle.clock.specs.Positions.{ownerIn, judgeIn}
 
@@ -17,6 +18,11 @@ use Rattle.clock.specs.Positions.{ownerIn, judgeIn}
 pub record Judges (rows : List ℕ) (s : ℕ) (codes indices : List ℕ) (k : ℕ) (places owners : List ℕ) (n : ℕ) (decls : List ℕ) (d r : ℕ) : Type 0 where
   pub answer : r ≡ judgeIn rows s codes indices k places owners n decls d
   pub lowest : (ts : List Token) (t : Text) (kinds : List ℕ) → Laid ts t kinds places n codes indices k rows s decls d owners → names t ≡ [] → r ≡ lowestOf (clock t)
+
+-- the stage's answer, by position; and for such a tree the lowest offence of refusal 8
+pub record Finds (rows : List ℕ) (s : ℕ) (codes indices : List ℕ) (k : ℕ) (places owners : List ℕ) (n : ℕ) (decls : List ℕ) (d : ℕ) (r : Finding) : Type 0 where
+  pub answer : r ≡ findingFrom (judgeIn rows s codes indices k places owners n decls d)
+  pub lowest : (ts : List Token) (t : Text) (kinds : List ℕ) → Laid ts t kinds places n codes indices k rows s decls d owners → names t ≡ [] → r ≡ findingOf (clock t)
 
 -- the number of the declaration of the clock's name; 65 without a wait
 unfoldable pub ownerOf : List Decl → Option Token → ℕ

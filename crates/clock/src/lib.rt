@@ -1,9 +1,10 @@
 // Refusal 8: "the first wait's name is no std_logic input, another wait differs, clock (if that input exists) read".
-// The answer is 0, or the lowest place plus 1.
+// Inner functions answer 0, or the lowest place plus 1.
 ghost use mathlib.Core.Path.{_≡_};
 ghost use Prim.Native.Nat.{_<_};
 ghost use Rattle.clock.specs.Positions.{waitIn, strayAt, readAt, isClockIn, straysIn, readsIn};
-ghost use Rattle.clock.specs.Judges.{Judges, Owns};
+ghost use Rattle.clock.specs.Judges.{Judges, Finds, Owns};
+use syntax::Finding;
 
 // The index of the first wait's name, or 16384.
 fn first_wait(rows: &[u16; 3072], s: usize) -> usize
@@ -126,7 +127,7 @@ pub fn clock_owner(rows: &[u16; 3072], s: usize, owners: &[u8; 16384], n: usize)
 }
 
 // The lowest place of refusal 8 plus 1, or 0.
-pub fn judge(
+fn lowest_place(
     rows: &[u16; 3072],
     s: usize,
     codes: &[u8; 16384],
@@ -151,4 +152,22 @@ pub fn judge(
     }
     let first = syntax::offence(false, syntax::place_at(places, n, w));
     syntax::lower(first, stray)
+}
+
+// The lowest offence of refusal 8.
+pub fn judge(
+    rows: &[u16; 3072],
+    s: usize,
+    codes: &[u8; 16384],
+    indices: &[u16; 16384],
+    k: usize,
+    places: &[u16; 16384],
+    owners: &[u8; 16384],
+    n: usize,
+    decls: &[u16; 390],
+    d: usize,
+) -> Finding
+    ensures { λ r. ⌜ Finds (now (rows .entry)) s (now (codes .entry)) (now (indices .entry)) k (now (places .entry)) (now (owners .entry)) n (now (decls .entry)) d r ⌝ }
+{
+    syntax::found(lowest_place(rows, s, codes, indices, k, places, owners, n, decls, d))
 }

@@ -1,3 +1,4 @@
 pub mod Types
 pub mod Classes
 pub mod Order
+pub mod Postfix

@@ -2,83 +2,22 @@
 use Prim.Native.Nat.{ℕ, _+_, _-_, _≤_, _<_}
 use mathlib.Core.Path.{_≡_, refl, sym, ap, _∙_}
 use mathlib.Core.Bool.{true, false}
-use mathlib.Core.List.{List, [], _∷_, _++_, append-assoc}
+use mathlib.Core.List.{List, [], _∷_, _++_}
 use native.Mathlib.Omega.{arith}
 use borrow.Author.Tests.{lt-ltb}
-use lib.ListN.{length, length-append}
+use lib.ListN.{length}
 use lib.IntN.{ℤ, pos}
 use Rattle.design.specs.Types.{ExprTy, boolean}
-use Rattle.design.specs.Expression.{Leaf, int, bit, input, variable, Unary, sign, invert, Binary, plus, minus, equal, unequal, less, at-most, greater, at-least, and, or, xor, Expr, leaf, unary, binary, items, Out, fine, fault, bind, Algebra, fold}
+use Rattle.design.specs.Expression.{Leaf, int, bit, input, variable, Unary, sign, invert, Binary, plus, minus, equal, unequal, less, at-most, greater, at-least, and, or, xor, Expr, items, Out, fine, fault, bind}
+use Rattle.design.proofs.Postfix.{stack-law}
 use Rattle.semantics.specs.Evaluation.{applyUnary, applyBinary, leafValue, values, evaluate}
 use Rattle.signed.specs.Signed.{checkedOf}
 use Rattle.signed.specs.declared.Checked.{Checked}
 use Rattle.ir.specs.Operations.{Op, op, leafOp, unaryCode, binaryCode, ops}
 use Rattle.ir.specs.Arrays.{opsFrom}
+use Rattle.ir.proofs.Laid.{unaryOp, binaryOp, ops-laid}
 use Rattle.direct.specs.Machine.{pushed, stepOf, runOps, topOf, valueIn}
 use Rattle.direct.proofs.OperatorLaws.{unary-any, binary-any}
-
--- as many operations as items, and at least one
-pub ops-items : (e : Expr) → length (ops e) ≡ items e
-unfolding ops items
-ops-items (leaf l) = refl
-ops-items (unary o t a) = length-append (ops a) (op (unaryCode o) (pos 0) ∷ []) ∙ (let h = ops-items a in omega arith)
-ops-items (binary o t a b) =
-    length-append (ops a) (ops b ++ (op (binaryCode o) (pos 0) ∷ []))
-    ∙ (let h = ops-items a in let g = ops-items b in let f = length-append (ops b) (op (binaryCode o) (pos 0) ∷ []) in omega arith)
-
-items-some : (e : Expr) → 1 ≤ items e
-unfolding items
-items-some (leaf l) = omega arith
-items-some (unary o t a) = omega arith
-items-some (binary o t a b) = omega arith
-
--- THE STACK MACHINE IS THE FOLD, over any algebra: `step` pushes what the algebra makes of a leaf and applies its operators
-module _ {X : Type 0} (A : Algebra X) (room : ℕ) (step : Op → List X → Out (List X))
-    (of-leaf : (l : Leaf) (st : List X) → length st < room → step (leafOp l) st ≡ bind (A .ofLeaf l) (λ x. fine (x ∷ st)))
-    (of-unary : (o : Unary) (t : ExprTy) (x : X) (st : List X) → step (op (unaryCode o) (pos 0)) (x ∷ st) ≡ bind (A .ofUnary o t x) (λ z. fine (z ∷ st)))
-    (of-binary : (o : Binary) (t : ExprTy) (x y : X) (st : List X) → step (op (binaryCode o) (pos 0)) (y ∷ x ∷ st) ≡ bind (A .ofBinary o t x y) (λ z. fine (z ∷ st))) where
-  -- an operation that pushes an outcome, then the rest
-  run-pushed : (o : Op) (os : List Op) (st st′ : List X) (r : Out X) → step o st ≡ bind r (λ z. fine (z ∷ st′)) → runOps step (o ∷ os) st ≡ bind r (λ z. runOps step os (z ∷ st′))
-  unfolding runOps bind
-  run-pushed o os st st′ (fine x) e = rw e
-  run-pushed o os st st′ (fault q) e = rw e
-
-  run-unary : (o : Unary) (t : ExprTy) (os : List Op) (st : List X) (r : Out X)
-      → bind r (λ x. runOps step (op (unaryCode o) (pos 0) ∷ os) (x ∷ st)) ≡ bind (bind r (λ x. A .ofUnary o t x)) (λ z. runOps step os (z ∷ st))
-  unfolding bind
-  run-unary o t os st (fine x) = run-pushed (op (unaryCode o) (pos 0)) os (x ∷ st) st (A .ofUnary o t x) (of-unary o t x st)
-  run-unary o t os st (fault q) = refl
-
-  run-binary : (o : Binary) (t : ExprTy) (os : List Op) (st : List X) (r q : Out X)
-      → bind r (λ x. bind q (λ y. runOps step (op (binaryCode o) (pos 0) ∷ os) (y ∷ x ∷ st)))
-      ≡ bind (bind r (λ x. bind q (λ y. A .ofBinary o t x y))) (λ z. runOps step os (z ∷ st))
-  unfolding bind
-  run-binary o t os st (fine x) (fine y) = run-pushed (op (binaryCode o) (pos 0)) os (y ∷ x ∷ st) st (A .ofBinary o t x y) (of-binary o t x y st)
-  run-binary o t os st (fine x) (fault q) = refl
-  run-binary o t os st (fault q) q′ = refl
-
-  -- the operations of an expression, then others, on a stack that has room for them
-  pub exec-fold : (e : Expr) (os : List Op) (st : List X) → length st + items e ≤ room → runOps step (ops e ++ os) st ≡ bind (fold A e) (λ z. runOps step os (z ∷ st))
-  unfolding ops items fold bind
-  exec-fold (leaf l) os st h = run-pushed (leafOp l) os st st (A .ofLeaf l) (of-leaf l st (omega arith))
-  exec-fold (unary o t a) os st h =
-      ap (λ (l : List Op). runOps step l st) (append-assoc (ops a) (op (unaryCode o) (pos 0) ∷ []) os)
-      ∙ (exec-fold a (op (unaryCode o) (pos 0) ∷ os) st (omega arith)
-      ∙ run-unary o t os st (fold A a))
-  exec-fold (binary o t a b) os st h =
-      let n = items-some a in
-      ap (λ (l : List Op). runOps step l st)
-      (append-assoc (ops a) (ops b ++ (op (binaryCode o) (pos 0) ∷ [])) os
-      ∙ ap (λ (l : List Op). ops a ++ l) (append-assoc (ops b) (op (binaryCode o) (pos 0) ∷ []) os))
-      ∙ (exec-fold a (ops b ++ (op (binaryCode o) (pos 0) ∷ os)) st (omega arith)
-      ∙ (second (λ x. exec-fold b (op (binaryCode o) (pos 0) ∷ os) (x ∷ st) (omega arith)) (fold A a)
-      ∙ run-binary o t os st (fold A a) (fold A b)))
-    where
-      second : ((x : X) → runOps step (ops b ++ (op (binaryCode o) (pos 0) ∷ os)) (x ∷ st) ≡ bind (fold A b) (λ y. runOps step (op (binaryCode o) (pos 0) ∷ os) (y ∷ x ∷ st)))
-          → (r : Out X) → bind r (λ z. runOps step (ops b ++ (op (binaryCode o) (pos 0) ∷ os)) (z ∷ st))
-          ≡ bind r (λ x. bind (fold A b) (λ y. runOps step (op (binaryCode o) (pos 0) ∷ os) (y ∷ x ∷ st)))
-      second f (fine x) = f x
-      second f (fault q) = refl
 
 -- NUMBERS
 
@@ -120,10 +59,23 @@ module _ (i v : List ℤ) where
   step-binary : (o : Binary) (t : ExprTy) (x y : ℤ) (st : List ℤ) → stepOf i v (op (binaryCode o) (pos 0)) (y ∷ x ∷ st) ≡ bind (applyBinary o t x y) (λ z. fine (z ∷ st))
   step-binary o t x y st = by-code o x y st ∙ (ap (λ (r : Out ℤ). pushed r st) (binary-any o t x y) ∙ pushed-is (applyBinary o t x y) st)
 
+  -- an operation that pushes an outcome, then the others
+  run-pushed : (o : Op) (os : List Op) (st st′ : List ℤ) (r : Out ℤ) → stepOf i v o st ≡ bind r (λ z. fine (z ∷ st′))
+      → runOps (stepOf i v) (o ∷ os) st ≡ bind r (λ z. runOps (stepOf i v) os (z ∷ st′))
+  unfolding runOps bind
+  run-pushed o os st st′ (fine x) e = rw e
+  run-pushed o os st st′ (fault q) e = rw e
+
+  -- the operations of an expression, then others, on a stack that has room for them: the law of postfix items
   pub run-expr : (e : Expr) (os : List Op) (st : List ℤ) → length st + items e ≤ 64
       → runOps (stepOf i v) (ops e ++ os) st ≡ bind (evaluate e i v) (λ z. runOps (stepOf i v) os (z ∷ st))
   unfolding evaluate
-  run-expr e os st h = exec-fold (values i v) 64 (stepOf i v) step-leaf step-unary step-binary e os st h
+  run-expr e os st h =
+      stack-law (values i v) leafOp unaryOp binaryOp ops ops-laid 64 (runOps (stepOf i v))
+      (λ l k s f. run-pushed (leafOp l) k s s (values i v .ofLeaf l) (step-leaf l s f))
+      (λ o t k x s. run-pushed (unaryOp o) k (x ∷ s) s (applyUnary o t x) (step-unary o t x s))
+      (λ o t k x y s. run-pushed (binaryOp o) k (y ∷ x ∷ s) s (applyBinary o t x y) (step-binary o t x y s))
+      e os st h
 
   one : (r : Out ℤ) → bind (bind r (λ z. runOps (stepOf i v) [] (z ∷ []))) topOf ≡ r
   unfolding bind runOps

@@ -1,6 +1,6 @@
 -- The items of an accepted tree: names that are not the clock's, numbers within the limit. Assumes nothing.
-use mathlib.Core.Path.{_≡_, refl, sym, _∙_, subst}
-use mathlib.Core.Bool.{Bool, true, false, not}
+use mathlib.Core.Path.{_≡_, refl, sym, _∙_}
+use mathlib.Core.Bool.{false, not}
 use mathlib.Core.Option.{Option, none, some}
 use mathlib.Core.List.{List, [], _∷_, _++_}
 use Prim.Native.Nat.{ℕ, _+_, _≤_}
@@ -10,12 +10,13 @@ use Rattle.grammar.specs.Token.{Token}
 use Rattle.grammar.specs.Tree as T
 use Rattle.grammar.specs.Tree.{Body}
 use Rattle.grammar.specs.Limits.{Each, exprNumbers, exprsNumbers, stmtExprs, bodyExprs}
-use Rattle.language.specs.Lists.{each, unless}
+use Rattle.language.specs.Lists.{each}
 use Rattle.language.specs.Declarations.{within, statements, isClock}
 use Rattle.language.specs.Clock.{readsIn, readsOf}
 use Rattle.language.proofs.Facts.{both-nil, each-nil, unless-nil, not-true}
 use Rattle.language.proofs.WellTyped.{each-split, each-join}
-use Rattle.expressions.specs.Postfix.{Item, itemOf, binaryItem, postfix}
+use Rattle.expressions.specs.Postfix.{Item, itemOf, postfix}
+use Rattle.expressions.proofs.Folds.{Steps, postfix-whole}
 use Rattle.statements.specs.Entries.{Entry, stmtEntries, bodyEntries, entryItems}
 use Rattle.statements.proofs.Lines.{entry-items-append}
 use Rattle.syntax.specs.Kinded.{KindedExpr, KindedStmt, KindedBody}
@@ -91,22 +92,34 @@ module _ (c : Option Token) where
         bit = λ e. absurd (omega arith);
       }
 
+  number-fine : (x : Token) → KindedExpr (T.number x) → x .value ≤ 2147483647 → Fine c (itemOf 2 x)
+  number-fine x k s = record { name = λ e. absurd (omega arith); unclocked = λ e. absurd (omega arith); number = λ e. k; small = λ e. s; bit = λ e. absurd (omega arith) }
+
+  bit-fine : (x : Token) → KindedExpr (T.bit x) → Fine c (itemOf 3 x)
+  bit-fine x k = record { name = λ e. absurd (omega arith); unclocked = λ e. absurd (omega arith); number = λ e. absurd (omega arith); small = λ e. absurd (omega arith); bit = λ e. k }
+
+  name-fine : (x : Token) → KindedExpr (T.name x) → Unread c (T.name x) → Fine c (itemOf 1 x)
+  name-fine x k u =
+      record { name = λ e. k; unclocked = λ e. unread-name c x u; number = λ e. absurd (omega arith); small = λ e. absurd (omega arith); bit = λ e. absurd (omega arith) }
+
+  fine-steps : Steps (λ (e : T.Expr) (w : Unit {0}). KindedExpr e × Unread c e × Small (exprNumbers e)) (λ (e : T.Expr) (w : Unit {0}). w) (λ (k : List Item) (w : Unit {0}). Each (Fine c) k)
+  unfolding exprNumbers
+  fine-steps =
+      record {
+        number = λ x w k f h. (number-fine x (f .0) (f .2 .0), h);
+        bit = λ x w k f h. (bit-fine x (f .0), h);
+        name = λ x w k f h. (name-fine x (f .0) (f .1), h);
+        sign = λ x a w k f. ((f .0 .1, unread-sign c x a (f .1), f .2), λ h. (operator-fine 4 x (omega arith), h));
+        negate = λ x a w k f. ((f .0 .1, unread-not c x a (f .1), f .2), λ h. (operator-fine 5 x (omega arith), h));
+        binary = λ x a b w k f.
+            let v = unread-two c x a b (f .1) in
+            let q = each-split (λ (x : Token). x .value ≤ 2147483647) (exprNumbers a) (exprNumbers b) (f .2) in
+            ((f .0 .1, v .0, q .0), (f .0 .2, v .1, q .1), λ h. (operator-fine (x .kind + 7) x (omega arith), h));
+        parens = λ a w k f. ((f .0, unread-parens c a (f .1), f .2), λ h. h);
+      }
+
   expr-fine : (e : T.Expr) → KindedExpr e → Unread c e → Small (exprNumbers e) → Each (Fine c) (postfix e)
-  unfolding postfix exprNumbers
-  expr-fine (T.number x) k u s =
-      (record { name = λ e. absurd (omega arith); unclocked = λ e. absurd (omega arith); number = λ e. k; small = λ e. s .0; bit = λ e. absurd (omega arith) }, tt)
-  expr-fine (T.bit x) k u s =
-      (record { name = λ e. absurd (omega arith); unclocked = λ e. absurd (omega arith); number = λ e. absurd (omega arith); small = λ e. absurd (omega arith); bit = λ e. k }, tt)
-  expr-fine (T.name x) k u s =
-      (record { name = λ e. k; unclocked = λ e. unread-name c x u; number = λ e. absurd (omega arith); small = λ e. absurd (omega arith); bit = λ e. absurd (omega arith) }, tt)
-  expr-fine (T.sign x a) k u s = each-join (Fine c) (postfix a) (itemOf 4 x ∷ []) (expr-fine a (k .1) (unread-sign c x a u) s) (operator-fine 4 x (omega arith), tt)
-  expr-fine (T.negate x a) k u s = each-join (Fine c) (postfix a) (itemOf 5 x ∷ []) (expr-fine a (k .1) (unread-not c x a u) s) (operator-fine 5 x (omega arith), tt)
-  expr-fine (T.binary x a b) k u s =
-      let v = unread-two c x a b u in
-      let q = each-split (λ (x : Token). x .value ≤ 2147483647) (exprNumbers a) (exprNumbers b) s in
-      each-join (Fine c) (postfix a) (postfix b ++ (binaryItem x ∷ [])) (expr-fine a (k .1) (v .0) (q .0))
-      (each-join (Fine c) (postfix b) (binaryItem x ∷ []) (expr-fine b (k .2) (v .1) (q .1)) (operator-fine (x .kind + 7) x (omega arith), tt))
-  expr-fine (T.parens a) k u s = expr-fine a k (unread-parens c a u) s
+  expr-fine e k u s = postfix-whole fine-steps e tt (k, u, s) tt
 
   items-two : (a b : List Entry) → Each (Fine c) (entryItems a) → Each (Fine c) (entryItems b) → Each (Fine c) (entryItems (a ++ b))
   items-two a b h k = rw (entry-items-append a b) (each-join (Fine c) (entryItems a) (entryItems b) h k)

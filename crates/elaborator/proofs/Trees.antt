@@ -1,30 +1,28 @@
 -- The items and entries of a tree become those of its design. Assumes nothing.
 use mathlib.Core.Path.{_≡_, refl, sym, _∙_, ap}
-use mathlib.Core.Bool.{Bool, true, false, cond}
+use mathlib.Core.Bool.{false}
 use mathlib.Core.Option.{Option, none, some}
-use mathlib.Core.List.{List, [], _∷_, _++_, map, map-append}
+use mathlib.Core.List.{List, [], _∷_, _++_, map, map-append, append-assoc, append-nil}
 use Prim.Native.Nat.{ℕ, zero, suc, _+_, _-_, _≤_, _<_}
 use native.Mathlib.Omega.{arith}
-use lib.ListN.{length, length-map, length-append}
+use lib.ListN.{length, length-append}
 use lib.Dec.{eqb}
 use lib.IntN.{pos}
 use borrow.Author.Tests.{ne-eqb}
 use Rattle.grammar.specs.Token.{Token, PLUS, XOR}
 use Rattle.grammar.specs.Tree as T
 use Rattle.grammar.specs.Tree.{Body, Mode}
-use Rattle.design.specs.Expression as E
-use Rattle.design.specs.Expression.{Expr, leaf}
-use Rattle.design.specs.Statement as D
+use Rattle.design.specs.Expression.{Expr}
 use Rattle.design.specs.Statement.{Stmt, size}
 use Rattle.language.specs.Declarations.{Decl, Scope, find}
 use Rattle.language.specs.Typing.{operatorOf}
 use Rattle.language.specs.Elaboration.{nameCode, named, orPlus, code, stmt, stmts}
 use Rattle.expressions.specs.Postfix.{Item, itemOf, binaryItem, postfix}
+use Rattle.expressions.proofs.Folds.{Steps, postfix-whole}
 use Rattle.statements.specs.Entries.{stmtEntries, bodyEntries}
 use Rattle.syntax.specs.Kinded.{IsOperator, KindedExpr, KindedStmt, KindedBody}
 use Rattle.ir.specs.Operations.{Op, op, ops, binaryCode}
-use Rattle.ir.specs.Entries.{Entry, entry, entries, Single, single-act, single-wait, single-if, single-else, single-while, Block, only, andThen}
-use Rattle.ir.proofs.Held.{entries-size}
+use Rattle.ir.specs.Entries.{entries, Single, single-act, single-wait, single-if, single-else, single-while, Block, only, andThen}
 use Rattle.elaborator.specs.Elaborated.{modeOp, foundOp, opOf, targetOf, entryOf}
 
 -- the eleven operators, by their kinds
@@ -70,18 +68,36 @@ binary-op Δ Γ x h = let c = operator-code (x .kind) (h .0) (h .1) in
     no : (k : ℕ) → k < x .kind + 7 → eqb (x .kind + 7) k ≡ false
     no k l = ne-eqb (x .kind + 7) k (λ e. omega arith)
 
+-- one operation more behind an operand, and behind two
+behind : (w a : List Op) (o : Op) (k : List Op) → (w ++ a) ++ (o ∷ k) ≡ (w ++ (a ++ (o ∷ []))) ++ k
+behind w a o k = sym (append-assoc (w ++ a) (o ∷ []) k) ∙ ap (λ (l : List Op). l ++ k) (append-assoc w a (o ∷ []))
+
+behind-two : (w a b : List Op) (o : Op) (k : List Op) → ((w ++ a) ++ b) ++ (o ∷ k) ≡ (w ++ (a ++ (b ++ (o ∷ [])))) ++ k
+behind-two w a b o k = behind (w ++ a) b o k ∙ ap (λ (l : List Op). l ++ k) (append-assoc w a (b ++ (o ∷ [])))
+
+-- the operations made so far, those of an expression, and those of the items behind it
+mapped-steps : (Δ : List Decl) (Γ : Scope) (q : List Op)
+    → Steps (λ (e : T.Expr) (w : List Op). KindedExpr e) (λ (e : T.Expr) (w : List Op). w ++ ops (code Δ Γ e)) (λ (k : List Item) (w : List Op). w ++ map (opOf Δ Γ) k ≡ q)
+unfolding ops code opOf
+mapped-steps Δ Γ q =
+    record {
+      number = λ x w k f c. sym (append-assoc w (opOf Δ Γ (itemOf 2 x) ∷ []) (map (opOf Δ Γ) k)) ∙ c;
+      bit = λ x w k f c. sym (append-assoc w (opOf Δ Γ (itemOf 3 x) ∷ []) (map (opOf Δ Γ) k)) ∙ c;
+      name = λ x w k f c.
+          sym (append-assoc w (opOf Δ Γ (itemOf 1 x) ∷ []) (map (opOf Δ Γ) k)) ∙ (ap (λ (l : List Op). (w ++ l) ++ map (opOf Δ Γ) k) (sym (named-op Γ (x .value) (find Δ (x .value)))) ∙ c);
+      sign = λ x a w k f. (f .1, λ c. behind w (ops (code Δ Γ a)) (opOf Δ Γ (itemOf 4 x)) (map (opOf Δ Γ) k) ∙ c);
+      negate = λ x a w k f. (f .1, λ c. behind w (ops (code Δ Γ a)) (opOf Δ Γ (itemOf 5 x)) (map (opOf Δ Γ) k) ∙ c);
+      binary = λ x a b w k f. (
+        f .1,
+        f .2,
+        λ c. behind-two w (ops (code Δ Γ a)) (ops (code Δ Γ b)) (opOf Δ Γ (binaryItem x)) (map (opOf Δ Γ) k)
+            ∙ (ap (λ (o : Op). (w ++ (ops (code Δ Γ a) ++ (ops (code Δ Γ b) ++ (o ∷ [])))) ++ map (opOf Δ Γ) k) (binary-op Δ Γ x (f .0)) ∙ c),
+      );
+      parens = λ a w k f. (f, λ c. c);
+    }
+
 pub ops-mapped : (Δ : List Decl) (Γ : Scope) (e : T.Expr) → KindedExpr e → ops (code Δ Γ e) ≡ map (opOf Δ Γ) (postfix e)
-unfolding ops code postfix opOf
-ops-mapped Δ Γ (T.number x) h = refl
-ops-mapped Δ Γ (T.bit x) h = refl
-ops-mapped Δ Γ (T.name x) h = named-op Γ (x .value) (find Δ (x .value))
-ops-mapped Δ Γ (T.sign x a) h = rw (ops-mapped Δ Γ a (h .1)) (sym (map-append (opOf Δ Γ) (postfix a) (itemOf 4 x ∷ [])))
-ops-mapped Δ Γ (T.negate x a) h = rw (ops-mapped Δ Γ a (h .1)) (sym (map-append (opOf Δ Γ) (postfix a) (itemOf 5 x ∷ [])))
-ops-mapped Δ Γ (T.binary x a b) h =
-    rw (ops-mapped Δ Γ a (h .1), ops-mapped Δ Γ b (h .2), sym (binary-op Δ Γ x (h .0))) (
-    sym (map-append (opOf Δ Γ) (postfix a) (postfix b ++ (binaryItem x ∷ [])) ∙ ap (λ (l : List Op). map (opOf Δ Γ) (postfix a) ++ l) (map-append (opOf Δ Γ) (postfix b) (binaryItem x ∷ [])))
-    )
-ops-mapped Δ Γ (T.parens a) h = ops-mapped Δ Γ a h
+ops-mapped Δ Γ e h = sym (postfix-whole (mapped-steps Δ Γ (ops (code Δ Γ e))) e [] h (append-nil (ops (code Δ Γ e))))
 
 -- STATEMENTS
 

@@ -4,17 +4,18 @@ use native.Mathlib.Omega.{arith}
 use mathlib.Core.Path.{_≡_, refl, sym, ap, _∙_}
 use mathlib.Core.Bool.{Bool, true, false, cond}
 use mathlib.Core.Option.{Option, none, some}
-use mathlib.Core.List.{List, [], _∷_, _++_, append-assoc}
+use mathlib.Core.List.{List, [], _∷_, _++_, append-assoc, append-nil}
 use lib.ListN.{length, getD, set, length-append}
 use lib.Seq.{sets}
 use lib.Dec.{eqb, ltb}
 use lib.IntN.{ℤ, pos}
 use Rattle.design.specs.Types.{Ty, ExprTy}
-use Rattle.design.specs.Expression.{Leaf, int, bit, input, variable, Unary, sign, invert, Binary, plus, minus, equal, unequal, less, at-most, greater, at-least, and, or, xor, Expr, leaf, unary, binary, nth, plainly, leafType, typeOf}
+use Rattle.design.specs.Expression.{Leaf, int, bit, input, variable, Unary, sign, invert, Binary, plus, minus, equal, unequal, less, at-most, greater, at-least, and, or, xor, Expr, leaf, unary, binary, nth, plainly, leafType, unaryType, binaryType, typeOf}
+use Rattle.design.proofs.Postfix.{Steps, lay-whole}
 use Rattle.semantics.specs.Twos.{unsigned32}
 use Rattle.format.specs.Words as Words
 use Rattle.format.specs.Image.{raw, rawBytes}
-use Rattle.format.specs.Code.{push, apply1, apply2, post, operationBytes, code}
+use Rattle.format.specs.Code.{Operation, push, apply1, apply2, post, operationBytes, code}
 use Rattle.design.specs.Process.{fits}
 use Rattle.semantics.proofs.Basic.{none-some}
 use Rattle.format.proofs.Decoding.{given-some, given2-some}
@@ -22,6 +23,7 @@ use Rattle.format.proofs.Lines.{fits-type}
 use Rattle.format.proofs.Encoded.{operation-append}
 use Rattle.ir.specs.Operations.{Op, op, leafOp, unaryCode, binaryCode, ops}
 use Rattle.ir.specs.Arrays.{opsFrom}
+use Rattle.ir.proofs.Laid.{unaryOp, binaryOp, ops-laid}
 use Rattle.encoder.specs.Emitted.{opBytes, opWidth, codeFrom, widthFrom}
 use Rattle.encoder.proofs.Sets.{sets-append}
 
@@ -97,9 +99,6 @@ named-below l k t e = go (nth l k) refl e
     go none q m = unfold plainly in none-some t m
     go (some s) q m = nth-below l k s q
 
-append-both : {a a′ b b′ : List ℕ} → a ≡ a′ → b ≡ b′ → a ++ b ≡ a′ ++ b′
-append-both e g = rw (e, g)
-
 module _ (is vs : List Ty) (hi : length is ≤ 256) (hv : length vs ≤ 256) where
   leaf-flat : (l : Leaf) (t : ExprTy) → leafType is vs l ≡ some t → flatBytes (leafOp l ∷ []) ≡ operationBytes (push l ∷ [])
   unfolding flatBytes opBytes operationBytes leafType
@@ -109,19 +108,36 @@ module _ (is vs : List Ty) (hi : length is ≤ 256) (hv : length vs ≤ 256) whe
   leaf-flat (input k) t e = let b = named-below is k t e in let z : k % 256 ≡ k = omega arith in rw z
   leaf-flat (variable k) t e = let b = named-below vs k t e in let z : k % 256 ≡ k = omega arith in rw z
 
+  -- an operation more behind one operand's bytes, and behind two
+  behind : (w : List ℕ) (a : List Operation) (o : Op) (i : Operation) (k : List Op) → flatBytes (o ∷ []) ≡ operationBytes (i ∷ [])
+      → (w ++ operationBytes a) ++ flatBytes (o ∷ k) ≡ (w ++ operationBytes (a ++ (i ∷ []))) ++ flatBytes k
+  behind w a o i k e =
+      ap (λ (l : List ℕ). (w ++ operationBytes a) ++ l) (flat-append (o ∷ []) k ∙ ap (λ (l : List ℕ). l ++ flatBytes k) e)
+      ∙ (sym (append-assoc (w ++ operationBytes a) (operationBytes (i ∷ [])) (flatBytes k))
+      ∙ ap (λ (l : List ℕ). l ++ flatBytes k) (append-assoc w (operationBytes a) (operationBytes (i ∷ [])) ∙ ap (λ (l : List ℕ). w ++ l) (sym (operation-append a (i ∷ [])))))
+
+  joined : (w : List ℕ) (a b : List Operation) → (w ++ operationBytes a) ++ operationBytes b ≡ w ++ operationBytes (a ++ b)
+  joined w a b = append-assoc w (operationBytes a) (operationBytes b) ∙ ap (λ (l : List ℕ). w ++ l) (sym (operation-append a b))
+
+  -- the bytes so far, the code of an expression, and the bytes of the operations behind it
+  flat-steps : (q : List ℕ)
+      → Steps leafOp unaryOp binaryOp (λ (e : Expr) (w : List ℕ). (t : ExprTy) × (typeOf is vs e ≡ some t)) (λ (e : Expr) (w : List ℕ). w ++ operationBytes (post e)) (λ (k : List Op) (w : List ℕ). w ++ flatBytes k ≡ q)
+  unfolding typeOf post
+  flat-steps q =
+      record {
+        leaf = λ l w k f c.
+            ap (λ (z : List ℕ). w ++ z) (flat-append (leafOp l ∷ []) k ∙ ap (λ (z : List ℕ). z ++ flatBytes k) (leaf-flat l (f .0) (f .1)))
+            ∙ (sym (append-assoc w (operationBytes (push l ∷ [])) (flatBytes k)) ∙ c);
+        unary = λ o s a w k f. ((s, given-some (unaryType o) s (f .0) (typeOf is vs a) (f .1) .0), λ c. behind w (post a) (unaryOp o) (apply1 o) k (unary-flat o) ∙ c);
+        binary = λ o s a b w k f.
+            let p = given2-some (binaryType o) s (f .0) (typeOf is vs a) (typeOf is vs b) (f .1) in
+            ((s, p .0), (s, p .1), λ c. behind (w ++ operationBytes (post a)) (post b) (binaryOp o) (apply2 o) k (binary-flat o) ∙ (ap (λ (l : List ℕ). l ++ flatBytes k) (joined w (post a) (post b ++ (apply2 o ∷ []))) ∙ c));
+      }
+
   -- the bytes of an expression's operations are its code
   ops-flat : (e : Expr) (t : ExprTy) → typeOf is vs e ≡ some t → flatBytes (ops e) ≡ operationBytes (post e)
-  unfolding typeOf post ops
-  ops-flat (leaf l) t h = leaf-flat l t h
-  ops-flat (unary o s a) t h =
-      flat-append (ops a) (op (unaryCode o) (pos 0) ∷ []) ∙ append-both (ops-flat a s (given-some _ s t _ h .0)) (unary-flat o)
-      ∙ sym (operation-append (post a) (apply1 o ∷ []))
-  ops-flat (binary o s a b) t h =
-      let p = given2-some _ s t _ _ h in
-      flat-append (ops a) (ops b ++ (op (binaryCode o) (pos 0) ∷ []))
-      ∙ append-both (ops-flat a s (p .0))
-      (flat-append (ops b) (op (binaryCode o) (pos 0) ∷ []) ∙ append-both (ops-flat b s (p .1)) (binary-flat o) ∙ sym (operation-append (post b) (apply2 o ∷ [])))
-      ∙ sym (operation-append (post a) (post b ++ (apply2 o ∷ [])))
+  unfolding flatBytes
+  ops-flat e t h = lay-whole ops-laid (flat-steps (operationBytes (post e))) e [] (t, h) (append-nil (operationBytes (post e)))
 
   pub code-is : (e : Expr) (t : Option ExprTy) → fits is vs e t ≡ true → flatBytes (ops e) ≡ code e
   unfolding code

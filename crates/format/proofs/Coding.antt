@@ -1,13 +1,14 @@
--- Running the code of an expression on a stack is recursion over the expression, for any machine: by induction on the expression. Assumes nothing.
-use Prim.Native.Nat.{ℕ, zero, suc, _≤_}
+-- Running the code of an expression on a stack is recursion over the expression, for any machine: by the law of postfix items. Assumes nothing.
+use Prim.Native.Nat.{ℕ, zero, suc, _+_, _≤_}
 use native.Mathlib.Omega.{arith}
 use mathlib.Core.Path.{_≡_, refl, sym, ap, _∙_}
 use mathlib.Core.Bool.{Bool, true, false}
 use mathlib.Core.Option.{Option, some, Option·map, bind as andThen}
-use mathlib.Core.List.{List, [], _∷_, _++_, append-assoc, append-nil}
+use mathlib.Core.List.{List, [], _∷_, _++_, append-nil}
 use lib.ListN.{length, length-append}
 use Rattle.design.specs.Types.{inRange}
 use Rattle.design.specs.Expression.{Leaf, int, bit, input, variable, Unary, sign, invert, Binary, plus, minus, equal, unequal, less, at-most, greater, at-least, and, or, xor, Expr, leaf, unary, binary, items, Out, fine, fault, bind, Algebra, fold}
+use Rattle.design.proofs.Postfix.{Lays, lay-items, stack-law}
 use Rattle.format.specs.Code.{Operation, push, apply1, apply2, post, unaryByte, binaryByte, bitByte, first, others, operationBytes, code, Taken, readOperation, operations, Machine, onto, run, runOperations, runCode}
 use Rattle.format.proofs.Words.{integer-bytes}
 
@@ -37,21 +38,29 @@ onto-bind (fault q) st k = refl
 abbrev pub untypedAlgebra : {X : Type 0} → Machine X → Algebra X
 untypedAlgebra M = record { ofLeaf = M .ofLeaf; ofUnary = λ o t x. M .ofUnary o x; ofBinary = λ o t x y. M .ofBinary o x y }
 
+-- operations stand behind their operands, so that the law of postfix items (design/proofs/Postfix.antt) is theirs
+pub post-laid : Lays push apply1 apply2 post
+unfolding post
+post-laid = record { leaf = λ l. refl; unary = λ o t a. refl; binary = λ o t a b. refl }
+
 module _ {X : Type 0} (M : Machine X) where
-  -- the operations of an expression push what the recursion gives
+  run-leaf : (l : Leaf) (is : List Operation) (st : List X) → run M (push l ∷ is) st ≡ bind (M .ofLeaf l) (λ x. run M is (x ∷ st))
+  unfolding run
+  run-leaf l is st = onto-bind (M .ofLeaf l) st _
+
+  run-unary : (o : Unary) (is : List Operation) (x : X) (st : List X) → run M (apply1 o ∷ is) (x ∷ st) ≡ bind (M .ofUnary o x) (λ z. run M is (z ∷ st))
+  unfolding run
+  run-unary o is x st = onto-bind (M .ofUnary o x) st _
+
+  run-binary : (o : Binary) (is : List Operation) (x y : X) (st : List X) → run M (apply2 o ∷ is) (y ∷ x ∷ st) ≡ bind (M .ofBinary o x y) (λ z. run M is (z ∷ st))
+  unfolding run
+  run-binary o is x y st = onto-bind (M .ofBinary o x y) st _
+
+  -- the operations of an expression push what the recursion gives; this machine's stack has room for any number
   pub run-post : (e : Expr) (is : List Operation) (st : List X) → run M (post e ++ is) st ≡ bind (fold (untypedAlgebra M) e) (λ x. run M is (x ∷ st))
-  unfolding post run fold
-  run-post (leaf l) is st = onto-bind (M .ofLeaf l) st _
-  run-post (unary o t a) is st =
-      ap (λ l. run M l st) (append-assoc (post a) (apply1 o ∷ []) is) ∙ run-post a (apply1 o ∷ is) st
-      ∙ bind-cong (fold (untypedAlgebra M) a) _ _ (λ x. onto-bind (M .ofUnary o x) st _) ∙ sym (bind-bind (fold (untypedAlgebra M) a) (λ x. M .ofUnary o x) _)
-  run-post (binary o t a b) is st =
-      ap (λ l. run M l st) (append-assoc (post a) _ is ∙ ap (λ l. post a ++ l) (append-assoc (post b) (apply2 o ∷ []) is))
-      ∙ run-post a (post b ++ (apply2 o ∷ is)) st
-      ∙ bind-cong (fold (untypedAlgebra M) a) _ _ (λ x. run-post b (apply2 o ∷ is) (x ∷ st)
-      ∙ bind-cong (fold (untypedAlgebra M) b) _ _ (λ y. onto-bind (M .ofBinary o x y) st _)
-      ∙ sym (bind-bind (fold (untypedAlgebra M) b) (λ y. M .ofBinary o x y) _))
-      ∙ sym (bind-bind (fold (untypedAlgebra M) a) (λ x. bind (fold (untypedAlgebra M) b) (λ y. M .ofBinary o x y)) _)
+  run-post e is st =
+      stack-law (untypedAlgebra M) push apply1 apply2 post post-laid (length st + items e) (run M)
+      (λ l k s f. run-leaf l k s) (λ o t k x s. run-unary o k x s) (λ o t k x y s. run-binary o k x y s) e is st (omega arith)
 
   pub run-tree : (e : Expr) → run M (post e) [] ≡ fold (untypedAlgebra M) e
   unfolding run
@@ -59,11 +68,7 @@ module _ {X : Type 0} (M : Machine X) where
 
 -- "1 to 64 operations" are the literals, names and operators
 pub post-items : (e : Expr) → length (post e) ≡ items e
-unfolding post items
-post-items (leaf l) = refl
-post-items (unary o t a) = length-append (post a) (apply1 o ∷ []) ∙ omega (arith, post-items a)
-post-items (binary o t a b) =
-    length-append (post a) (post b ++ (apply2 o ∷ [])) ∙ omega (arith, length-append (post b) (apply2 o ∷ []), post-items a, post-items b)
+post-items e = lay-items push apply1 apply2 post post-laid e
 
 -- Operations are read back from their bytes.
 
@@ -82,11 +87,6 @@ CodableOperation (apply2 o) = Unit {0}
 unfoldable pub Codable : List Operation → Type 0
 Codable [] = Unit {0}
 Codable (i ∷ is) = CodableOperation i × Codable is
-
-pub codable-append : (a b : List Operation) → Codable a → Codable b → Codable (a ++ b)
-unfolding Codable
-codable-append [] b ha hb = hb
-codable-append (i ∷ a) b ha hb = (ha .0, codable-append a b (ha .1) hb)
 
 read-apply1 : (o : Unary) (s : List ℕ) → readOperation (unaryByte o) s ≡ some (apply1 o, s)
 read-apply1 sign s = refl

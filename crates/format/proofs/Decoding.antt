@@ -12,6 +12,7 @@ use lib.Dec.{eqb}
 use Rattle.design.specs.Types.{Ty, ExprTy, boolean, sameType, inRange}
 use Rattle.design.specs.Expression.{Leaf, int, bit, input, variable, Unary, sign, invert, Binary, plus, minus, equal, unequal, less, at-most, greater, at-least, and, or, xor, Expr, leaf, unary, binary, Out, fine, fault, bind, Algebra, fold, leafType, unaryType, binaryType, given, given2, typeOf}
 use Rattle.design.proofs.Types.{sameType-eq, sameType-refl}
+use Rattle.design.proofs.Postfix.{Steps, lay-whole}
 use Rattle.semantics.specs.Evaluation.{applyUnary, applyBinary, values, evaluate}
 use Rattle.semantics.proofs.Basic.{none-some, fault-fine, some-injective, fine-injective, eqb-true}
 use Rattle.format.specs.Words.{Bytes, word4}
@@ -19,7 +20,7 @@ use Rattle.semantics.specs.Twos.{signed32}
 use Rattle.format.specs.Code.{Operation, push, apply1, apply2, post, unaryByte, binaryByte, bitByte, first, others, operationBytes, code, readInt, bitOf, readBit, readName, operator, readOperation, operations, onto, run, runOperations, runCode, untyped, withType, typed, trees, valueOf, decode}
 use Rattle.format.proofs.Words.{word4-small, signed-range, bytes-integer}
 use Rattle.format.proofs.Basic.{andThen-some, map-some, cond-case}
-use Rattle.format.proofs.Coding.{bind-cong, bind-bind, untypedAlgebra, CodableOperation, Codable, codable-append, run-code}
+use Rattle.format.proofs.Coding.{bind-cong, bind-bind, untypedAlgebra, CodableOperation, Codable, post-laid, run-code}
 
 -- Types of operands.
 
@@ -52,13 +53,18 @@ typed-leaf is vs (bit b) t e = (tt, tt)
 typed-leaf is vs (input k) t e = (tt, tt)
 typed-leaf is vs (variable k) t e = (tt, tt)
 
+codable-steps : (is vs : List Ty) → Steps push apply1 apply2 (λ (e : Expr) (w : Unit {0}). (t : ExprTy) × (typeOf is vs e ≡ some t)) (λ (e : Expr) (w : Unit {0}). w) (λ (k : List Operation) (w : Unit {0}). Codable k)
+unfolding typeOf Codable
+codable-steps is vs =
+    record {
+      leaf = λ l w k f c. (typed-leaf is vs l (f .0) (f .1) .0, c);
+      unary = λ o s a w k f. ((s, given-some (unaryType o) s (f .0) (typeOf is vs a) (f .1) .0), λ c. (tt, c));
+      binary = λ o s a b w k f. let p = given2-some (binaryType o) s (f .0) (typeOf is vs a) (typeOf is vs b) (f .1) in ((s, p .0), (s, p .1), λ c. (tt, c));
+    }
+
 pub typed-codable : (is vs : List Ty) (e : Expr) (t : ExprTy) → typeOf is vs e ≡ some t → Codable (post e)
-unfolding typeOf post Codable
-typed-codable is vs (leaf l) t h = typed-leaf is vs l t h
-typed-codable is vs (unary o s a) t h = codable-append (post a) _ (typed-codable is vs a s (given-some _ s t _ h .0)) (tt, tt)
-typed-codable is vs (binary o s a b) t h =
-    let p = given2-some _ s t _ _ h in
-    codable-append (post a) _ (typed-codable is vs a s (p .0)) (codable-append (post b) _ (typed-codable is vs b s (p .1)) (tt, tt))
+unfolding Codable
+typed-codable is vs e t h = lay-whole post-laid (codable-steps is vs) e tt (t, h) tt
 
 module _ {X : Type 0} (is vs : List Ty) (A : Algebra X) where
   -- over a typed expression the typed machine gives the algebra's value with the expression's type

@@ -1,4 +1,4 @@
--- Every number of a good table's image is a byte: by induction on expressions, cells and lines. Assumes nothing.
+-- Every number of a good table's image is a byte: by the law of postfix items, and by induction on cells and lines. Assumes nothing.
 use Prim.Native.Nat.{ℕ, zero, suc, _+_, _≤_, _<_}
 use native.Mathlib.Omega.{arith}
 use mathlib.Core.Path.{_≡_, refl, sym, ap, _∙_}
@@ -7,7 +7,8 @@ use mathlib.Core.Option.{Option, none, some}
 use mathlib.Core.List.{List, [], _∷_, _++_, append-assoc}
 use lib.ListN.{length, length-map}
 use Rattle.design.specs.Types.{Ty, std-logic, integer, ExprTy}
-use Rattle.design.specs.Expression.{Leaf, int, bit, input, variable, Unary, sign, invert, Binary, plus, minus, equal, unequal, less, at-most, greater, at-least, and, or, xor, Expr, leaf, unary, binary, nth, plainly, leafType, typeOf}
+use Rattle.design.specs.Expression.{Leaf, int, bit, input, variable, Unary, sign, invert, Binary, plus, minus, equal, unequal, less, at-most, greater, at-least, and, or, xor, Expr, leaf, unary, binary, nth, plainly, leafType, unaryType, binaryType, typeOf}
+use Rattle.design.proofs.Postfix.{Steps, lay-whole}
 use Rattle.design.specs.Statement.{output, variable as assign, null}
 use Rattle.design.specs.Process.{typedAct}
 use Rattle.semantics.proofs.Basic.{none-some}
@@ -19,6 +20,7 @@ use Rattle.format.specs.Lines.{Line, waits, acts, branches}
 use Rattle.format.specs.Image.{Table, RawLine, rawBytes, rawsBytes, lineCode, linesCode, rawOf, rawsOf, pairs, joined, image, form1, sectionsFor, encodeTable}
 use Rattle.format.specs.Good.{fitsLine, GoodLines, GoodTable}
 use Rattle.format.proofs.Words.{bytes-append, bytes2-bytes, bytes4-bytes}
+use Rattle.format.proofs.Coding.{post-laid}
 use Rattle.format.proofs.Decoding.{given-some, given2-some}
 use Rattle.format.proofs.Lines.{fits-type, good-fits}
 
@@ -81,16 +83,22 @@ module _ (is vs : List Ty) (hi : length is ≤ 256) (hv : length vs ≤ 256) whe
   leaf-bytes (input k) t e = (omega arith, (omega (arith, named-below is k t e), tt))
   leaf-bytes (variable k) t e = (omega arith, (omega (arith, named-below vs k t e), tt))
 
+  -- an operation's bytes before those of others
+  bytes-before : (i : Operation) (k : List Operation) → Bytes (operationBytes (i ∷ [])) → Bytes (operationBytes k) → Bytes (operationBytes (i ∷ k))
+  bytes-before i k h c = rw (operation-append (i ∷ []) k) (bytes-append (operationBytes (i ∷ [])) (operationBytes k) h c)
+
+  bytes-steps : Steps push apply1 apply2 (λ (e : Expr) (w : Unit {0}). (t : ExprTy) × (typeOf is vs e ≡ some t)) (λ (e : Expr) (w : Unit {0}). w) (λ (k : List Operation) (w : Unit {0}). Bytes (operationBytes k))
+  unfolding typeOf
+  bytes-steps =
+      record {
+        leaf = λ l w k f c. bytes-before (push l) k (leaf-bytes l (f .0) (f .1)) c;
+        unary = λ o s a w k f. ((s, given-some (unaryType o) s (f .0) (typeOf is vs a) (f .1) .0), bytes-before (apply1 o) k (unary-bytes o));
+        binary = λ o s a b w k f. let p = given2-some (binaryType o) s (f .0) (typeOf is vs a) (typeOf is vs b) (f .1) in ((s, p .0), (s, p .1), bytes-before (apply2 o) k (binary-bytes o));
+      }
+
   post-bytes : (e : Expr) (t : ExprTy) → typeOf is vs e ≡ some t → Bytes (operationBytes (post e))
-  unfolding typeOf post
-  post-bytes (leaf l) t h = leaf-bytes l t h
-  post-bytes (unary o s a) t h =
-      rw (operation-append (post a) (apply1 o ∷ [])) (bytes-append (operationBytes (post a)) _ (post-bytes a s (given-some _ s t _ h .0)) (unary-bytes o))
-  post-bytes (binary o s a b) t h =
-      let p = given2-some _ s t _ _ h in
-      rw (operation-append (post a) (post b ++ (apply2 o ∷ [])), operation-append (post b) (apply2 o ∷ []))
-      (bytes-append (operationBytes (post a)) _ (post-bytes a s (p .0))
-      (bytes-append (operationBytes (post b)) (operationBytes (apply2 o ∷ [])) (post-bytes b s (p .1)) (binary-bytes o)))
+  unfolding operationBytes Bytes
+  post-bytes e t h = lay-whole post-laid bytes-steps e tt (t, h) tt
 
   pub code-bytes : (e : Expr) (t : ExprTy) → typeOf is vs e ≡ some t → Bytes (code e)
   unfolding code

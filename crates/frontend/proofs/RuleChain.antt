@@ -1,7 +1,7 @@
 -- The rules in table order, each asked where those before it are kept. Assumes nothing.
 use mathlib.Core.Path.{_≡_, refl, sym, _∙_, ap}
 use mathlib.Core.List.{List, [], _∷_}
-use Prim.Native.Nat.{ℕ, _-_}
+use Prim.Native.Nat.{ℕ}
 use Rattle.grammar.specs.Tree.{Text}
 use Rattle.language.specs.Rules.{Rule, table}
 use Rattle.language.specs.Names.{names}
@@ -9,68 +9,58 @@ use Rattle.language.specs.Typing.{types}
 use Rattle.language.specs.Values.{values}
 use Rattle.language.specs.Clock.{clock}
 use Rattle.language.specs.Classes.{loops}
-use Rattle.language.specs.Verdict.{Verdict, accepted, refused, ruled}
+use Rattle.language.specs.Verdict.{ruled}
 use Rattle.answers.specs.declared.Refusal.the-variants.{WrongName, WrongType, NoValue, WrongClock, WrongClass}
-use Rattle.syntax.specs.Lowest.{lowestOf}
+use Rattle.syntax.specs.declared.Finding.{Finding}
+use Rattle.syntax.specs.declared.Finding.the-variants.{Nothing, Offence}
+use Rattle.syntax.specs.Lowest.{findingOf}
+use Rattle.frontend.specs.declared.rules.Ruling.{Ruling}
 use Rattle.frontend.specs.declared.rules.Ruling.the-variants.{Free, Offended}
-use Rattle.frontend.specs.Stages.{ruledAs}
-use Rattle.frontend.proofs.Ruled.{offended, kept}
+use Rattle.frontend.specs.Stages.{ruledAs, from6, from7, from8, from9}
+use Rattle.frontend.proofs.Ruled.{offended, kept, kept-none}
 
-rules9 : List Rule
-rules9 = record { number = 9; offences = loops } ∷ []
-
-rules8 : List Rule
-rules8 = record { number = 8; offences = clock } ∷ rules9
-
-rules7 : List Rule
-rules7 = record { number = 7; offences = values } ∷ rules8
-
-rules6 : List Rule
-rules6 = record { number = 6; offences = types } ∷ rules7
+rule5 : Rule
+rule5 = record { number = 5; offences = names }
 
 module _ (t : Text) where
-  all : ruled table t ≡ ruled (record { number = 5; offences = names } ∷ rules6) t
-  unfolding table rules6 rules7 rules8 rules9
+  all : ruled table t ≡ ruled (rule5 ∷ from6) t
+  unfolding table rule5
   all = refl
 
-  pub at-5 : {a : ℕ} → a ≡ lowestOf (names t) → (a ≡ 0 → ⊥) → Offended (WrongName (a - 1)) ≡ ruledAs (ruled table t)
-  at-5 {a} f n = sym (ap ruledAs (all ∙ offended (record { number = 5; offences = names }) rules6 t a f n))
+  pub at-5 : {x : Finding} {p : ℕ} → x ≡ findingOf (names t) → x ≡ Offence p → Offended (WrongName p) ≡ ruledAs (ruled table t)
+  unfolding rule5
+  at-5 {x} {p} f n = sym (ap ruledAs (all ∙ offended rule5 from6 t p f n))
 
-  from-6 : {a : ℕ} → a ≡ lowestOf (names t) → a ≡ 0 → ruled table t ≡ ruled rules6 t
-  from-6 {a} f z = all ∙ kept (record { number = 5; offences = names }) rules6 t a f z .0
+  -- where rule 5 is kept, no name is wrong, and the others decide
+  pub no-5 : {x : Finding} → x ≡ findingOf (names t) → x ≡ Nothing → names t ≡ []
+  unfolding rule5
+  no-5 f n = kept-none rule5 t f n
 
-  -- where stage 5 has passed, no name is wrong
-  pub no-5 : {a : ℕ} → a ≡ lowestOf (names t) → a ≡ 0 → names t ≡ []
-  no-5 {a} f z = kept (record { number = 5; offences = names }) rules6 t a f z .1
+  pub past-5 : {x : Finding} {r : Ruling} → x ≡ findingOf (names t) → x ≡ Nothing → r ≡ ruledAs (ruled from6 t) → r ≡ ruledAs (ruled table t)
+  unfolding rule5
+  past-5 f n e = e ∙ sym (ap ruledAs (all ∙ kept rule5 from6 t f n))
 
-  pub at-6 : {a b : ℕ} → a ≡ lowestOf (names t) → a ≡ 0 → b ≡ lowestOf (types t) → (b ≡ 0 → ⊥) → Offended (WrongType (b - 1)) ≡ ruledAs (ruled table t)
-  unfolding rules6
-  at-6 {a} {b} f z g n = sym (ap ruledAs (from-6 f z ∙ offended (record { number = 6; offences = types }) rules7 t b g n))
+  pub at-6 : {x : Finding} {p : ℕ} → x ≡ findingOf (types t) → x ≡ Offence p → Offended (WrongType p) ≡ ruledAs (ruled from6 t)
+  at-6 {x} {p} f n = sym (ap ruledAs (offended (record { number = 6; offences = types }) from7 t p f n))
 
-  from-7 : {a b : ℕ} → a ≡ lowestOf (names t) → a ≡ 0 → b ≡ lowestOf (types t) → b ≡ 0 → ruled table t ≡ ruled rules7 t
-  unfolding rules6
-  from-7 {a} {b} f z g y = from-6 f z ∙ kept (record { number = 6; offences = types }) rules7 t b g y .0
+  pub past-6 : {x : Finding} {r : Ruling} → x ≡ findingOf (types t) → x ≡ Nothing → r ≡ ruledAs (ruled from7 t) → r ≡ ruledAs (ruled from6 t)
+  past-6 f n e = e ∙ sym (ap ruledAs (kept (record { number = 6; offences = types }) from7 t f n))
 
-  pub at-7 : {a b c : ℕ} → a ≡ lowestOf (names t) → a ≡ 0 → b ≡ lowestOf (types t) → b ≡ 0 → c ≡ lowestOf (values t) → (c ≡ 0 → ⊥) → Offended (NoValue (c - 1)) ≡ ruledAs (ruled table t)
-  unfolding rules7
-  at-7 {a} {b} {c} f z g y h n = sym (ap ruledAs (from-7 f z g y ∙ offended (record { number = 7; offences = values }) rules8 t c h n))
+  pub at-7 : {x : Finding} {p : ℕ} → x ≡ findingOf (values t) → x ≡ Offence p → Offended (NoValue p) ≡ ruledAs (ruled from7 t)
+  at-7 {x} {p} f n = sym (ap ruledAs (offended (record { number = 7; offences = values }) from8 t p f n))
 
-  from-8 : {a b c : ℕ} → a ≡ lowestOf (names t) → a ≡ 0 → b ≡ lowestOf (types t) → b ≡ 0 → c ≡ lowestOf (values t) → c ≡ 0 → ruled table t ≡ ruled rules8 t
-  unfolding rules7
-  from-8 {a} {b} {c} f z g y h x = from-7 f z g y ∙ kept (record { number = 7; offences = values }) rules8 t c h x .0
+  pub past-7 : {x : Finding} {r : Ruling} → x ≡ findingOf (values t) → x ≡ Nothing → r ≡ ruledAs (ruled from8 t) → r ≡ ruledAs (ruled from7 t)
+  past-7 f n e = e ∙ sym (ap ruledAs (kept (record { number = 7; offences = values }) from8 t f n))
 
-  pub at-8 : {a b c d : ℕ} → a ≡ lowestOf (names t) → a ≡ 0 → b ≡ lowestOf (types t) → b ≡ 0 → c ≡ lowestOf (values t) → c ≡ 0 → d ≡ lowestOf (clock t) → (d ≡ 0 → ⊥) → Offended (WrongClock (d - 1)) ≡ ruledAs (ruled table t)
-  unfolding rules8
-  at-8 {a} {b} {c} {d} f z g y h x i n = sym (ap ruledAs (from-8 f z g y h x ∙ offended (record { number = 8; offences = clock }) rules9 t d i n))
+  pub at-8 : {x : Finding} {p : ℕ} → x ≡ findingOf (clock t) → x ≡ Offence p → Offended (WrongClock p) ≡ ruledAs (ruled from8 t)
+  at-8 {x} {p} f n = sym (ap ruledAs (offended (record { number = 8; offences = clock }) from9 t p f n))
 
-  from-9 : {a b c d : ℕ} → a ≡ lowestOf (names t) → a ≡ 0 → b ≡ lowestOf (types t) → b ≡ 0 → c ≡ lowestOf (values t) → c ≡ 0 → d ≡ lowestOf (clock t) → d ≡ 0 → ruled table t ≡ ruled rules9 t
-  unfolding rules8
-  from-9 {a} {b} {c} {d} f z g y h x i w = from-8 f z g y h x ∙ kept (record { number = 8; offences = clock }) rules9 t d i w .0
+  pub past-8 : {x : Finding} {r : Ruling} → x ≡ findingOf (clock t) → x ≡ Nothing → r ≡ ruledAs (ruled from9 t) → r ≡ ruledAs (ruled from8 t)
+  past-8 f n e = e ∙ sym (ap ruledAs (kept (record { number = 8; offences = clock }) from9 t f n))
 
-  pub at-9 : {a b c d e : ℕ} → a ≡ lowestOf (names t) → a ≡ 0 → b ≡ lowestOf (types t) → b ≡ 0 → c ≡ lowestOf (values t) → c ≡ 0 → d ≡ lowestOf (clock t) → d ≡ 0 → e ≡ lowestOf (loops t) → (e ≡ 0 → ⊥) → Offended (WrongClass (e - 1)) ≡ ruledAs (ruled table t)
-  unfolding rules9
-  at-9 {a} {b} {c} {d} {e} f z g y h x i w j n = sym (ap ruledAs (from-9 f z g y h x i w ∙ offended (record { number = 9; offences = loops }) [] t e j n))
+  pub at-9 : {x : Finding} {p : ℕ} → x ≡ findingOf (loops t) → x ≡ Offence p → Offended (WrongClass p) ≡ ruledAs (ruled from9 t)
+  at-9 {x} {p} f n = sym (ap ruledAs (offended (record { number = 9; offences = loops }) [] t p f n))
 
-  pub past-9 : {a b c d e : ℕ} → a ≡ lowestOf (names t) → a ≡ 0 → b ≡ lowestOf (types t) → b ≡ 0 → c ≡ lowestOf (values t) → c ≡ 0 → d ≡ lowestOf (clock t) → d ≡ 0 → e ≡ lowestOf (loops t) → e ≡ 0 → Free ≡ ruledAs (ruled table t)
-  unfolding rules9 ruled
-  past-9 {a} {b} {c} {d} {e} f z g y h x i w j v = sym (ap ruledAs (from-9 f z g y h x i w ∙ kept (record { number = 9; offences = loops }) [] t e j v .0))
+  pub past-9 : {x : Finding} → x ≡ findingOf (loops t) → x ≡ Nothing → Free ≡ ruledAs (ruled from9 t)
+  unfolding ruled
+  past-9 f n = sym (ap ruledAs (kept (record { number = 9; offences = loops }) [] t f n))

@@ -10,12 +10,13 @@ use Rattle.language.specs.Declarations.{groups}
 use Rattle.language.specs.Names.{names}
 use Rattle.language.proofs.WellTyped.{each-join}
 use Rattle.parser.specs.declared.Parsed.{Parsed}
-use Rattle.syntax.specs.Lowest.{lowestOf}
+use Rattle.syntax.specs.declared.Finding.{Finding}
+use Rattle.syntax.specs.Lowest.{findingOf}
 use Rattle.syntax.specs.Kinded.{KindedGroup, Kinded}
 use Rattle.offences.specs.Laid.{Laid}
 use Rattle.scope.specs.declared.Heads.{Heads}
 use Rattle.scope.specs.Resolves.{WordsIn}
-use Rattle.scope.specs.Judges.{HeadsIn, Judges}
+use Rattle.scope.specs.Judges.{HeadsIn, Finds}
 use Rattle.typing.specs.Expressions.{sources}
 use Rattle.typing.specs.Statements as T
 use Rattle.frontend.specs.Stages.{headsOf}
@@ -29,8 +30,8 @@ unfolding groups
 named t k = each-join (λ (g : Group). 0 < length (g .names)) (t .ports) (t .vars) (some-names (t .ports) (k .ports)) (some-names (t .vars) (k .vars))
 
 -- stage 5
-pub fact-5 : {text starts sizes rows codes indices decls owners : List ℕ} {n a : ℕ} {h : Heads} (p : Parsed) → Judges text starts sizes n h rows (p .statements) codes indices (p .items) decls (p .names) owners a → h ≡ headsOf p
-    → (ts : List Token) (t : Text) (kinds : List ℕ) → Laid ts t kinds starts n codes indices (p .items) rows (p .statements) decls (p .names) owners → WordsIn text ts sizes n → HeadsIn ts t (headsOf p) → a ≡ lowestOf (names t)
+pub fact-5 : {text starts sizes rows codes indices decls owners : List ℕ} {n : ℕ} {a : Finding} {h : Heads} (p : Parsed) → Finds text starts sizes n h rows (p .statements) codes indices (p .items) decls (p .names) owners a → h ≡ headsOf p
+    → (ts : List Token) (t : Text) (kinds : List ℕ) → Laid ts t kinds starts n codes indices (p .items) rows (p .statements) decls (p .names) owners → WordsIn text ts sizes n → HeadsIn ts t (headsOf p) → a ≡ findingOf (names t)
 fact-5 p j e ts t kinds L W H = j .lowest ts t kinds L W (rw e H)
 
 -- what stage 6 asks

@@ -1,13 +1,20 @@
 -- Refusals 5 to 9 of a text whose arrays hold a tree: as the rules say one after the other. Assumes nothing.
 use mathlib.Core.Path.{_≡_}
-use mathlib.Core.List.{List}
+use mathlib.Core.List.{List, [], _∷_}
 use Prim.Native.Nat.{ℕ}
 use Rattle.grammar.specs.Token.{Token}
 use Rattle.grammar.specs.Tree.{Text}
 use Rattle.grammar.specs.Limits.{WithinLimits}
-use Rattle.language.specs.Rules.{table}
+use Rattle.language.specs.Rules.{Rule, table}
+use Rattle.language.specs.Names.{names}
+use Rattle.language.specs.Typing.{types}
+use Rattle.language.specs.Values.{values}
+use Rattle.language.specs.Clock.{clock}
+use Rattle.language.specs.Classes.{loops}
 use Rattle.language.specs.Verdict.{Verdict, accepted, refused, ruled}
 use Rattle.cursor.specs.Tokens.{tokenAt}
+use Rattle.statements.specs.Entries.{bodyEntries}
+use Rattle.syntax.specs.Arrays.{TokensIn, RowsIn}
 use Rattle.parser.specs.declared.Parsed.{Parsed}
 use Rattle.offences.specs.Laid.{Laid}
 use Rattle.scope.specs.declared.Heads.{Heads}
@@ -29,3 +36,26 @@ ruledAs (refused n k) = Offended (refusalOf n k)
 pub record Ruled (text starts sizes : List ℕ) (n : ℕ) (p : Parsed) (codes indices rows decls owners : List ℕ) (r : Ruling) : Type 0 where
   pub is : (ts : List Token) (t : Text) (kinds : List ℕ) → Laid ts t kinds starts n codes indices (p .items) rows (p .statements) decls (p .names) owners → WordsIn text ts sizes n
       → HeadsIn ts t (headsOf p) → tokenAt ts (p .process) ≡ t .process → WithinLimits t → r ≡ ruledAs (ruled table t)
+
+-- "Stages in table order": the rules from 9, 8, 7 and 6 on
+abbrev pub from9 : List Rule
+from9 = record { number = 9; offences = loops } ∷ []
+
+abbrev pub from8 : List Rule
+from8 = record { number = 8; offences = clock } ∷ from9
+
+abbrev pub from7 : List Rule
+from7 = record { number = 7; offences = values } ∷ from8
+
+abbrev pub from6 : List Rule
+from6 = record { number = 6; offences = types } ∷ from7
+
+-- the same for the rules rs alone, where no name is wrong
+pub record RuledBy (rs : List Rule) (starts : List ℕ) (n : ℕ) (p : Parsed) (codes indices rows decls owners : List ℕ) (r : Ruling) : Type 0 where
+  pub is : (ts : List Token) (t : Text) (kinds : List ℕ) → Laid ts t kinds starts n codes indices (p .items) rows (p .statements) decls (p .names) owners
+      → tokenAt ts (p .process) ≡ t .process → WithinLimits t → names t ≡ [] → r ≡ ruledAs (ruled rs t)
+
+-- the same for the last rule, which asks for tokens and statements alone
+pub record RuledLast (starts : List ℕ) (n : ℕ) (p : Parsed) (rows : List ℕ) (r : Ruling) : Type 0 where
+  pub is : (ts : List Token) (t : Text) (kinds : List ℕ) → TokensIn ts kinds starts n → RowsIn ts (bodyEntries (t .body)) rows (p .statements)
+      → tokenAt ts (p .process) ≡ t .process → r ≡ ruledAs (ruled from9 t)

@@ -4,10 +4,11 @@ ghost use mathlib.Core.List.{List};
 ghost use Prim.Native.Nat.{ℕ};
 ghost use Rattle.grammar.specs.Token.{Token};
 ghost use Rattle.grammar.specs.Tree.{Text};
-ghost use Rattle.frontend.specs.Stages.{headsOf, Ruled};
+ghost use Rattle.frontend.specs.Stages.{headsOf, Ruled, RuledBy, RuledLast, from6, from7, from8};
 use answers::Refusal;
 use parser::Parsed;
 use scope::Heads;
+use syntax::Finding;
 
 // No rule is offended; or the refusal of the first that is.
 pub(crate) enum Ruling {
@@ -28,6 +29,98 @@ fn heads_of(p: Parsed) -> Heads
     }
 }
 
+// Rule 9.
+fn classed(starts: &[u16; 16384], n: usize, p: Parsed, rows: &[u16; 3072]) -> Ruling
+    ensures { λ r. ⌜ RuledLast (now (starts .entry)) n p (now (rows .entry)) r ⌝ }
+{
+    let found = classes::judge(rows, starts, n, p.statements, p.process);
+    match found {
+        Finding::Nothing => Ruling::Free,
+        Finding::Offence(place) => Ruling::Offended(Refusal::WrongClass(place)),
+    }
+}
+
+// Rule 8, then 9.
+fn clocked(
+    starts: &[u16; 16384],
+    n: usize,
+    p: Parsed,
+    codes: &[u8; 16384],
+    indices: &[u16; 16384],
+    rows: &[u16; 3072],
+    decls: &[u16; 390],
+    owners: &[u8; 16384],
+) -> Ruling
+    ensures { λ r. ⌜ RuledBy from8 (now (starts .entry)) n p (now (codes .entry)) (now (indices .entry)) (now (rows .entry)) (now (decls .entry)) (now (owners .entry)) r ⌝ }
+{
+    let found = clock::judge(
+        rows,
+        p.statements,
+        codes,
+        indices,
+        p.items,
+        starts,
+        owners,
+        n,
+        decls,
+        p.names,
+    );
+    match found {
+        Finding::Nothing => classed(starts, n, p, rows),
+        Finding::Offence(place) => Ruling::Offended(Refusal::WrongClock(place)),
+    }
+}
+
+// Rule 7, then those behind it.
+fn valued(
+    starts: &[u16; 16384],
+    n: usize,
+    p: Parsed,
+    codes: &[u8; 16384],
+    indices: &[u16; 16384],
+    rows: &[u16; 3072],
+    decls: &[u16; 390],
+    owners: &[u8; 16384],
+) -> Ruling
+    ensures { λ r. ⌜ RuledBy from7 (now (starts .entry)) n p (now (codes .entry)) (now (indices .entry)) (now (rows .entry)) (now (decls .entry)) (now (owners .entry)) r ⌝ }
+{
+    let found = typing::values(decls, starts, n, p.names);
+    match found {
+        Finding::Nothing => clocked(starts, n, p, codes, indices, rows, decls, owners),
+        Finding::Offence(place) => Ruling::Offended(Refusal::NoValue(place)),
+    }
+}
+
+// Rule 6, then those behind it.
+fn typed(
+    starts: &[u16; 16384],
+    n: usize,
+    p: Parsed,
+    codes: &[u8; 16384],
+    indices: &[u16; 16384],
+    rows: &[u16; 3072],
+    decls: &[u16; 390],
+    owners: &[u8; 16384],
+) -> Ruling
+    ensures { λ r. ⌜ RuledBy from6 (now (starts .entry)) n p (now (codes .entry)) (now (indices .entry)) (now (rows .entry)) (now (decls .entry)) (now (owners .entry)) r ⌝ }
+{
+    let found = typing::types(
+        codes,
+        indices,
+        starts,
+        owners,
+        decls,
+        n,
+        p.names,
+        rows,
+        p.statements,
+    );
+    match found {
+        Finding::Nothing => valued(starts, n, p, codes, indices, rows, decls, owners),
+        Finding::Offence(place) => Ruling::Offended(Refusal::WrongType(place)),
+    }
+}
+
 // The rules one after the other.
 pub(crate) fn judge(
     text: &[u8],
@@ -43,7 +136,7 @@ pub(crate) fn judge(
 ) -> Ruling
     ensures { λ r. ⌜ Ruled (now (text .entry)) (now (starts .entry)) (now (sizes .entry)) n p (now (codes .entry)) (now (indices .entry)) (now (rows .entry)) (now (decls .entry)) (now (owners .entry)) r ⌝ }
 {
-    let names = scope::names(
+    let found = scope::names(
         text,
         starts,
         sizes,
@@ -58,45 +151,8 @@ pub(crate) fn judge(
         p.names,
         owners,
     );
-    if names != 0 {
-        return Ruling::Offended(Refusal::WrongName(names - 1));
+    match found {
+        Finding::Nothing => typed(starts, n, p, codes, indices, rows, decls, owners),
+        Finding::Offence(place) => Ruling::Offended(Refusal::WrongName(place)),
     }
-    let types = typing::types(
-        codes,
-        indices,
-        starts,
-        owners,
-        decls,
-        n,
-        p.names,
-        rows,
-        p.statements,
-    );
-    if types != 0 {
-        return Ruling::Offended(Refusal::WrongType(types - 1));
-    }
-    let values = typing::values(decls, starts, n, p.names);
-    if values != 0 {
-        return Ruling::Offended(Refusal::NoValue(values - 1));
-    }
-    let clock = clock::judge(
-        rows,
-        p.statements,
-        codes,
-        indices,
-        p.items,
-        starts,
-        owners,
-        n,
-        decls,
-        p.names,
-    );
-    if clock != 0 {
-        return Ruling::Offended(Refusal::WrongClock(clock - 1));
-    }
-    let classes = classes::judge(rows, starts, n, p.statements, p.process);
-    if classes != 0 {
-        return Ruling::Offended(Refusal::WrongClass(classes - 1));
-    }
-    Ruling::Free
 }

@@ -1,6 +1,6 @@
 -- A rule over the statements of a body, or over the names in its expressions, and the same over the rows and the items of the arrays. Assumes nothing.
 use mathlib.Core.Path.{_≡_, refl, sym, _∙_, ap, subst}
-use mathlib.Core.List.{List, [], _∷_, _++_, map, map-append, append-nil}
+use mathlib.Core.List.{List, [], _∷_, _++_, map, map-append, append-assoc, append-nil}
 use Prim.Native.Nat.{ℕ, zero, suc, _+_, _*_, _<_}
 use native.Mathlib.Omega.{arith}
 use borrow.Author.Tests.{ne-eqb}
@@ -14,14 +14,17 @@ use Rattle.language.specs.Lists.{each}
 use Rattle.language.specs.Declarations.{within, statements}
 use Rattle.language.proofs.Facts.{each-append}
 use Rattle.cursor.specs.Tokens.{tokenAt}
-use Rattle.expressions.specs.Postfix.{Item, itemOf, binaryItem, postfix}
+use Rattle.expressions.specs.Postfix.{Item, itemOf, postfix}
 use Rattle.expressions.specs.Written.{itemAtIndex}
+use Rattle.expressions.proofs.Folds.{Steps, postfix-whole}
 use Rattle.statements.specs.Entries.{Entry, entry, stmtEntries, bodyEntries, entryItems}
 use Rattle.statements.specs.Rows.{Line, seen, linesFrom}
 use Rattle.syntax.specs.Arrays.{placedFrom, ItemsIn, rowIn, rowsFrom, RowsIn}
 use Rattle.syntax.specs.Entries.{stmtEntry}
-use Rattle.syntax.specs.Kinded.{KindedExpr, KindedStmt, KindedBody}
+use Rattle.syntax.specs.Kinded.{KindedStmt, KindedBody}
 use Rattle.syntax.specs.Lowest.{lowestOf}
+pub use Rattle.syntax.proofs.Named.{NamedItem}
+use Rattle.syntax.proofs.Named.{IsNamed, postfix-named}
 use Rattle.offences.specs.Positions.{lowestFrom}
 use Rattle.offences.proofs.Loops.{listFrom, list-lowest, each-same, each-map, all-map, all-imply}
 
@@ -148,20 +151,23 @@ ofItem r c x = choose (eqb c 1) (r x) []
 itemRule : (Token → List ℕ) → Item → List ℕ
 itemRule r i = ofItem r (i .code) (i .token)
 
+-- what was found before an expression, its own, and what the items behind it have
+names-steps : (r : Token → List ℕ) (q : List ℕ) → Steps (λ (e : Expr) (w : List ℕ). Unit {0}) (λ (e : Expr) (w : List ℕ). w ++ ofNames r e) (λ (k : List Item) (w : List ℕ). w ++ each (itemRule r) k ≡ q)
+unfolding each ofNames itemRule
+names-steps r q =
+    record {
+      number = λ x w k f c. sym (append-assoc w [] (each (itemRule r) k)) ∙ c;
+      bit = λ x w k f c. sym (append-assoc w [] (each (itemRule r) k)) ∙ c;
+      name = λ x w k f c. sym (append-assoc w (r x) (each (itemRule r) k)) ∙ c;
+      sign = λ x a w k f. (tt, λ c. c);
+      negate = λ x a w k f. (tt, λ c. c);
+      binary = λ x a b w k f. (tt, tt, λ c. rw (ne-eqb (x .kind + 7) 1 (λ e. omega arith)) (ap (λ (l : List ℕ). l ++ each (itemRule r) k) (append-assoc w (ofNames r a) (ofNames r b)) ∙ c));
+      parens = λ a w k f. (tt, λ c. c);
+    }
+
 names-postfix : (r : Token → List ℕ) (e : Expr) → each (itemRule r) (postfix e) ≡ ofNames r e
-unfolding each postfix ofNames itemRule
-names-postfix r (number x) = refl
-names-postfix r (bit x) = refl
-names-postfix r (name x) = append-nil (r x)
-names-postfix r (sign x a) = each-append (itemRule r) (postfix a) (itemOf 4 x ∷ []) ∙ (append-nil (each (itemRule r) (postfix a)) ∙ names-postfix r a)
-names-postfix r (negate x a) = each-append (itemRule r) (postfix a) (itemOf 5 x ∷ []) ∙ (append-nil (each (itemRule r) (postfix a)) ∙ names-postfix r a)
-names-postfix r (binary x a b) =
-    let z : each (itemRule r) (binaryItem x ∷ []) ≡ [] = rw (ne-eqb (x .kind + 7) 1 (λ e. omega arith)) in
-    each-append (itemRule r) (postfix a) (postfix b ++ (binaryItem x ∷ []))
-    ∙ (ap (λ (l : List ℕ). each (itemRule r) (postfix a) ++ l) (each-append (itemRule r) (postfix b) (binaryItem x ∷ []) ∙ (ap (λ (l : List ℕ). each (itemRule r) (postfix b) ++ l) z
-    ∙ append-nil (each (itemRule r) (postfix b))))
-    ∙ (ap (λ (l : List ℕ). l ++ each (itemRule r) (postfix b)) (names-postfix r a) ∙ ap (λ (l : List ℕ). ofNames r a ++ l) (names-postfix r b)))
-names-postfix r (parens a) = names-postfix r a
+unfolding each
+names-postfix r e = postfix-whole (names-steps r (ofNames r e)) e [] tt (append-nil (ofNames r e))
 
 names-entry : (r : Token → List ℕ) (s : Stmt) → each (itemRule r) (stmtEntry s .items) ≡ ofReads r s
 unfolding stmtEntry ofReads each
@@ -178,34 +184,15 @@ unfolding each entryItems
 items-each g [] = refl
 items-each g (e ∷ es) = each-append g (e .items) (entryItems es) ∙ ap (λ (l : List ℕ). each g (e .items) ++ l) (items-each g es)
 
--- an item that is a name has a name for its token
-abbrev pub NamedItem : ℕ → Token → Type 0
-NamedItem c x = c ≡ 1 → x .kind ≡ NAME
-
-abbrev IsNamed : Item → Type 0
-IsNamed i = NamedItem (i .code) (i .token)
-
-named-postfix : (e : Expr) → KindedExpr e → Each IsNamed (postfix e)
-unfolding postfix
-named-postfix (number x) k = (λ z. absurd (omega arith), tt)
-named-postfix (bit x) k = (λ z. absurd (omega arith), tt)
-named-postfix (name x) k = (λ z. k, tt)
-named-postfix (sign x a) k = all-append IsNamed (postfix a) (itemOf 4 x ∷ []) (named-postfix a (k .1)) (λ z. absurd (omega arith), tt)
-named-postfix (negate x a) k = all-append IsNamed (postfix a) (itemOf 5 x ∷ []) (named-postfix a (k .1)) (λ z. absurd (omega arith), tt)
-named-postfix (binary x a b) k =
-    all-append IsNamed (postfix a) (postfix b ++ (binaryItem x ∷ [])) (named-postfix a (k .1))
-    (all-append IsNamed (postfix b) (binaryItem x ∷ []) (named-postfix b (k .2)) (λ z. absurd (omega arith), tt))
-named-postfix (parens a) k = named-postfix a k
-
 named-entry : (s : Stmt) → KindedStmt s → Each IsNamed (stmtEntry s .items)
 unfolding stmtEntry
-named-entry (output x e) k = named-postfix e (k .1)
-named-entry (assign x e) k = named-postfix e (k .1)
+named-entry (output x e) k = postfix-named e (k .1)
+named-entry (assign x e) k = postfix-named e (k .1)
 named-entry null k = tt
 named-entry (wait x) k = tt
-named-entry (if-then i e a) k = named-postfix e (k .1)
-named-entry (if-else i e a b) k = named-postfix e (k .1)
-named-entry (while w e a) k = named-postfix e (k .1)
+named-entry (if-then i e a) k = postfix-named e (k .1)
+named-entry (if-else i e a b) k = postfix-named e (k .1)
+named-entry (while w e a) k = postfix-named e (k .1)
 
 all-items : (l : List Stmt) → Each KindedStmt l → Each IsNamed (entryItems (map stmtEntry l))
 unfolding entryItems

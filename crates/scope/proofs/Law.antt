@@ -21,9 +21,10 @@ use Rattle.cursor.specs.Tokens.{tokenAt}
 use Rattle.syntax.specs.Arrays.{numberIn}
 use Rattle.syntax.specs.Entries.{stmtEntry}
 use Rattle.syntax.specs.Headings.{modeCode}
-use Rattle.syntax.specs.Lowest.{lowestOf, lower}
+use Rattle.syntax.specs.declared.Finding.{Finding}
+use Rattle.syntax.specs.Lowest.{lowestOf, lower, findingFrom}
 use Rattle.syntax.specs.Lowest as L
-use Rattle.syntax.proofs.Lowest.{lower-none, lower-assoc, lowest-append, lowest-fine}
+use Rattle.syntax.proofs.Lowest.{lower-none, lower-assoc, lowest-append, lowest-fine, finding-lowest}
 use Rattle.offences.specs.Laid.{Laid}
 use Rattle.offences.specs.Positions.{lowestFrom, modeIn}
 use Rattle.offences.proofs.Loops.{listFrom}
@@ -34,7 +35,7 @@ use Rattle.offences.proofs.Tokens.{place-is, owner-is}
 use Rattle.scope.specs.declared.Heads.{Heads}
 use Rattle.scope.specs.Positions.{differsIn, doubledAt, fitsIn, targetAt, readableIn, readAt, doubledIn, targetsIn, readsIn}
 use Rattle.scope.specs.Resolves.{WordsIn}
-use Rattle.scope.specs.Judges.{HeadsIn, namesIn, Judges}
+use Rattle.scope.specs.Judges.{HeadsIn, namesIn, Judges, Finds}
 use Rattle.scope.proofs.Resolved.{Named, named-declared, same-tokens}
 
 -- Declared twice: a declaration whose name has another number than its own.
@@ -280,3 +281,8 @@ pub judges : (text starts sizes : List ℕ) (n : ℕ) (h : Heads) (rows : List �
     → r ≡ namesIn text starts sizes n h rows s codes indices k decls d owners → Judges text starts sizes n h rows s codes indices k decls d owners r
 judges text starts sizes n h rows s codes indices k decls d owners r e =
     record { answer = e; lowest = λ ts t kinds l w at. e ∙ names-law text sizes ts t kinds starts n codes indices k rows s decls d owners l w h at }
+
+-- the number, told as the stage's answer
+pub finds : {text starts sizes rows codes indices decls owners : List ℕ} {n s k d a : ℕ} {h : Heads} {r : Finding} → Judges text starts sizes n h rows s codes indices k decls d owners a → r ≡ findingFrom a
+    → Finds text starts sizes n h rows s codes indices k decls d owners r
+finds j e = record { answer = e ∙ ap findingFrom (j .answer); lowest = λ ts t kinds l w at. finding-lowest (N.names t) e (j .lowest ts t kinds l w at) }

@@ -6,7 +6,8 @@ use Rattle.grammar.specs.Token.{Token}
 use Rattle.grammar.specs.Tree.{Text}
 use Rattle.language.specs.Names.{names}
 use Rattle.cursor.specs.Tokens.{tokenAt}
-use Rattle.syntax.specs.Lowest.{lowestOf, lower}
+use Rattle.syntax.specs.declared.Finding.{Finding}
+use Rattle.syntax.specs.Lowest.{lowestOf, lower, findingOf, findingFrom}
 use Rattle.offences.specs.Laid.{Laid}
 use Rattle.scope.specs.declared.Heads.{Heads}
 use Rattle.scope.specs.Positions.{headsIn, doubledIn, targetsIn, readsIn}
@@ -30,3 +31,9 @@ pub record Judges (text starts sizes : List ℕ) (n : ℕ) (h : Heads) (rows : L
   pub answer : r ≡ namesIn text starts sizes n h rows s codes indices k decls d owners
   pub lowest : (ts : List Token) (t : Text) (kinds : List ℕ) → Laid ts t kinds starts n codes indices k rows s decls d owners → WordsIn text ts sizes n → HeadsIn ts t h
       → r ≡ lowestOf (names t)
+
+-- the stage's answer, by position; and for a tree that the arrays hold the lowest offence of refusal 5
+pub record Finds (text starts sizes : List ℕ) (n : ℕ) (h : Heads) (rows : List ℕ) (s : ℕ) (codes indices : List ℕ) (k : ℕ) (decls : List ℕ) (d : ℕ) (owners : List ℕ) (r : Finding) : Type 0 where
+  pub answer : r ≡ findingFrom (namesIn text starts sizes n h rows s codes indices k decls d owners)
+  pub lowest : (ts : List Token) (t : Text) (kinds : List ℕ) → Laid ts t kinds starts n codes indices k rows s decls d owners → WordsIn text ts sizes n → HeadsIn ts t h
+      → r ≡ findingOf (names t)

@@ -1,10 +1,11 @@
 // Names: the declaration that each name stands for, and refusal 5, "name unknown, declared twice, end or of name differing, wrong kind as target, output read".
-// The answer of refusal 5 is 0, or the lowest place plus 1.
+// Inner functions answer 0, or the lowest place plus 1.
 ghost use mathlib.Core.Path.{_≡_};
 ghost use Prim.Native.Nat.{_<_};
 ghost use Rattle.scope.specs.Positions.{sameIn, ownerIn, filled, differsIn, headsIn, doubledAt, fitsIn, targetAt, readableIn, readAt, doubledIn, targetsIn, readsIn};
 ghost use Rattle.scope.specs.Resolves.{Resolves};
-ghost use Rattle.scope.specs.Judges.{Judges};
+ghost use Rattle.scope.specs.Judges.{Judges, Finds};
+use syntax::Finding;
 
 // The indices of the entity's and the architecture's names.
 pub struct Heads {
@@ -282,7 +283,7 @@ fn reads(
 }
 
 // The lowest place of refusal 5 plus 1, or 0.
-pub fn names(
+fn lowest_place(
     text: &[u8],
     starts: &[u16; 16384],
     sizes: &[u16; 16384],
@@ -304,4 +305,39 @@ pub fn names(
     let wrong = targets(rows, s, starts, owners, n, decls, d);
     let read = reads(codes, indices, k, starts, owners, n, decls, d);
     syntax::lower(differ, syntax::lower(twice, syntax::lower(wrong, read)))
+}
+
+// The lowest offence of refusal 5.
+pub fn names(
+    text: &[u8],
+    starts: &[u16; 16384],
+    sizes: &[u16; 16384],
+    n: usize,
+    h: Heads,
+    rows: &[u16; 3072],
+    s: usize,
+    codes: &[u8; 16384],
+    indices: &[u16; 16384],
+    k: usize,
+    decls: &[u16; 390],
+    d: usize,
+    owners: &[u8; 16384],
+) -> Finding
+    ensures { λ r. ⌜ Finds (now (text .entry)) (now (starts .entry)) (now (sizes .entry)) n h (now (rows .entry)) s (now (codes .entry)) (now (indices .entry)) k (now (decls .entry)) d (now (owners .entry)) r ⌝ }
+{
+    syntax::found(lowest_place(
+        text,
+        starts,
+        sizes,
+        n,
+        h,
+        rows,
+        s,
+        codes,
+        indices,
+        k,
+        decls,
+        d,
+        owners,
+    ))
 }

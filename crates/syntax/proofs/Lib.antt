@@ -1,3 +1,4 @@
 pub mod Lowest
 pub mod Kinded
+pub mod Named
 pub mod Stored

@@ -1,12 +1,14 @@
 -- Laws of the lowest place of a stage. Assumes nothing.
 use mathlib.Core.Path.{_≡_, refl, sym, _∙_, ap}
 use mathlib.Core.Bool.{Bool, true, false}
-use mathlib.Core.Option.{none, some}
+use mathlib.Core.Option.{Option, none, some}
 use mathlib.Core.List.{List, [], _∷_, _++_}
-use Prim.Native.Nat.{ℕ, zero, suc, _+_, min, _≤_, _<_}
+use Prim.Native.Nat.{ℕ, zero, suc, _+_, _-_, min, _≤_, _<_}
 use native.Mathlib.Omega.{arith}
 use Rattle.language.specs.Lists.{unless, each, least, lowest}
-use Rattle.syntax.specs.Lowest.{number, lowestOf, lower}
+use Rattle.syntax.specs.declared.Finding.{Finding}
+use Rattle.syntax.specs.declared.Finding.the-variants.{Offence}
+use Rattle.syntax.specs.Lowest.{number, lowestOf, lower, findingAt, findingOf, findingFrom}
 
 pub lower-none : (a : ℕ) → lower a 0 ≡ a
 unfolding lower
@@ -61,3 +63,17 @@ lowest-fine b p e = rw e
 pub lowest-each : {A : Type 0} (f : A → List ℕ) (a : A) (l : List A) (n : ℕ) → lower n (lowestOf (each f (a ∷ l))) ≡ lower (lower n (lowestOf (f a))) (lowestOf (each f l))
 unfolding each
 lowest-each f a l n = ap (lower n) (lowest-append (f a) (each f l)) ∙ sym (lower-assoc n (lowestOf (f a)) (lowestOf (each f l)))
+
+-- a number that is not 0 tells a place
+pub offence-at : (a : ℕ) → (a ≡ 0 → ⊥) → Offence (a - 1) ≡ findingFrom a
+offence-at zero h = absurd (h refl)
+offence-at (suc a) h = let z : suc a - 1 ≡ a = omega arith in ap Offence z
+
+-- a stage's answer from the number is the one for its offences
+finding-number : (o : Option ℕ) → findingFrom (number o) ≡ findingAt o
+unfolding number
+finding-number none = refl
+finding-number (some p) = refl
+
+pub finding-lowest : {r : Finding} {a : ℕ} (l : List ℕ) → r ≡ findingFrom a → a ≡ lowestOf l → r ≡ findingOf l
+finding-lowest l e h = e ∙ (ap findingFrom h ∙ finding-number (lowest l))

@@ -1,8 +1,10 @@
--- The lowest place of a stage as one number: 0 for none, else the place plus 1. Assumes nothing.
+-- The lowest place of a stage as one number, 0 for none, else the place plus 1; and what a stage answers. Assumes nothing.
 use mathlib.Core.Option.{Option, none, some}
 use mathlib.Core.List.{List}
 use Prim.Native.Nat.{ℕ, zero, suc, min}
 use Rattle.language.specs.Lists.{lowest}
+use Rattle.syntax.specs.declared.Finding.{Finding}
+use Rattle.syntax.specs.declared.Finding.the-variants.{Nothing, Offence}
 
 -- a place that is there or not
 unfoldable pub number : Option ℕ → ℕ
@@ -18,3 +20,17 @@ unfoldable pub lower : ℕ → ℕ → ℕ
 lower zero b = b
 lower (suc a) zero = suc a
 lower (suc a) (suc b) = suc (min a b)
+
+-- a place that is there or not, as a stage's answer
+abbrev pub findingAt : Option ℕ → Finding
+findingAt none = Nothing
+findingAt (some p) = Offence p
+
+-- "the lowest place first within a stage": a stage's answer for its offences
+abbrev pub findingOf : List ℕ → Finding
+findingOf l = findingAt (lowest l)
+
+-- the same from the lowest place as one number
+abbrev pub findingFrom : ℕ → Finding
+findingFrom zero = Nothing
+findingFrom (suc p) = Offence p

@@ -1,8 +1,14 @@
-// What the stages after parsing share: a token's place, and the lowest place of a stage as one number (0 for none, else the place plus 1).
+// What the stages after parsing share: a token's place, the lowest place of a stage as one number (0 for none, else the place plus 1), and a stage's answer.
 ghost use mathlib.Core.Path.{_≡_};
 ghost use Rattle.language.specs.Lists.{unless};
-ghost use Rattle.syntax.specs.Lowest.{lowestOf, lower as lowerOf};
+ghost use Rattle.syntax.specs.Lowest.{lowestOf, lower as lowerOf, findingFrom};
 ghost use Rattle.syntax.specs.Arrays.{numberIn};
+
+// What a stage finds in a tree: no offence, or the lowest place of one.
+pub enum Finding {
+    Nothing,
+    Offence(usize),
+}
 
 // The place of the token at an index, or 0 past the last.
 pub fn place_at(places: &[u16; 16384], n: usize, i: usize) -> u16
@@ -41,4 +47,14 @@ pub fn offence(ok: bool, place: u16) -> usize
         return 0;
     }
     place as usize + 1
+}
+
+// A stage's answer from its lowest place as one number.
+pub fn found(low: usize) -> Finding
+    ensures { λ r. ⌜ r ≡ findingFrom low ⌝ }
+{
+    if low == 0 {
+        return Finding::Nothing;
+    }
+    Finding::Offence(low - 1)
 }

@@ -10,11 +10,13 @@ use Rattle.design.specs.Expression.{Leaf, int, bit, input, variable, Unary, Bin
 use Rattle.design.specs.Statement.{Act, null, Stmt, act, wait, if-then, if-else, while, seq, size, totalItems}
 use Rattle.design.specs.Statement as D
 use Rattle.design.specs.Process.{Source, Slot, Process, sourceTypes, WellFormed}
-use Rattle.format.specs.Code.{Operation, push, apply1, apply2, post, others, operationBytes, code}
+use Rattle.format.specs.Code.{Operation, push, apply1, apply2, others, operationBytes, code}
 use Rattle.format.specs.Lines.{Line, waits, acts, branches, lines, linesOf, reachesOf}
 use Rattle.format.specs.Signature.{Cell, typeBytes, cellBytes, signatureBytes}
 use Rattle.format.specs.Image.{rawsBytes, rawsOf, lineCode, linesCode, pairs, joined, image, Sections, form1, sectionsFor, encodeTable}
 use Rattle.format.specs.Encode.{cells, signatureFor, tableOf, encode}
+use Rattle.design.proofs.Postfix.{Steps, lay-whole}
+use Rattle.format.proofs.Coding.{post-laid}
 use Rattle.language.specs.Validity.{Valid}
 use Rattle.language.proofs.WellFormed.{valid-well-formed}
 use Rattle.language.proofs.Room.{valid-room}
@@ -46,22 +48,23 @@ binary-bytes : (o : Binary) → length (operationBytes (apply2 o ∷ [])) ≡ 1
 unfolding operationBytes
 binary-bytes o = refl
 
--- at most 3 bytes an item and 2 more
+-- an operation's bytes before those of others
+bytes-before : (i : Operation) (k : List Operation) (m : ℕ) → length (operationBytes (i ∷ [])) ≤ m → length (operationBytes (i ∷ k)) ≤ m + length (operationBytes k)
+bytes-before i k m h = let e = bytes-append (i ∷ []) k in omega arith
+
+-- with n bytes before it, at most 3 bytes an item and 2 more
+room-steps : (r : ℕ) → Steps push apply1 apply2 (λ (e : Expr) (n : ℕ). Unit {0}) (λ (e : Expr) (n : ℕ). n + (3 * items e + 2)) (λ (k : List Operation) (n : ℕ). n + length (operationBytes k) ≤ r)
+unfolding items
+room-steps r =
+    record {
+      leaf = λ l n k f c. let h = bytes-before (push l) k 5 (leaf-bytes l) in omega arith;
+      unary = λ o t a n k f. (tt, λ c. let g = unary-bytes o in let h = bytes-before (apply1 o) k 1 (omega arith) in omega arith);
+      binary = λ o t a b n k f. (tt, tt, λ c. let g = binary-bytes o in let h = bytes-before (apply2 o) k 1 (omega arith) in omega arith);
+    }
+
 code-room : (e : Expr) → length (code e) ≤ 3 * items e + 2
-unfolding code post items
-code-room (leaf l) = let h = leaf-bytes l in omega arith
-code-room (unary o t a) =
-    let h = code-room a in
-    let k = bytes-append (post a) (apply1 o ∷ []) in
-    let l = unary-bytes o in
-    omega arith
-code-room (binary o t a b) =
-    let h = code-room a in
-    let g = code-room b in
-    let k = bytes-append (post a) (post b ++ (apply2 o ∷ [])) in
-    let j = bytes-append (post b) (apply2 o ∷ []) in
-    let l = binary-bytes o in
-    omega arith
+unfolding code operationBytes
+code-room e = let h = lay-whole post-laid (room-steps (3 * items e + 2)) e 0 tt (omega arith) in omega arith
 
 linesCode-append : (a b : List Line) → length (linesCode (a ++ b)) ≡ length (linesCode a) + length (linesCode b)
 unfolding linesCode

@@ -1,14 +1,13 @@
--- The items of an expression, one after the other, leave its type and its lowest offence. Assumes nothing.
-use mathlib.Core.Path.{_≡_, ap, _∙_}
+-- The items of an expression, one after the other, leave its type and its lowest offence: by the law of postfix items. Assumes nothing.
+use mathlib.Core.Path.{_≡_, refl, sym, ap, _∙_}
 use mathlib.Core.Option.{Option}
-use mathlib.Core.List.{List, [], _∷_, _++_, append-assoc}
+use mathlib.Core.List.{List, _∷_, [], _++_}
 use Prim.Native.Nat.{ℕ, _+_, _≤_, _<_}
 use native.Mathlib.Omega.{arith}
 use borrow.Author.Tests.{lt-ltb, le-ltb}
 use lib.ListN.{length}
 use Rattle.grammar.specs.Token.{Token}
 use Rattle.grammar.specs.Tree.{Expr, sign, negate, binary, parens}
-use Rattle.grammar.specs.Tree as T
 use Rattle.grammar.specs.Limits.{itemCount}
 use Rattle.design.specs.Types.{ExprTy}
 use Rattle.design.specs.Expression.{sumType, logicalType}
@@ -16,6 +15,7 @@ use Rattle.language.specs.Lists.{unless, lowest}
 use Rattle.language.specs.Declarations.{Decl, find, typeIn}
 use Rattle.language.specs.Typing.{operatorOf, resultOf, onOne, onTwo, typeOf, typesIn, wrong1, wrong2}
 use Rattle.expressions.specs.Postfix.{Item, itemOf, binaryItem, postfix}
+use Rattle.expressions.proofs.Folds.{Steps, postfix-law}
 use Rattle.syntax.specs.Lowest.{number, lowestOf, lower}
 use Rattle.syntax.specs.Kinded.{KindedExpr}
 use Rattle.syntax.proofs.Lowest.{lower-none, lower-assoc, lowest-append}
@@ -43,6 +43,10 @@ module _ (Δ : List Decl) where
   name-step : (x : Token) (s : List ℕ) (b : ℕ) → length s < 64 → itemStep (itemOf 1 x) (work s b) ≡ work (typeCodeOf (typeIn (find Δ (x .value))) ∷ s) b
   unfolding itemStep stepWork pushed
   name-step x s b h = rw (lt-ltb (length s) 64 h)
+
+  -- a leaf has no offence
+  none-found : (s : List ℕ) (b : ℕ) (k : List Item) (r : Work) → listWork k (work s (lower b 0)) ≡ r → listWork k (work s b) ≡ r
+  none-found s b k r c = ap (λ (z : ℕ). listWork k (work s z)) (sym (lower-none b)) ∙ c
 
   -- an operator's place joins what was found before it
   join1 : (b : ℕ) (l : List ℕ) (a r : Option ExprTy) (p : ℕ)
@@ -72,22 +76,38 @@ module _ (Δ : List Decl) where
   binary-step x a c l m s b h k =
       rw (le-ltb (x .kind + 7) 4 (omega arith), le-ltb (x .kind + 7) 6 (omega arith), binary-law (x .kind) h k a c, join2 b l m a c (onTwo (resultOf (operatorOf (x .kind))) a c) (x .place))
 
+  -- what an expression needs: tokens of the right kinds, and room on the stack
+  abbrev Fits : Expr → Work → Type 0
+  Fits e w = KindedExpr e × (length (w .stack) + itemCount e ≤ 64)
+
+  -- its type on the stack, its lowest offence joined to what was found before it
+  abbrev judged : Expr → Work → Work
+  judged e w = work (typeCodeOf (typeOf Δ e) ∷ w .stack) (lower (w .lowest) (lowestOf (typesIn Δ e)))
+
+  -- an item that comes to v, and the items behind it
+  before : (i : Item) (k : List Item) (w v r : Work) → itemStep i w ≡ v → listWork k v ≡ r → listWork (i ∷ k) w ≡ r
+  unfolding listWork
+  before i k w v r e c = ap (listWork k) e ∙ c
+
+  steps : (r : Work) → Steps Fits judged (λ (k : List Item) (w : Work). listWork k w ≡ r)
+  unfolding typeOf typesIn itemCount typeCodeOf codeOf number lowest
+  steps r =
+      record {
+        number = λ x w k f c. before (itemOf 2 x) k w (work (2 ∷ w .stack) (w .lowest)) r (number-step x (w .stack) (w .lowest) (omega arith)) (none-found (2 ∷ w .stack) (w .lowest) k r c);
+        bit = λ x w k f c. before (itemOf 3 x) k w (work (1 ∷ w .stack) (w .lowest)) r (bit-step x (w .stack) (w .lowest) (omega arith)) (none-found (1 ∷ w .stack) (w .lowest) k r c);
+        name = λ x w k f c. before (itemOf 1 x) k w (work (typeCodeOf (typeIn (find Δ (x .value))) ∷ w .stack) (w .lowest)) r (name-step x (w .stack) (w .lowest) (omega arith)) (none-found (typeCodeOf (typeIn (find Δ (x .value))) ∷ w .stack) (w .lowest) k r c);
+        sign = λ x a w k f. ((f .0 .1, omega arith), λ c. before (itemOf 4 x) k (judged a w) (judged (sign x a) w) r (sign-step x (typeOf Δ a) (typesIn Δ a) (w .stack) (w .lowest)) c);
+        negate = λ x a w k f. ((f .0 .1, omega arith), λ c. before (itemOf 5 x) k (judged a w) (judged (negate x a) w) r (not-step x (typeOf Δ a) (typesIn Δ a) (w .stack) (w .lowest)) c);
+        binary = λ x a b w k f. (
+          (f .0 .1, omega arith),
+          (f .0 .2, omega arith),
+          λ c. before (binaryItem x) k (judged b (judged a w)) (judged (binary x a b) w) r
+              (binary-step x (typeOf Δ a) (typeOf Δ b) (typesIn Δ a) (typesIn Δ b) (w .stack) (w .lowest) (f .0 .0 .0) (f .0 .0 .1)) c,
+        );
+        parens = λ a w k f. (f, λ c. c);
+      }
+
   -- the items of an expression, whatever comes after them
   pub expr-law : (e : Expr) (k : List Item) (s : List ℕ) (b : ℕ) → KindedExpr e → length s + itemCount e ≤ 64
       → listWork (postfix e ++ k) (work s b) ≡ listWork k (work (typeCodeOf (typeOf Δ e) ∷ s) (lower b (lowestOf (typesIn Δ e))))
-  unfolding listWork postfix typeOf typesIn itemCount typeCodeOf codeOf number lowest
-  expr-law (T.number x) k s b w h = rw (number-step x s b (omega arith), lower-none b)
-  expr-law (T.bit x) k s b w h = rw (bit-step x s b (omega arith), lower-none b)
-  expr-law (T.name x) k s b w h = rw (name-step x s b (omega arith), lower-none b)
-  expr-law (sign x a) k s b w h =
-      rw (append-assoc (postfix a) (itemOf 4 x ∷ []) k)
-      (expr-law a (itemOf 4 x ∷ k) s b (w .1) (omega arith) ∙ ap (listWork k) (sign-step x (typeOf Δ a) (typesIn Δ a) s b))
-  expr-law (negate x a) k s b w h =
-      rw (append-assoc (postfix a) (itemOf 5 x ∷ []) k)
-      (expr-law a (itemOf 5 x ∷ k) s b (w .1) (omega arith) ∙ ap (listWork k) (not-step x (typeOf Δ a) (typesIn Δ a) s b))
-  expr-law (binary x a c) k s b w h =
-      rw (append-assoc (postfix a) (postfix c ++ (binaryItem x ∷ [])) k, append-assoc (postfix c) (binaryItem x ∷ []) k)
-      (expr-law a (postfix c ++ (binaryItem x ∷ k)) s b (w .1) (omega arith) ∙
-      (expr-law c (binaryItem x ∷ k) (typeCodeOf (typeOf Δ a) ∷ s) (lower b (lowestOf (typesIn Δ a))) (w .2) (omega arith) ∙
-      ap (listWork k) (binary-step x (typeOf Δ a) (typeOf Δ c) (typesIn Δ a) (typesIn Δ c) s b (w .0 .0) (w .0 .1))))
-  expr-law (parens a) k s b w h = expr-law a k s b w h
+  expr-law e k s b w h = postfix-law (steps (listWork k (judged e (work s b)))) e (work s b) k (w, h) refl

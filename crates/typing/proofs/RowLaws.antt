@@ -9,7 +9,6 @@ use borrow.Author.Tests.{ne-eqb, le-leb}
 use lib.ListN.{length, getD, length-append, length-map}
 use Rattle.grammar.specs.Token.{Token, NAME}
 use Rattle.grammar.specs.Tree.{Expr, Stmt, output, assign, null, wait, if-then, if-else, while, Body, only, andThen, Text}
-use Rattle.grammar.specs.Tree as T
 use Rattle.grammar.specs.Limits.{Each, itemCount, stmtExprs, bodyExprs}
 use Rattle.design.specs.Types.{ExprTy, boolean}
 use Rattle.language.specs.Lists.{unless, each, lowest}
@@ -17,7 +16,7 @@ use Rattle.language.specs.Declarations.{Decl, declared, find, typeIn, within, s
 use Rattle.language.specs.Typing.{typeOf, typesIn, wants, typesOf}
 use Rattle.language.proofs.WellTyped.{each-split, each-join}
 use Rattle.cursor.specs.Tokens.{tokenAt}
-use Rattle.expressions.specs.Postfix.{Item, itemOf, binaryItem, postfix}
+use Rattle.expressions.specs.Postfix.{Item, itemOf, postfix}
 use Rattle.expressions.specs.Written.{itemAtIndex}
 use Rattle.statements.specs.Entries.{Entry, stmtEntries, bodyEntries, entryItems}
 use Rattle.statements.specs.Rows.{Row, Line, seen, linesFrom}
@@ -27,6 +26,7 @@ use Rattle.syntax.specs.Headings.{headings, DeclsIn}
 use Rattle.syntax.specs.Kinded.{KindedExpr, KindedStmt, KindedBody}
 use Rattle.syntax.specs.Entries.{stmtEntry}
 use Rattle.syntax.proofs.Lowest.{lowest-append}
+use Rattle.syntax.proofs.Named.{IsNamed, postfix-named}
 use Rattle.typing.specs.Running.{lowestFrom}
 use Rattle.typing.specs.Operators.{codeOf, typeCodeOf}
 use Rattle.typing.specs.Expressions.{Sources, Work, work, nameAt, placeAt, stepWork, itemWork, itemsWork, topOf}
@@ -88,22 +88,6 @@ mutual
       let z = each-split Short (stmtExprs s) (bodyExprs b) l in
       each-join Ok (within s) (statements b) (stmt-ok s (k .0) (z .0)) (body-ok b (k .1) (z .1))
 
--- an item that is a name has a name's token
-abbrev Named : Item → Type 0
-Named i = i .code ≡ 1 → i .token .kind ≡ NAME
-
-postfix-named : (e : Expr) → KindedExpr e → Each Named (postfix e)
-unfolding postfix
-postfix-named (T.number x) k = ((λ z. omega arith), tt)
-postfix-named (T.bit x) k = ((λ z. omega arith), tt)
-postfix-named (T.name x) k = ((λ z. k), tt)
-postfix-named (T.sign x a) k = each-join Named (postfix a) (itemOf 4 x ∷ []) (postfix-named a (k .1)) ((λ z. omega arith), tt)
-postfix-named (T.negate x a) k = each-join Named (postfix a) (itemOf 5 x ∷ []) (postfix-named a (k .1)) ((λ z. omega arith), tt)
-postfix-named (T.binary x a b) k =
-    each-join Named (postfix a) (postfix b ++ (binaryItem x ∷ [])) (postfix-named a (k .1))
-    (each-join Named (postfix b) (binaryItem x ∷ []) (postfix-named b (k .2)) ((λ z. omega arith), tt))
-postfix-named (T.parens a) k = postfix-named a k
-
 -- the parts of two equal lists
 cons-head : {X : Type 0} {x y : X} {l m : List X} → x ∷ l ≡ y ∷ m → x ≡ y
 cons-head e = cc
@@ -111,7 +95,7 @@ cons-head e = cc
 cons-tail : {X : Type 0} {x y : X} {l m : List X} → x ∷ l ≡ y ∷ m → l ≡ m
 cons-tail e = cc
 
-named-as : {x y : Item} → x ≡ y → Named y → Named x
+named-as : {x y : Item} → x ≡ y → IsNamed y → IsNamed x
 named-as e h = rw e h
 
 -- the type that is read for a name does not matter for another item
@@ -129,7 +113,7 @@ wanted-law Δ a e p k h =
 
 module _ (ts : List Token) (kinds : List ℕ) (t : Text) (A : Sources) (ht : TokensIn ts kinds (A .places) (A .n)) (ho : OwnersIn ts (declared t) (A .owners) (A .n)) (hd : DeclsIn ts (headings t) (A .decls) (A .d)) where
   -- an item by its code and its token's index
-  item-law : (c i : ℕ) (w : Work) → Named (itemOf c (tokenAt ts i)) → stepWork c (nameAt A i) (placeAt A i) w ≡ itemStep (declared t) (itemOf c (tokenAt ts i)) w
+  item-law : (c i : ℕ) (w : Work) → IsNamed (itemOf c (tokenAt ts i)) → stepWork c (nameAt A i) (placeAt A i) w ≡ itemStep (declared t) (itemOf c (tokenAt ts i)) w
   unfolding itemStep
   item-law c i w h = ap (λ (p : ℕ). stepWork c (nameAt A i) p w) (place-law ts kinds (A .places) (A .n) i ht) ∙ go (ℕ-discrete c 1)
     where
@@ -138,7 +122,7 @@ module _ (ts : List Token) (kinds : List ℕ) (t : Text) (A : Sources) (ht : Tok
       go (no f) = step-other c (nameAt A i) (typeCodeOf (typeIn (find (declared t) (tokenAt ts i .value)))) (tokenAt ts i .place) w f
 
   -- items in the arrays, and those behind them
-  items-law : (is rest : List Item) (m : ℕ) (w : Work) → Each Named is → map (itemAtIndex ts) (placedFrom (A .codes) (A .indices) m (length (is ++ rest))) ≡ is ++ rest
+  items-law : (is rest : List Item) (m : ℕ) (w : Work) → Each IsNamed is → map (itemAtIndex ts) (placedFrom (A .codes) (A .indices) m (length (is ++ rest))) ≡ is ++ rest
       → itemsWork A m (length is) w ≡ listWork (declared t) is w
   unfolding itemsWork listWork placedFrom
   items-law [] rest m w n e = refl
@@ -184,7 +168,7 @@ module _ (ts : List Token) (kinds : List ℕ) (t : Text) (A : Sources) (ht : Tok
   judged-law (while x e a) k i h ek ei = rw ek (condition-law x e i (h .0) (h .1) ei)
 
   -- the items of a statement that is in order
-  ok-named : (s : Stmt) → Ok s → Each Named (stmtEntry s .items)
+  ok-named : (s : Stmt) → Ok s → Each IsNamed (stmtEntry s .items)
   unfolding stmtEntry
   ok-named (output x e) h = postfix-named e (h .1)
   ok-named (assign x e) h = postfix-named e (h .1)

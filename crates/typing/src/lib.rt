@@ -11,12 +11,13 @@ ghost use Rattle.grammar.specs.Token.{Token};
 ghost use Rattle.grammar.specs.Tree.{Text};
 ghost use Rattle.language.specs.Values.{values as valueOffences};
 ghost use Rattle.language.specs.Typing.{types as typeOffences};
-ghost use Rattle.syntax.specs.Lowest.{lowestOf};
+ghost use Rattle.syntax.specs.Lowest.{lowestOf, findingOf, findingFrom};
 ghost use Rattle.syntax.specs.Arrays.{TokensIn};
 ghost use Rattle.syntax.specs.Headings.{headings, DeclsIn};
 ghost use Rattle.typing.specs.Names.{valuesIn};
 ghost use Rattle.typing.specs.Expressions.{sources};
 ghost use Rattle.typing.specs.Statements.{typesIn, Laid};
+use syntax::Finding;
 
 // After an item: how many types are on the stack, and the lowest offence so far.
 struct Progress {
@@ -31,7 +32,7 @@ struct Judged {
 }
 
 // Refusal 7 of a text whose d declared names and n tokens stand in the arrays: 0 for none, else its place plus 1.
-pub fn values(decls: &[u16; 390], places: &[u16; 16384], n: usize, d: usize) -> usize
+fn lowest_value(decls: &[u16; 390], places: &[u16; 16384], n: usize, d: usize) -> usize
     ensures answer { λ r. ⌜ r ≡ valuesIn (now (decls .entry)) (now (places .entry)) n d ⌝ }
     ensures lowest { λ r. ⌜ ((ts : List Token) (kinds : List ℕ) (t : Text) → TokensIn ts kinds (now (places .entry)) n
         → DeclsIn ts (headings t) (now (decls .entry)) d → r ≡ lowestOf (valueOffences t)) ⌝ }
@@ -42,8 +43,17 @@ pub fn values(decls: &[u16; 390], places: &[u16; 16384], n: usize, d: usize) -> 
     0
 }
 
+// The lowest offence of refusal 7.
+pub fn values(decls: &[u16; 390], places: &[u16; 16384], n: usize, d: usize) -> Finding
+    ensures answer { λ r. ⌜ r ≡ findingFrom (valuesIn (now (decls .entry)) (now (places .entry)) n d) ⌝ }
+    ensures lowest { λ r. ⌜ ((ts : List Token) (kinds : List ℕ) (t : Text) → TokensIn ts kinds (now (places .entry)) n
+        → DeclsIn ts (headings t) (now (decls .entry)) d → r ≡ findingOf (valueOffences t)) ⌝ }
+{
+    syntax::found(lowest_value(decls, places, n, d))
+}
+
 // Refusal 6 of a text whose s statements, with their items, d declared names and n tokens stand in the arrays: 0 for none, else its place plus 1.
-pub fn types(
+fn lowest_type(
     codes: &[u8; 16384],
     indices: &[u16; 16384],
     places: &[u16; 16384],
@@ -78,4 +88,24 @@ pub fn types(
         return 0;
     }
     0
+}
+
+// The lowest offence of refusal 6.
+pub fn types(
+    codes: &[u8; 16384],
+    indices: &[u16; 16384],
+    places: &[u16; 16384],
+    owners: &[u8; 16384],
+    decls: &[u16; 390],
+    n: usize,
+    d: usize,
+    rows: &[u16; 3072],
+    s: usize,
+) -> Finding
+    ensures answer { λ r. ⌜ r ≡ findingFrom (typesIn (sources (now (codes .entry)) (now (indices .entry)) (now (places .entry)) (now (owners .entry)) (now (decls .entry)) n d) (now (rows .entry)) s) ⌝ }
+    ensures lowest { λ r. ⌜ ((ts : List Token) (kinds : List ℕ) (t : Text) (k : ℕ)
+        → Laid ts kinds t (sources (now (codes .entry)) (now (indices .entry)) (now (places .entry)) (now (owners .entry)) (now (decls .entry)) n d) k (now (rows .entry)) s
+        → r ≡ findingOf (typeOffences t)) ⌝ }
+{
+    syntax::found(lowest_type(codes, indices, places, owners, decls, n, d, rows, s))
 }

@@ -1,45 +1,20 @@
--- `typing::types` meets its contract: what is found by position is the lowest offence of the text. Assumes nothing.
-use native.Mathlib.Omega.{arith}
-use borrow.Author.Tests.{le-leb, lt-leb}
-use Rattle.typing.specs.Expressions.{sources}
-use Rattle.typing.proofs.TypeLaws.{types-judged}
+-- `typing::types` meets its contract: the lowest place as one number, told as an answer. Assumes nothing.
+use mathlib.Core.Path.{ap, _∙_}
+use Rattle.syntax.specs.Lowest.{findingFrom}
+use Rattle.syntax.proofs.Lowest.{finding-lowest}
+use Rattle.language.specs.Typing as W
 use borrow.Author.Needs.{needs}
 use Rattle.typing.proofs.types.Statement.{statement}
 use Rattle.typing.proofs.types.Tie as tie
 
-initials-from-requires : tie.Need-initials-from-requires
-initials-from-requires c κs = search needs
+lowest-type-requires : tie.Need-lowest-type-requires
+lowest-type-requires c κs = search needs
 
-statements-from-requires : tie.Need-statements-from-requires
-statements-from-requires c κs = search needs
-
-lower-requires : tie.Need-lower-requires
-lower-requires c κs = search needs
+found-requires : tie.Need-found-requires
+found-requires c κs = search needs
 
 returns : tie.Need-returns
-returns c =
-    let s = c .before .before .before .before .before .args in
-    let if1 = c .before .before .before .before .if1 in
-    let initials-from = c .before .before .initials-from in
-    let if2 = c .before .before .before .if2 in
-    types-judged (sources (s .codes .now) (s .indices .now) (s .places .now) (s .owners .now) (s .decls .now) (s .n) (s .d)) (s .rows .now) (s .s) (c .lower .result)
-    (initials-from .result) (c .before .statements-from .result) (if1 .taken) (if2 .taken) (initials-from .ensures) (c .before .statements-from .ensures)
-    (c .lower .ensures)
-
-returns-2 : tie.Need-returns-2
-returns-2 c = let s = c .before .before .args in
-    (rw (le-leb (s .d) 65 (c .before .if1 .taken), lt-leb (s .s) 512 (c .if2 .left)), λ ts kinds t k h. absurd (omega (arith, h .statements .short, c .if2 .left)))
-
-returns-3 : tie.Need-returns-3
-returns-3 c = let s = c .before .args in (rw (lt-leb (s .d) 65 (c .if1 .left)), λ ts kinds t k h. absurd (omega (arith, h .headed .short, c .if1 .left)))
+returns c = let a = c .before .lowest-type .ensures in (c .found .ensures ∙ ap findingFrom (a .0), λ ts kinds t k h. finding-lowest (W.types t) (c .found .ensures) (a .1 ts kinds t k h))
 
 pub types-spec : {M : Type 1} → statement M
-types-spec =
-    tie.close
-    (tie.spec
-    initials-from-requires
-    statements-from-requires
-    lower-requires
-    returns
-    returns-2
-    returns-3)
+types-spec = tie.close (tie.spec lowest-type-requires found-requires returns)

@@ -1,21 +1,20 @@
--- `typing::values` meets its contract: what is found by position is the lowest offence of the text. Assumes nothing.
-use native.Mathlib.Omega.{arith}
+-- `typing::values` meets its contract: the lowest place as one number, told as an answer. Assumes nothing.
+use mathlib.Core.Path.{ap, _∙_}
+use Rattle.syntax.specs.Lowest.{findingFrom}
+use Rattle.syntax.proofs.Lowest.{finding-lowest}
+use Rattle.language.specs.Values as W
 use borrow.Author.Needs.{needs}
-use borrow.Author.Tests.{lt-leb}
-use Rattle.typing.proofs.Groups.{values-judged}
 use Rattle.typing.proofs.values.Statement.{statement}
 use Rattle.typing.proofs.values.Tie as tie
 
-values-from-requires : tie.Need-values-from-requires
-values-from-requires c κs = search needs
+lowest-value-requires : tie.Need-lowest-value-requires
+lowest-value-requires c κs = search needs
+
+found-requires : tie.Need-found-requires
+found-requires c κs = search needs
 
 returns : tie.Need-returns
-returns c =
-    let s = c .before .before .args in
-    values-judged (s .places .now) (s .decls .now) (s .n) (s .d) (c .values-from .result) (c .before .if1 .taken) (c .values-from .ensures)
-
-returns-2 : tie.Need-returns-2
-returns-2 c = (rw (lt-leb (c .before .args .d) 65 (c .if1 .left)), λ ts kinds t h k. absurd (omega (arith, k .short, c .if1 .left)))
+returns c = let a = c .before .lowest-value .ensures in (c .found .ensures ∙ ap findingFrom (a .0), λ ts kinds t h k. finding-lowest (W.values t) (c .found .ensures) (a .1 ts kinds t h k))
 
 pub values-spec : {M : Type 1} → statement M
-values-spec = tie.close (tie.spec values-from-requires returns returns-2)
+values-spec = tie.close (tie.spec lowest-value-requires found-requires returns)
