@@ -31,8 +31,7 @@ pub record Fits (p : Process) : Type 0 where
   pub bytes : Bytes (encode p)
   pub fields : AllTwoBytes (rawsOf 0 (linesOf (p .body)) (reachesOf (p .body)))
 
--- "The opened image": the bytes are the image of the text's design, the opener gives back its table, and "The fresh state has place 512 and the
--- initial values"
+-- the bytes are the image of the text's design, the opener gives back its table, and "The fresh state has place 512 and the initial values"
 pub record OpensAs (text image : List ℕ) : Type 0 where
   pub process : Process
   pub accepts : verdict text ≡ accepted process
