@@ -75,6 +75,7 @@ accepted-fits text p e =
       whole = h;
       bytes = encode-bytes p w h;
       fields = lines-fields (tableOf p .signature) (length (linesOf (p .body))) (reachesOf (p .body)) 0 (linesOf (p .body)) (reachesOf (p .body)) (g .few-lines) (let r = code-room p h in omega arith) (g .lines);
+      reads = encode-opens p w h;
     }
 
 -- THE IMAGE WRITTEN

@@ -25,11 +25,12 @@ abbrev pub AllTwoBytes : List RawLine → Type 0
 AllTwoBytes [] = Unit {0}
 AllTwoBytes (w ∷ ws) = TwoBytes w × AllTwoBytes ws
 
--- "at most 65,535 bytes": the image of a process, each of its one-byte numbers and each two-byte field of its lines
+-- "at most 65,535 bytes": the image of a process, its one-byte numbers, the two-byte fields of its lines; and the opener reads back all that was put in
 pub record Fits (p : Process) : Type 0 where
   pub whole : length (encode p) ≤ 65535
   pub bytes : Bytes (encode p)
   pub fields : AllTwoBytes (rawsOf 0 (linesOf (p .body)) (reachesOf (p .body)))
+  pub reads : openOf (encode p) ≡ opened (tableOf p)
 
 -- the bytes are the image of the text's design, the opener gives back its table, and "The fresh state has place 512 and the initial values"
 pub record OpensAs (text image : List ℕ) : Type 0 where
