@@ -1,22 +1,18 @@
 -- What the front end's answer says of the verdict, and what the encoder's says of a compile. Assumes nothing.
 use mathlib.Core.Path.{_≡_, refl, sym, _∙_, ap, subst}
 use mathlib.Core.Bool.{Bool, true, false, cond}
-use mathlib.Core.List.{List, _∷_, _++_}
+use mathlib.Core.List.{List, _++_}
 use Prim.Native.Nat.{ℕ}
 use native.Mathlib.Omega.{arith}
-use lib.Dec.{leb, eqb}
+use lib.Dec.{leb}
 use lib.ListN.{length, drop}
 use lib.IntN.{ℤ}
 use Rattle.answers.specs.declared.Refusal.{Refusal}
 use Rattle.answers.specs.declared.Refusal.the-variants.{BufferTooShort}
 use Rattle.answers.specs.declared.Compiled.the-variants.{Written, NotCompiled}
 use Rattle.design.specs.Process.{Process, WellFormed}
-use Rattle.grammar.specs.Tree.{Text}
-use Rattle.grammar.specs.Limits.{Each}
-use Rattle.language.specs.Rules.{Rule, table}
-use Rattle.language.specs.Validity.{First, Refuses}
 use Rattle.language.specs.Verdict.{Verdict, accepted, refused, verdict}
-use Rattle.language.proofs.Judged.{accepts, refuses}
+use Rattle.language.proofs.Judged.{accepts}
 use Rattle.language.proofs.WellFormed.{valid-well-formed}
 use Rattle.format.specs.Encode.{encode}
 use Rattle.theorems.specs.Compile.{Compile, written, not-compiled, onVerdict, compileOf, written-into}
@@ -26,9 +22,9 @@ use Rattle.encoder.specs.Outcome.{answerFor, bufferFor}
 use Rattle.frontend.specs.declared.Front.{Front}
 use Rattle.frontend.specs.declared.Front.the-variants.{Accepted, Refused}
 use Rattle.frontend.specs.declared.layout.Counts.{Counts}
-use Rattle.frontend.specs.Answered.{refusalOf}
+use Rattle.answers.specs.Answers.{refusalOf}
 use Rattle.frontend.specs.Designs.{Holds}
-use Rattle.frontend.specs.Fronts.{FrontAs}
+use Rattle.frontend.specs.Fronts.{countsOf, DesignArrays, designArrays, FrontAs}
 use Rattle.compiler.specs.Compiles.{compiledOf}
 
 -- THE FRONT END
@@ -43,15 +39,15 @@ pub record Design (text ops : List ℕ) (args : List ℤ) (lines is os vs : List
 not-accepted : {A : Type 0} {c : Counts} {x : Refusal} → Accepted c ≡ Refused x → A
 not-accepted e = absurd (let z : _≡_ {A = ℕ} 0 1 = cc in omega arith)
 
-pub design-of : (text : List ℕ) {r : Front} {c : Counts} (ops : List ℕ) (args : List ℤ) (lines is os vs : List ℕ) (ps qs : List ℤ) → FrontAs (verdict text) r ops args lines is os vs ps qs → r ≡ Accepted c → Design text ops args lines is os vs ps qs c
-design-of text {r} {c} ops args lines is os vs ps qs f e = go (verdict text) refl f
+pub design-of : (text : List ℕ) {r : Front} {c : Counts} (before : DesignArrays) (ops : List ℕ) (args : List ℤ) (lines is os vs : List ℕ) (ps qs : List ℤ) → FrontAs (verdict text) r before (designArrays ops args lines is os vs ps qs) → r ≡ Accepted c → Design text ops args lines is os vs ps qs c
+design-of text {r} {c} before ops args lines is os vs ps qs f e = go (verdict text) refl f
   where
-    go : (v : Verdict) → verdict text ≡ v → FrontAs v r ops args lines is os vs ps qs → Design text ops args lines is os vs ps qs c
-    go (accepted p) h (d, g, k) =
-        let z : Accepted c ≡ Accepted d = sym e ∙ g in
-        let y : d ≡ c = cc in
+    go : (v : Verdict) → verdict text ≡ v → FrontAs v r before (designArrays ops args lines is os vs ps qs) → Design text ops args lines is os vs ps qs c
+    go (accepted p) h (g, k) =
+        let z : Accepted c ≡ Accepted (countsOf p) = sym e ∙ g in
+        let y : countsOf p ≡ c = cc in
         record { process = p; is-verdict = h; holds = subst (λ (u : Counts). Holds p ops args lines is os vs ps qs u) y k; formed = valid-well-formed (accepts text p .0 h) }
-    go (refused n k) h g = not-accepted (sym e ∙ g)
+    go (refused n k) h (g, u) = not-accepted (sym e ∙ g)
 
 -- THE COMPILE
 
@@ -59,34 +55,18 @@ pub compiled-accepted : {text ops : List ℕ} {args : List ℤ} {lines is os vs 
 unfolding compileOf
 compiled-accepted d b = ap (λ (v : Verdict). onVerdict v b) (d .is-verdict)
 
--- numbers of refusals of texts are 1 to 9
-first-number : {t : Text} {n p : ℕ} (rs : List Rule) → First t n p rs → Each (λ (r : Rule). eqb (r .number) 10 ≡ false) rs → eqb n 10 ≡ false
-first-number (r ∷ rs) (First.here e l) h = rw (sym e) (h .0)
-first-number (r ∷ rs) (First.there e f) h = first-number rs f (h .1)
-
-refusal-number : {text : List ℕ} {n k : ℕ} → Refuses text n k → eqb n 10 ≡ false
-unfolding table
-refusal-number (Refuses.too-long h) = refl
-refusal-number (Refuses.no-token h s) = refl
-refusal-number (Refuses.no-sentence ts h l e) = refl
-refusal-number (Refuses.past-limit ts h l e) = refl
-refusal-number (Refuses.offends q f) = first-number table f (refl, (refl, (refl, (refl, (refl, tt)))))
-
-small-number : (text : List ℕ) (n k : ℕ) → verdict text ≡ refused n k → eqb n 10 ≡ false
-small-number text n k e = refusal-number (refuses text n k .0 e)
-
 -- a refused text
-pub compiled-refused : (text : List ℕ) {r : Front} {x : Refusal} (ops : List ℕ) (args : List ℤ) (lines is os vs : List ℕ) (ps qs : List ℤ) (b : List ℕ) → FrontAs (verdict text) r ops args lines is os vs ps qs → r ≡ Refused x
+pub compiled-refused : (text : List ℕ) {r : Front} {x : Refusal} (before after : DesignArrays) (b : List ℕ) → FrontAs (verdict text) r before after → r ≡ Refused x
     → (NotCompiled x ≡ compiledOf (compileOf text b .answer)) × (b ≡ compileOf text b .buffer)
 unfolding compileOf
-compiled-refused text {r} {x} ops args lines is os vs ps qs b f e = go (verdict text) refl f
+compiled-refused text {r} {x} before after b f e = go (verdict text) refl f
   where
-    go : (v : Verdict) → verdict text ≡ v → FrontAs v r ops args lines is os vs ps qs → (NotCompiled x ≡ compiledOf (onVerdict v b .answer)) × (b ≡ onVerdict v b .buffer)
-    go (accepted p) h (d, g, k) = not-accepted (sym g ∙ e)
-    go (refused n k) h g =
+    go : (v : Verdict) → verdict text ≡ v → FrontAs v r before after → (NotCompiled x ≡ compiledOf (onVerdict v b .answer)) × (b ≡ onVerdict v b .buffer)
+    go (accepted p) h (g, k) = not-accepted (sym g ∙ e)
+    go (refused n k) h (g, u) =
         let z : Refused x ≡ Refused (refusalOf n k) = sym e ∙ g in
         let y : x ≡ refusalOf n k = cc in
-        (ap NotCompiled (y ∙ rw (small-number text n k h)), refl)
+        (ap NotCompiled y, refl)
 
 -- the encoder's answer is the compile's
 pub written-answer : {n : ℕ} {x : Encoded} (i b : List ℕ) → x ≡ answerFor i b → x ≡ E.Written n → Written n ≡ compiledOf (written-into i b .answer)

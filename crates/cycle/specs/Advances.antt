@@ -2,31 +2,18 @@
 use mathlib.Core.Path.{_≡_}
 use mathlib.Core.Bool.{Bool, true, false, cond}
 use mathlib.Core.List.{List, _++_}
-use Prim.Native.Nat.{ℕ}
 use lib.ListN.{length, take, drop}
 use lib.IntN.{ℤ}
-use lib.Dec.{eqb}
-use Rattle.answers.specs.declared.State.{State}
-use Rattle.answers.specs.declared.Refusal.{Refusal}
-use Rattle.answers.specs.declared.Refusal.the-variants.{BadSections, BadSignature, BadLine, BadRow, BadState, OutOfRange}
 use Rattle.answers.specs.declared.Cycled.{Cycled}
 use Rattle.answers.specs.declared.Cycled.the-variants.{Performed, NotPerformed}
+use Rattle.answers.specs.Answers.{refusalOf}
 use Rattle.semantics.specs.Calls.{Answer, performed, not-performed, Called}
 use Rattle.cycle.specs.declared.Advanced.{Advanced}
-
--- the refusal with that number and place, of those that a cycle can meet: 11 to 16
-abbrev pub refusalFor : ℕ → ℕ → Refusal
-refusalFor q k =
-    cond (eqb q 11) BadSections
-    (cond (eqb q 12) BadSignature
-    (cond (eqb q 13) (BadLine k)
-    (cond (eqb q 14) (BadRow k)
-    (cond (eqb q 15) BadState (OutOfRange k)))))
 
 -- "answers the number of lines performed": the length of the way; or the refusal
 abbrev pub cycledOf : Answer → Cycled
 cycledOf (performed way) = Performed (length way)
-cycledOf (not-performed q k) = NotPerformed (refusalFor q k)
+cycledOf (not-performed q k) = NotPerformed (refusalOf q k)
 
 -- whether a cycle was performed
 abbrev pub isPerformed : Cycled → Bool

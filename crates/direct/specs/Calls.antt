@@ -1,13 +1,10 @@
 -- What one call of the direct run answers and leaves, for a design that the arrays hold (document 01, "State", "Turned back"). Assumes nothing.
 use mathlib.Core.Path.{_≡_}
-use mathlib.Core.Bool.{cond}
 use mathlib.Core.List.{List, map}
 use Prim.Native.Nat.{ℕ}
 use lib.ListN.{length}
 use lib.IntN.{ℤ}
-use lib.Dec.{eqb}
-use Rattle.answers.specs.declared.Refusal.{Refusal}
-use Rattle.answers.specs.declared.Refusal.the-variants.{BadRow, BadState, OutOfRange}
+use Rattle.answers.specs.Answers.{refusalOf}
 use Rattle.answers.specs.declared.Cycled.{Cycled}
 use Rattle.answers.specs.declared.Cycled.the-variants.{Performed, NotPerformed}
 use Rattle.design.specs.Process.{Process, sourceTypes, slotTypes, WellFormed}
@@ -38,14 +35,10 @@ callOf i o = record { inputs = i; outputs = o }
 abbrev pub fedOf : List ℤ → ℕ → R.Call
 fedOf i n = record { inputs = i; room = n }
 
--- the refusal with that number and place, of 14, 15 and 16
-abbrev pub refusalFor : ℕ → ℕ → Refusal
-refusalFor q k = cond (eqb q 14) (BadRow k) (cond (eqb q 15) BadState (OutOfRange k))
-
 -- "answers the number of lines performed": the length of the way; or the refusal
 abbrev pub cycledOf : Answer → Cycled
 cycledOf (performed way) = Performed (length way)
-cycledOf (not-performed q k) = NotPerformed (refusalFor q k)
+cycledOf (not-performed q k) = NotPerformed (refusalOf q k)
 
 -- the answer and the state r, and the output row o as it is left, are those of the call c
 pub record Advances (c : Called) (r : Advanced) (o : List ℤ) : Type 0 where

@@ -2,13 +2,13 @@
 use mathlib.Core.Path.{_≡_, refl, sym, _∙_, ap, subst}
 use mathlib.Core.Bool.{Bool, true, false, cond}
 use mathlib.Core.Option.{Option, none, some}
-use mathlib.Core.List.{List, [], _∷_, _++_}
+use mathlib.Core.List.{List, [], _∷_}
 use Prim.Native.Nat.{ℕ, zero, suc, _≤_, _<_}
 use native.Mathlib.Omega.{arith}
 use lib.Dec.{leb, ltb}
-use lib.ListN.{length, getD}
+use lib.ListN.{length}
 use lib.IntN.{ℤ}
-use borrow.Author.Tests.{ltb-true, ltb-false, lt-ltb, le-ltb, le-leb, lt-leb}
+use borrow.Author.Tests.{ltb-true, ltb-false, le-leb, lt-leb}
 use Rattle.answers.specs.declared.Refusal.{Refusal}
 use Rattle.answers.specs.declared.Refusal.the-variants.{TextTooLong, NoToken}
 use Rattle.grammar.specs.Token.{Token}
@@ -16,7 +16,7 @@ use Rattle.grammar.specs.Tree.{Text}
 use Rattle.grammar.specs.Acceptance as P
 use Rattle.grammar.specs.Reader.{answer}
 use Rattle.grammar.proofs.Limits.{exactly-limits}
-use Rattle.design.specs.Process.{WellFormed}
+use Rattle.design.specs.Process.{Process, sourceTypes, slotTypes}
 use Rattle.language.specs.Lists.{lowest}
 use Rattle.language.specs.Lexer.{lex, tokens, malformed}
 use Rattle.language.specs.Lexer as L
@@ -49,15 +49,17 @@ use Rattle.syntax.proofs.Stored.{rows-held, items-held}
 use Rattle.offences.specs.Laid.{Laid}
 use Rattle.scope.specs.Resolves.{WordsIn, Resolves}
 use Rattle.offences.proofs.Tokens.{number-inside, picked, passed}
+use Rattle.ir.specs.Entries.{entries, entryOps}
 use Rattle.frontend.specs.declared.rules.Ruling.{Ruling}
 use Rattle.frontend.specs.declared.rules.Ruling.the-variants.{Free, Offended}
 use Rattle.frontend.specs.declared.Front.{Front}
 use Rattle.frontend.specs.declared.Front.the-variants.{Accepted, Refused}
 use Rattle.frontend.specs.declared.layout.Counts.{Counts}
-use Rattle.frontend.specs.Answered.{refusalOf, placeIn}
+use Rattle.answers.specs.Answers.{refusalOf}
+use Rattle.frontend.specs.Answered.{placeIn}
 use Rattle.frontend.specs.Stages.{ruledAs, Ruled}
 use Rattle.frontend.specs.Designs.{Holds, LaidOut}
-use Rattle.frontend.specs.Fronts.{TreeIn, FrontAs}
+use Rattle.frontend.specs.Fronts.{TreeIn, countsOf, DesignArrays, designArrays, FrontAs}
 use Rattle.frontend.proofs.Declared.{decls-held}
 
 -- THE RULES
@@ -85,9 +87,9 @@ pub free-text : (t : Text) → Free ≡ ruledAs (ruled table t) → Clean t × (
 free-text t e = let s = free-rules table t e in (clean t (s .0), s .1)
 
 -- an offence is the verdict's
-pub offended-as : (x : Refusal) (v : Verdict) → Offended x ≡ ruledAs v → (ops : List ℕ) (args : List ℤ) (lines is os vs : List ℕ) (ps qs : List ℤ) → FrontAs v (Refused x) ops args lines is os vs ps qs
-offended-as x (accepted p) e ops args lines is os vs ps qs = not-free x (sym e)
-offended-as x (refused n k) e ops args lines is os vs ps qs = let z : x ≡ refusalOf n k = cc in ap Refused z
+pub offended-as : (x : Refusal) (v : Verdict) → Offended x ≡ ruledAs v → (before after : DesignArrays) → after ≡ before → FrontAs v (Refused x) before after
+offended-as x (accepted p) e before after u = not-free x (sym e)
+offended-as x (refused n k) e before after u = let z : x ≡ refusalOf n k = cc in (ap Refused z, u)
 
 -- THE PARSER
 
@@ -135,6 +137,17 @@ place-is {ts} {kinds} {starts} {n} l i T = go (ltb i n) refl
 
 -- THE FRONT END, FROM ITS END TO ITS BEGINNING
 
+-- counts that are the same
+equal-counts : (s o i u v s′ o′ i′ u′ v′ : ℕ) → s′ ≡ s → o′ ≡ o → i′ ≡ i → u′ ≡ u → v′ ≡ v
+    → _≡_ {A = Counts} (record { statements = s; operations = o; inputs = i; outputs = u; variables = v }) (record { statements = s′; operations = o′; inputs = i′; outputs = u′; variables = v′ })
+equal-counts s o i u v s′ o′ i′ u′ v′ a b c d e = rw (a, b, c, d, e)
+
+-- the counts are those of the process that the arrays hold
+same-counts : (q : Process) (ops : List ℕ) (args : List ℤ) (lines is os vs : List ℕ) (ps qs : List ℤ) (c : Counts) → Holds q ops args lines is os vs ps qs c → c ≡ countsOf q
+same-counts q ops args lines is os vs ps qs c h =
+    equal-counts (c .statements) (c .operations) (c .inputs) (c .outputs) (c .variables) (length (entries (q .body))) (length (entryOps (entries (q .body)))) (length (sourceTypes (q .inputs))) (length (slotTypes (q .outputs)))
+    (length (slotTypes (q .variables))) (h .body .lines .count) (h .body .code .count) (h .declared .inputs .0) (h .declared .outputs .0) (h .declared .variables .0)
+
 module _ {text kinds starts sizes codes indices rows decls owners₀ owners : List ℕ} {n : ℕ} {p : Parsed} {x : Ruling}
     (R : Ruled text starts sizes n p codes indices rows decls owners x) (O : Resolves text kinds starts sizes n decls (p .names) owners₀ owners) (room : length owners₀ ≡ 16384) (ts : List Token) (t : Text)
     (I : TreeIn text ts t kinds starts sizes n p codes indices rows decls) where
@@ -153,16 +166,18 @@ module _ {text kinds starts sizes codes indices rows decls owners₀ owners : Li
   decided = R .is ts t kinds all-laid (I .words) (I .heads) (I .process) (I .limits)
 
   -- no rule is offended: the arrays of the design
-  pub front-free : {ops : List ℕ} {args : List ℤ} {lines is os vs : List ℕ} {ps qs : List ℤ} {c : Counts} → x ≡ Free → LaidOut text kinds starts sizes n p codes indices rows decls owners ops args lines is os vs ps qs c
-      → FrontAs (ruled table t) (Accepted c) ops args lines is os vs ps qs
-  front-free {c = c} e l =
+  pub front-free : {ops : List ℕ} {args : List ℤ} {lines is os vs : List ℕ} {ps qs : List ℤ} {c : Counts} (before : DesignArrays) → x ≡ Free → LaidOut text kinds starts sizes n p codes indices rows decls owners ops args lines is os vs ps qs c
+      → FrontAs (ruled table t) (Accepted c) before (designArrays ops args lines is os vs ps qs)
+  front-free {ops} {args} {lines} {is} {os} {vs} {ps} {qs} {c} before e l =
       let s = free-text t (sym e ∙ decided) in
       let q = s .0 in
-      rw (s .1) (c, refl, l .holds ts t all-laid (I .words) (I .limits) (q .names) (q .clock) (well-formed t (I .moded) (I .limits) q))
+      let h = l .holds ts t all-laid (I .words) (I .limits) (q .names) (q .clock) (well-formed t (I .moded) (I .limits) q) in
+      let w = same-counts (elaborate t) ops args lines is os vs ps qs c h in
+      rw (s .1) (ap Accepted w, subst (λ (u : Counts). Holds (elaborate t) ops args lines is os vs ps qs u) w h)
 
   -- a rule is offended: its refusal
-  pub front-offended : (y : Refusal) (ops : List ℕ) (args : List ℤ) (lines is os vs : List ℕ) (ps qs : List ℤ) → x ≡ Offended y → FrontAs (ruled table t) (Refused y) ops args lines is os vs ps qs
-  front-offended y ops args lines is os vs ps qs e = offended-as y (ruled table t) (sym e ∙ decided) ops args lines is os vs ps qs
+  pub front-offended : (y : Refusal) (before after : DesignArrays) → after ≡ before → x ≡ Offended y → FrontAs (ruled table t) (Refused y) before after
+  front-offended y before after u e = offended-as y (ruled table t) (sym e ∙ decided) before after u
 
 not-tree : {A : Type 0} {p : Parsed} {k i : ℕ} → Tree p ≡ NotParsed k i → A
 not-tree e = absurd (let z : _≡_ {A = ℕ} 0 1 = cc in omega arith)
@@ -170,14 +185,14 @@ not-tree e = absurd (let z : _≡_ {A = ℕ} 0 1 = cc in omega arith)
 module _ {text kinds starts sizes codes₀ codes indices₀ indices rows₀ rows decls₀ decls : List ℕ} {n : ℕ} {x : Parsing} (l : ℕ) (ts : List Token)
     (P₁ : Parses ts (lent (output (arrays codes₀ indices₀) rows₀) decls₀) (lent (output (arrays codes indices) rows) decls) x) (T : TokensIn ts kinds starts n) where
   -- a tree was read: the rules decide
-  pub front-tree : {p : Parsed} (r : Front) (ops : List ℕ) (args : List ℤ) (lines is os vs : List ℕ) (ps qs : List ℤ) → x ≡ Tree p → WordsIn text ts sizes n
+  pub front-tree : {p : Parsed} (r : Front) (before after : DesignArrays) → x ≡ Tree p → WordsIn text ts sizes n
       → length codes₀ ≡ 16384 → length indices₀ ≡ 16384 → length rows₀ ≡ 3072 → length decls₀ ≡ 390
-      → ((t : Text) → TreeIn text ts t kinds starts sizes n p codes indices rows decls → FrontAs (ruled table t) r ops args lines is os vs ps qs)
-      → FrontAs (parsed l ts (answer ts)) r ops args lines is os vs ps qs
+      → ((t : Text) → TreeIn text ts t kinds starts sizes n p codes indices rows decls → FrontAs (ruled table t) r before after)
+      → FrontAs (parsed l ts (answer ts)) r before after
   unfolding parsed
-  front-tree {p} r ops args lines is os vs ps qs e Q lc li lr ld f = go (answer ts) refl (P₁ .is)
+  front-tree {p} r before after e Q lc li lr ld f = go (answer ts) refl (P₁ .is)
     where
-      go : (a : P.Answer) → answer ts ≡ a → parsesAs ts (lent (output (arrays codes₀ indices₀) rows₀) decls₀) (lent (output (arrays codes indices) rows) decls) a x → FrontAs (parsed l ts a) r ops args lines is os vs ps qs
+      go : (a : P.Answer) → answer ts ≡ a → parsesAs ts (lent (output (arrays codes₀ indices₀) rows₀) decls₀) (lent (output (arrays codes indices) rows) decls) a x → FrontAs (parsed l ts a) r before after
       go (P.accepted t) h (q, g, w) =
           let z : Tree p ≡ Tree q = sym e ∙ g in
           let y : q ≡ p = cc in
@@ -188,60 +203,60 @@ module _ {text kinds starts sizes codes₀ codes indices₀ indices rows₀ rows
 module _ {kinds starts codes₀ codes indices₀ indices rows₀ rows decls₀ decls : List ℕ} {n : ℕ} {x : Parsing} (l : ℕ) (ts : List Token)
     (P₁ : Parses ts (lent (output (arrays codes₀ indices₀) rows₀) decls₀) (lent (output (arrays codes indices) rows) decls) x) (T : TokensIn ts kinds starts n) where
   -- no tree was read: refusal 3 or 4 at the token's place
-  pub front-unread : {k i w : ℕ} (y : Refusal) (ops : List ℕ) (args : List ℤ) (lines is os vs : List ℕ) (ps qs : List ℤ) → x ≡ NotParsed k i → w ≡ placeIn starts n l i → ((k ≡ 3) → y ≡ refusalOf 3 w) × ((k ≡ 4) → y ≡ refusalOf 4 w)
-      → FrontAs (parsed l ts (answer ts)) (Refused y) ops args lines is os vs ps qs
+  pub front-unread : {k i w : ℕ} (y : Refusal) (before after : DesignArrays) → after ≡ before → x ≡ NotParsed k i → w ≡ placeIn starts n l i → ((k ≡ 3) → y ≡ refusalOf 3 w) × ((k ≡ 4) → y ≡ refusalOf 4 w)
+      → FrontAs (parsed l ts (answer ts)) (Refused y) before after
   unfolding parsed
-  front-unread {k} {i} {w} y ops args lines is os vs ps qs e hw hy = go (answer ts) (P₁ .is)
+  front-unread {k} {i} {w} y before after u e hw hy = go (answer ts) (P₁ .is)
     where
       at : (j : ℕ) → i ≡ j → w ≡ placeOf l ts j
       at j h = hw ∙ (place-is l i T ∙ ap (placeOf l ts) h)
 
-      go : (a : P.Answer) → parsesAs ts (lent (output (arrays codes₀ indices₀) rows₀) decls₀) (lent (output (arrays codes indices) rows) decls) a x → FrontAs (parsed l ts a) (Refused y) ops args lines is os vs ps qs
+      go : (a : P.Answer) → parsesAs ts (lent (output (arrays codes₀ indices₀) rows₀) decls₀) (lent (output (arrays codes indices) rows) decls) a x → FrontAs (parsed l ts a) (Refused y) before after
       go (P.accepted t) (q, g, _) = not-tree (sym g ∙ e)
       go (P.no-sentence j) g =
           let z : NotParsed k i ≡ NotParsed 3 j = sym e ∙ g in
           let a : k ≡ 3 = cc in
           let b : i ≡ j = cc in
-          ap Refused (hy .0 a ∙ ap (refusalOf 3) (at j b))
+          (ap Refused (hy .0 a ∙ ap (refusalOf 3) (at j b)), u)
       go (P.past-limit j) g =
           let z : NotParsed k i ≡ NotParsed 4 j = sym e ∙ g in
           let a : k ≡ 4 = cc in
           let b : i ≡ j = cc in
-          ap Refused (hy .1 a ∙ ap (refusalOf 4) (at j b))
+          (ap Refused (hy .1 a ∙ ap (refusalOf 4) (at j b)), u)
 
 not-tokens : {A : Type 0} {n : ℕ} {x : Refusal} → Tokens n ≡ NotLexed x → A
 not-tokens e = absurd (let z : _≡_ {A = ℕ} 0 1 = cc in omega arith)
 
 -- the text has tokens: the parser decides
-pub front-tokens : (text : List ℕ) (n : ℕ) (r : Front) (ops : List ℕ) (args : List ℤ) (lines is os vs : List ℕ) (ps qs : List ℤ) → Tokens n ≡ X.lexed text
-    → ((ts : List Token) → lex text ≡ tokens ts → FrontAs (parsed (length text) ts (answer ts)) r ops args lines is os vs ps qs) → FrontAs (verdict text) r ops args lines is os vs ps qs
+pub front-tokens : (text : List ℕ) (n : ℕ) (r : Front) (before after : DesignArrays) → Tokens n ≡ X.lexed text
+    → ((ts : List Token) → lex text ≡ tokens ts → FrontAs (parsed (length text) ts (answer ts)) r before after) → FrontAs (verdict text) r before after
 unfolding verdict X.lexed lexed
-front-tokens text n r ops args lines is os vs ps qs e f = go (ltb 16384 (length text)) refl (lex text) refl e
+front-tokens text n r before after e f = go (ltb 16384 (length text)) refl (lex text) refl e
   where
     go : (b : Bool) → ltb 16384 (length text) ≡ b → (k : L.Lexed) → lex text ≡ k → Tokens n ≡ cond b (NotLexed TextTooLong) (counted 0 k)
-        → FrontAs (cond (leb (length text) 16384) (lexed (length text) k) (refused 1 0)) r ops args lines is os vs ps qs
+        → FrontAs (cond (leb (length text) 16384) (lexed (length text) k) (refused 1 0)) r before after
     go true q k h g = not-tokens g
     go false q (tokens ts) h g = rw (le-leb (length text) 16384 (let z = ltb-false 16384 (length text) q in omega arith)) (f ts h)
     go false q (malformed p) h g = not-tokens g
 
 -- the text has none: refusal 1 or 2
-pub front-not-lexed : (text : List ℕ) (x : Refusal) (ops : List ℕ) (args : List ℤ) (lines is os vs : List ℕ) (ps qs : List ℤ) → NotLexed x ≡ X.lexed text → FrontAs (verdict text) (Refused x) ops args lines is os vs ps qs
+pub front-not-lexed : (text : List ℕ) (x : Refusal) (before after : DesignArrays) → after ≡ before → NotLexed x ≡ X.lexed text → FrontAs (verdict text) (Refused x) before after
 unfolding verdict X.lexed lexed
-front-not-lexed text x ops args lines is os vs ps qs e = go (ltb 16384 (length text)) refl (lex text) e
+front-not-lexed text x before after u e = go (ltb 16384 (length text)) refl (lex text) e
   where
     go : (b : Bool) → ltb 16384 (length text) ≡ b → (k : L.Lexed) → NotLexed x ≡ cond b (NotLexed TextTooLong) (counted 0 k)
-        → FrontAs (cond (leb (length text) 16384) (lexed (length text) k) (refused 1 0)) (Refused x) ops args lines is os vs ps qs
-    go true q k g = let z : x ≡ TextTooLong = cc in rw (lt-leb (length text) 16384 (ltb-true 16384 (length text) q)) (ap Refused z)
+        → FrontAs (cond (leb (length text) 16384) (lexed (length text) k) (refused 1 0)) (Refused x) before after
+    go true q k g = let z : x ≡ TextTooLong = cc in rw (lt-leb (length text) 16384 (ltb-true 16384 (length text) q)) (ap Refused z, u)
     go false q (tokens ts) g = not-tokens (sym g)
-    go false q (malformed p) g = let z : x ≡ NoToken p = cc in rw (le-leb (length text) 16384 (let y = ltb-false 16384 (length text) q in omega arith)) (ap Refused z)
+    go false q (malformed p) g = let z : x ≡ NoToken p = cc in rw (le-leb (length text) 16384 (let y = ltb-false 16384 (length text) q in omega arith)) (ap Refused z, u)
 
 -- the text was lexed and its tokens marked: the parser decides
-pub front-lexed : (text kinds₀ kinds starts₀ starts sizes₀ sizes long₀ long : List ℕ) (n : ℕ) {x : Lexed} (r : Front) (ops : List ℕ) (args : List ℤ) (lines is os vs : List ℕ) (ps qs : List ℤ) → x ≡ Tokens n
+pub front-lexed : (text kinds₀ kinds starts₀ starts sizes₀ sizes long₀ long : List ℕ) (n : ℕ) {x : Lexed} (r : Front) (before after : DesignArrays) → x ≡ Tokens n
     → X.Lexing text x kinds₀ kinds starts₀ starts sizes₀ sizes → long ≡ marked text kinds starts sizes n long₀ → length kinds₀ ≡ 16384 → length starts₀ ≡ 16384 → length sizes₀ ≡ 16384 → length long₀ ≡ 16384
-    → ((ts : List Token) → TokensIn ts kinds starts n → WordsIn text ts sizes n → C.Holds ts kinds long n → FrontAs (parsed (length text) ts (answer ts)) r ops args lines is os vs ps qs)
-    → FrontAs (verdict text) r ops args lines is os vs ps qs
-front-lexed text kinds₀ kinds starts₀ starts sizes₀ sizes long₀ long n r ops args lines is os vs ps qs e lx m lk ls lz ll f =
-    front-tokens text n r ops args lines is os vs ps qs (l .answer)
+    → ((ts : List Token) → TokensIn ts kinds starts n → WordsIn text ts sizes n → C.Holds ts kinds long n → FrontAs (parsed (length text) ts (answer ts)) r before after)
+    → FrontAs (verdict text) r before after
+front-lexed text kinds₀ kinds starts₀ starts sizes₀ sizes long₀ long n r before after e lx m lk ls lz ll f =
+    front-tokens text n r before after (l .answer)
     (λ ts t.
     f ts (tokens-held text kinds₀ kinds starts₀ starts sizes₀ sizes n ts l t lk ls)
     (record { size = sizes-held text kinds₀ kinds starts₀ starts sizes₀ sizes n ts l t lz; valued = values-held text kinds₀ kinds starts₀ starts sizes₀ sizes n ts l t })

@@ -1,6 +1,6 @@
 -- The rules in table order, each asked where those before it are kept. Assumes nothing.
 use mathlib.Core.Path.{_≡_, refl, sym, _∙_, ap}
-use mathlib.Core.List.{List, [], _∷_}
+use mathlib.Core.List.{[], _∷_}
 use Prim.Native.Nat.{ℕ}
 use Rattle.grammar.specs.Tree.{Text}
 use Rattle.language.specs.Rules.{Rule, table}

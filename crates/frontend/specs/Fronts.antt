@@ -2,10 +2,12 @@
 use mathlib.Core.Path.{_≡_}
 use mathlib.Core.List.{List}
 use Prim.Native.Nat.{ℕ}
+use lib.ListN.{length}
 use lib.IntN.{ℤ}
 use Rattle.grammar.specs.Token.{Token}
 use Rattle.grammar.specs.Tree.{Text}
 use Rattle.grammar.specs.Limits.{WithinLimits}
+use Rattle.design.specs.Process.{Process, sourceTypes, slotTypes}
 use Rattle.language.specs.Verdict.{Verdict, accepted, refused}
 use Rattle.language.proofs.Modes.{Moded}
 use Rattle.cursor.specs.Tokens.{tokenAt}
@@ -16,10 +18,11 @@ use Rattle.syntax.specs.Headings.{headings, DeclsIn}
 use Rattle.syntax.specs.Kinded.{Kinded}
 use Rattle.scope.specs.Resolves.{WordsIn}
 use Rattle.scope.specs.Judges.{HeadsIn}
+use Rattle.ir.specs.Entries.{entries, entryOps}
 use Rattle.frontend.specs.declared.Front.{Front}
 use Rattle.frontend.specs.declared.Front.the-variants.{Accepted, Refused}
 use Rattle.frontend.specs.declared.layout.Counts.{Counts}
-use Rattle.frontend.specs.Answered.{refusalOf}
+use Rattle.answers.specs.Answers.{refusalOf}
 use Rattle.frontend.specs.Stages.{headsOf}
 use Rattle.frontend.specs.Designs.{Holds}
 
@@ -36,7 +39,42 @@ pub record TreeIn (text : List ℕ) (ts : List Token) (t : Text) (kinds starts s
   pub moded : Moded t
   pub limits : WithinLimits t
 
--- an accepted text has the arrays of its process; a refused one its refusal
-abbrev pub FrontAs : Verdict → Front → List ℕ → List ℤ → List ℕ → List ℕ → List ℕ → List ℕ → List ℤ → List ℤ → Type 0
-FrontAs (accepted p) r ops args lines is os vs ps qs = (c : Counts) × (r ≡ Accepted c) × Holds p ops args lines is os vs ps qs c
-FrontAs (refused n k) r ops args lines is os vs ps qs = r ≡ Refused (refusalOf n k)
+-- how many statements, operations, data inputs, outputs and variables a process has
+abbrev pub countsOf : Process → Counts
+countsOf p =
+    record {
+      statements = length (entries (p .body));
+      operations = length (entryOps (entries (p .body)));
+      inputs = length (sourceTypes (p .inputs));
+      outputs = length (slotTypes (p .outputs));
+      variables = length (slotTypes (p .variables));
+    }
+
+-- the answer for a verdict: the counts of an accepted text's process, or the refusal
+abbrev pub frontOf : Verdict → Front
+frontOf (accepted p) = Accepted (countsOf p)
+frontOf (refused n k) = Refused (refusalOf n k)
+
+-- the arrays that are lent
+pub record DesignArrays : Type 0 where
+  pub ops : List ℕ
+  pub args : List ℤ
+  pub lines : List ℕ
+  pub inputTypes : List ℕ
+  pub outputTypes : List ℕ
+  pub variableTypes : List ℕ
+  pub outputValues : List ℤ
+  pub variableValues : List ℤ
+
+abbrev pub designArrays : List ℕ → List ℤ → List ℕ → List ℕ → List ℕ → List ℕ → List ℤ → List ℤ → DesignArrays
+designArrays ops args lines is os vs ps qs =
+    record { ops = ops; args = args; lines = lines; inputTypes = is; outputTypes = os; variableTypes = vs; outputValues = ps; variableValues = qs }
+
+-- what is left in them: an accepted text's process; where it is refused, what stood there
+abbrev pub LeftAs : Verdict → DesignArrays → DesignArrays → Type 0
+LeftAs (accepted p) a b = Holds p (b .ops) (b .args) (b .lines) (b .inputTypes) (b .outputTypes) (b .variableTypes) (b .outputValues) (b .variableValues) (countsOf p)
+LeftAs (refused n k) a b = b ≡ a
+
+-- both
+abbrev pub FrontAs : Verdict → Front → DesignArrays → DesignArrays → Type 0
+FrontAs v r a b = (r ≡ frontOf v) × LeftAs v a b

@@ -20,7 +20,7 @@ use Rattle.offences.specs.Laid.{Laid}
 use Rattle.scope.specs.declared.Heads.{Heads}
 use Rattle.scope.specs.Resolves.{WordsIn}
 use Rattle.scope.specs.Judges.{HeadsIn}
-use Rattle.frontend.specs.Answered.{refusalOf}
+use Rattle.answers.specs.Answers.{refusalOf}
 use Rattle.frontend.specs.declared.rules.Ruling.{Ruling}
 use Rattle.frontend.specs.declared.rules.Ruling.the-variants.{Free, Offended}
 

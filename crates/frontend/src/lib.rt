@@ -12,9 +12,10 @@ ghost use Rattle.language.specs.Verdict.{parsed as parsedAs};
 ghost use Rattle.cursor.specs.Tokens.{Holds};
 ghost use Rattle.syntax.specs.Arrays.{TokensIn};
 ghost use Rattle.scope.specs.Resolves.{WordsIn};
-ghost use Rattle.frontend.specs.Answered.{refusalOf, placeIn};
+ghost use Rattle.answers.specs.Answers.{refusalOf};
+ghost use Rattle.frontend.specs.Answered.{placeIn};
 ghost use Rattle.frontend.specs.Designs.{Sized};
-ghost use Rattle.frontend.specs.Fronts.{TreeIn, FrontAs};
+ghost use Rattle.frontend.specs.Fronts.{TreeIn, designArrays, frontOf, LeftAs, FrontAs};
 
 pub mod layout;
 mod rules;
@@ -75,7 +76,9 @@ fn ruled_text(
 ) -> Front
     ensures { λ r. ⌜ (Sized (now (ops .entry)) (now (args .entry)) (now (lines .entry)) (now («input_types» .entry)) (now («output_types» .entry)) (now («variable_types» .entry)) (now («output_values» .entry)) (now («variable_values» .entry))
         → (ts : List Token) (t : Text) → TreeIn (now (text .entry)) ts t (now (kinds .entry)) (now (starts .entry)) (now (sizes .entry)) n p (now (codes .entry)) (now (indices .entry)) (now (rows .entry)) (now (decls .entry))
-        → FrontAs (ruled table t) r (now (ops .exit)) (now (args .exit)) (now (lines .exit)) (now («input_types» .exit)) (now («output_types» .exit)) (now («variable_types» .exit)) (now («output_values» .exit)) (now («variable_values» .exit))) ⌝ }
+        → FrontAs (ruled table t)
+        r (designArrays (now (ops .entry)) (now (args .entry)) (now (lines .entry)) (now («input_types» .entry)) (now («output_types» .entry)) (now («variable_types» .entry)) (now («output_values» .entry)) (now («variable_values» .entry)))
+        (designArrays (now (ops .exit)) (now (args .exit)) (now (lines .exit)) (now («input_types» .exit)) (now («output_types» .exit)) (now («variable_types» .exit)) (now («output_values» .exit)) (now («variable_values» .exit)))) ⌝ }
 {
     let mut owners = [0u8; 16384];
     scope::resolve(text, kinds, starts, sizes, n, decls, p.names, &mut owners);
@@ -136,7 +139,9 @@ fn parsed_text(
 ) -> Front
     ensures { λ r. ⌜ (Sized (now (ops .entry)) (now (args .entry)) (now (lines .entry)) (now («input_types» .entry)) (now («output_types» .entry)) (now («variable_types» .entry)) (now («output_values» .entry)) (now («variable_values» .entry))
         → (ts : List Token) → TokensIn ts (now (kinds .entry)) (now (starts .entry)) n → WordsIn (now (text .entry)) ts (now (sizes .entry)) n → Holds ts (now (kinds .entry)) (now (long .entry)) n
-        → FrontAs (parsedAs (length (now (text .entry))) ts (answer ts)) r (now (ops .exit)) (now (args .exit)) (now (lines .exit)) (now («input_types» .exit)) (now («output_types» .exit)) (now («variable_types» .exit)) (now («output_values» .exit)) (now («variable_values» .exit))) ⌝ }
+        → FrontAs (parsedAs (length (now (text .entry))) ts (answer ts))
+        r (designArrays (now (ops .entry)) (now (args .entry)) (now (lines .entry)) (now («input_types» .entry)) (now («output_types» .entry)) (now («variable_types» .entry)) (now («output_values» .entry)) (now («variable_values» .entry)))
+        (designArrays (now (ops .exit)) (now (args .exit)) (now (lines .exit)) (now («input_types» .exit)) (now («output_types» .exit)) (now («variable_types» .exit)) (now («output_values» .exit)) (now («variable_values» .exit)))) ⌝ }
 {
     let mut codes = [0u8; 16384];
     let mut indices = [0u16; 16384];
@@ -191,7 +196,9 @@ pub fn accept(
     variable_values: &mut [i32; 32],
 ) -> Front
     ensures { λ r. ⌜ (Sized (now (ops .entry)) (now (args .entry)) (now (lines .entry)) (now («input_types» .entry)) (now («output_types» .entry)) (now («variable_types» .entry)) (now («output_values» .entry)) (now («variable_values» .entry))
-        → FrontAs (verdict (now (text .entry))) r (now (ops .exit)) (now (args .exit)) (now (lines .exit)) (now («input_types» .exit)) (now («output_types» .exit)) (now («variable_types» .exit)) (now («output_values» .exit)) (now («variable_values» .exit))) ⌝ }
+        → (r ≡ frontOf (verdict (now (text .entry))))
+        × LeftAs (verdict (now (text .entry))) (designArrays (now (ops .entry)) (now (args .entry)) (now (lines .entry)) (now («input_types» .entry)) (now («output_types» .entry)) (now («variable_types» .entry)) (now («output_values» .entry)) (now («variable_values» .entry)))
+        (designArrays (now (ops .exit)) (now (args .exit)) (now (lines .exit)) (now («input_types» .exit)) (now («output_types» .exit)) (now («variable_types» .exit)) (now («output_values» .exit)) (now («variable_values» .exit)))) ⌝ }
 {
     let mut kinds = [0u8; 16384];
     let mut starts = [0u16; 16384];

@@ -1,11 +1,8 @@
 -- What the front end's answer says of the verdict, and so of a direct call on the text. Assumes nothing.
 use mathlib.Core.Path.{_≡_, refl, sym, _∙_, ap, subst}
-use mathlib.Core.Bool.{Bool, true, false, cond}
-use mathlib.Core.Option.{Option, none, some}
-use mathlib.Core.List.{List, [], _∷_}
+use mathlib.Core.List.{List, []}
 use Prim.Native.Nat.{ℕ, _-_, _≤_}
 use native.Mathlib.Omega.{arith}
-use lib.Dec.{ltb}
 use lib.ListN.{take, drop, length-map}
 use lib.IntN.{ℤ}
 use Rattle.answers.specs.declared.State.{State}
@@ -13,31 +10,26 @@ use Rattle.answers.specs.declared.Refusal.{Refusal}
 use Rattle.answers.specs.declared.Cycled.the-variants.{NotPerformed}
 use Rattle.answers.specs.declared.Started.the-variants.{Fresh, NotStarted}
 use Rattle.design.specs.Process.{Source, Slot, Process, WellFormed}
-use Rattle.grammar.specs.Tree.{Text}
-use Rattle.grammar.specs.Limits.{Each}
-use Rattle.language.specs.Rules.{Rule, table}
-use Rattle.language.specs.Validity.{First, Refuses}
 use Rattle.language.specs.Verdict.{Verdict, accepted, refused, verdict}
-use Rattle.language.proofs.Judged.{accepts, refuses}
+use Rattle.language.proofs.Judged.{accepts}
 use Rattle.language.proofs.WellFormed.{valid-well-formed}
-use Rattle.semantics.specs.Rows.{Outcome, performed, row-refused, operator-refused, rowRefusal, concluded, atFirst}
-use Rattle.semantics.specs.Equations.{cycle}
+use Rattle.semantics.specs.Rows.{atFirst}
 use Rattle.semantics.specs.Records.{stateFor}
-use Rattle.semantics.specs.Calls.{Call, turnedBack, unless14}
-use Rattle.semantics.specs.Comparison.{fed, laid, told}
-use Rattle.semantics.specs.DirectRow.{fitsText, keptOf, cycled, directRow}
+use Rattle.semantics.specs.Calls.{Call}
+use Rattle.semantics.specs.Comparison.{laid}
+use Rattle.semantics.specs.DirectRow.{directRow}
 use Rattle.behaviour.specs.Direct.{directOf, directFresh}
 use Rattle.ir.specs.Arrays.{NamesIn}
 use Rattle.frontend.specs.declared.Front.{Front}
 use Rattle.frontend.specs.declared.Front.the-variants.{Accepted, Refused}
 use Rattle.frontend.specs.declared.layout.Counts.{Counts}
-use Rattle.frontend.specs.Answered.{refusalOf}
+use Rattle.answers.specs.Answers.{refusalOf}
 use Rattle.frontend.specs.Designs.{Holds}
-use Rattle.frontend.specs.Fronts.{FrontAs}
+use Rattle.frontend.specs.Fronts.{countsOf, DesignArrays, designArrays, FrontAs}
 use Rattle.direct.specs.Calls.{Advances}
 use Rattle.direct.specs.Calls as D
 use Rattle.direct.specs.declared.Advanced.{Advanced}
-use Rattle.interpreter.specs.Answering.{refusalFor, cycledOf, startedOf, startOf}
+use Rattle.interpreter.specs.Answering.{cycledOf, startedOf, startOf}
 
 -- THE FRONT END
 
@@ -51,15 +43,15 @@ pub record Design (text ops : List ℕ) (args : List ℤ) (lines is os vs : List
 not-accepted : {A : Type 0} {c : Counts} {x : Refusal} → Accepted c ≡ Refused x → A
 not-accepted e = absurd (let z : _≡_ {A = ℕ} 0 1 = cc in omega arith)
 
-pub design-of : (text : List ℕ) {r : Front} {c : Counts} (ops : List ℕ) (args : List ℤ) (lines is os vs : List ℕ) (ps qs : List ℤ) → FrontAs (verdict text) r ops args lines is os vs ps qs → r ≡ Accepted c → Design text ops args lines is os vs ps qs c
-design-of text {r} {c} ops args lines is os vs ps qs f e = go (verdict text) refl f
+pub design-of : (text : List ℕ) {r : Front} {c : Counts} (before : DesignArrays) (ops : List ℕ) (args : List ℤ) (lines is os vs : List ℕ) (ps qs : List ℤ) → FrontAs (verdict text) r before (designArrays ops args lines is os vs ps qs) → r ≡ Accepted c → Design text ops args lines is os vs ps qs c
+design-of text {r} {c} before ops args lines is os vs ps qs f e = go (verdict text) refl f
   where
-    go : (v : Verdict) → verdict text ≡ v → FrontAs v r ops args lines is os vs ps qs → Design text ops args lines is os vs ps qs c
-    go (accepted p) h (d, g, k) =
-        let z : Accepted c ≡ Accepted d = sym e ∙ g in
-        let y : d ≡ c = cc in
+    go : (v : Verdict) → verdict text ≡ v → FrontAs v r before (designArrays ops args lines is os vs ps qs) → Design text ops args lines is os vs ps qs c
+    go (accepted p) h (g, k) =
+        let z : Accepted c ≡ Accepted (countsOf p) = sym e ∙ g in
+        let y : countsOf p ≡ c = cc in
         record { process = p; is-verdict = h; holds = subst (λ (u : Counts). Holds p ops args lines is os vs ps qs u) y k; formed = valid-well-formed (accepts text p .0 h) }
-    go (refused n k) h g = not-accepted (sym e ∙ g)
+    go (refused n k) h (g, u) = not-accepted (sym e ∙ g)
 
 -- the counts of names
 pub bounds : {text ops : List ℕ} {args : List ℤ} {lines is os vs : List ℕ} {ps qs : List ℤ} {c : Counts} → Design text ops args lines is os vs ps qs c → (c .inputs ≤ 16) × (c .outputs ≤ 16) × (c .variables ≤ 32)
@@ -77,60 +69,30 @@ bounds d =
     let wv = w .variables in
     (omega arith, omega arith, omega arith)
 
--- numbers of refusals of texts are 1 to 9
-first-number : {t : Text} {n p : ℕ} (rs : List Rule) → First t n p rs → Each (λ (r : Rule). ltb (r .number) 10 ≡ true) rs → ltb n 10 ≡ true
-first-number (r ∷ rs) (First.here e l) h = rw (sym e) (h .0)
-first-number (r ∷ rs) (First.there e f) h = first-number rs f (h .1)
-
-refusal-number : {text : List ℕ} {n k : ℕ} → Refuses text n k → ltb n 10 ≡ true
-unfolding table
-refusal-number (Refuses.too-long h) = refl
-refusal-number (Refuses.no-token h s) = refl
-refusal-number (Refuses.no-sentence ts h l e) = refl
-refusal-number (Refuses.past-limit ts h l e) = refl
-refusal-number (Refuses.offends q f) = first-number table f (refl, (refl, (refl, (refl, (refl, tt)))))
-
 -- a refused text: its verdict, and the refusal that the front end answers
 pub record Turned (text : List ℕ) (x : Refusal) : Type 0 where
   pub number : ℕ
   pub place : ℕ
   pub is-verdict : verdict text ≡ refused number place
-  pub is-refusal : x ≡ refusalFor number place
+  pub is-refusal : x ≡ refusalOf number place
 
-pub turned-of : (text : List ℕ) {r : Front} {x : Refusal} (ops : List ℕ) (args : List ℤ) (lines is os vs : List ℕ) (ps qs : List ℤ) → FrontAs (verdict text) r ops args lines is os vs ps qs → r ≡ Refused x → Turned text x
-turned-of text {r} {x} ops args lines is os vs ps qs f e = go (verdict text) refl f
+pub turned-of : (text : List ℕ) {r : Front} {x : Refusal} (before after : DesignArrays) → FrontAs (verdict text) r before after → r ≡ Refused x → Turned text x
+turned-of text {r} {x} before after f e = go (verdict text) refl f
   where
-    go : (v : Verdict) → verdict text ≡ v → FrontAs v r ops args lines is os vs ps qs → Turned text x
-    go (accepted p) h (d, g, k) = not-accepted (sym g ∙ e)
-    go (refused n k) h g =
+    go : (v : Verdict) → verdict text ≡ v → FrontAs v r before after → Turned text x
+    go (accepted p) h (g, k) = not-accepted (sym g ∙ e)
+    go (refused n k) h (g, u) =
         let z : Refused x ≡ Refused (refusalOf n k) = sym e ∙ g in
         let y : x ≡ refusalOf n k = cc in
-        record { number = n; place = k; is-verdict = h; is-refusal = y ∙ rw (refusal-number (refuses text n k .0 h)) }
+        record { number = n; place = k; is-verdict = h; is-refusal = y }
 
 -- THE CALL
-
--- a call on an accepted text is refused by 14, 15 or 16 only
-told-cycled : (o : Outcome) → D.cycledOf (told o) ≡ cycledOf (told o)
-told-cycled (performed row way) = refl
-told-cycled (row-refused k) = refl
-told-cycled (operator-refused k) = refl
-
-row-cycled : (p : Process) (s : State) (c : Call) → D.cycledOf (directRow p s c .answer) ≡ cycledOf (directRow p s c .answer)
-unfolding directRow
-row-cycled p s c = go (rowRefusal p (fed c)) (fitsText p s)
-  where
-    go : (r : Option ℕ) (b : Bool)
-        → D.cycledOf (unless14 r s (c .outputs) (cond b (cycled p (keptOf p s) c) (turnedBack 15 0 s (c .outputs))) .answer)
-        ≡ cycledOf (unless14 r s (c .outputs) (cond b (cycled p (keptOf p s) c) (turnedBack 15 0 s (c .outputs))) .answer)
-    go (some k) b = refl
-    go none true = told-cycled (concluded (cycle (p .body) (keptOf p s .place) (c .inputs) (record { way = []; memory = keptOf p s .memory })) (keptOf p s) .0)
-    go none false = refl
 
 module _ (text : List ℕ) (s : State) (c : Call) where
   pub run-accepted : (p : Process) → verdict text ≡ accepted p → (a : Advanced) (o : List ℤ) → Advances (directRow p s c) a o
       → (a .answer ≡ cycledOf (directOf text s c .answer)) × (a .state ≡ directOf text s c .state) × (o ≡ directOf text s c .row)
   unfolding directOf
-  run-accepted p e a o h = rw e (h .answer ∙ row-cycled p s c, h .state, h .row)
+  run-accepted p e a o h = rw e (h .answer, h .state, h .row)
 
   pub run-refused : (x : Refusal) → Turned text x
       → (NotPerformed x ≡ cycledOf (directOf text s c .answer)) × (s ≡ directOf text s c .state) × (c .outputs ≡ directOf text s c .row)

@@ -9,7 +9,7 @@ use lib.ListN.{length, take, drop}
 use lib.Dec.{leb, eqb}
 use borrow.Author.Tests.{leb-true}
 use Rattle.semantics.proofs.Basic.{false-true, and-left, and-right}
-use Rattle.answers.specs.Answers.{numberOf, placeOf}
+use Rattle.answers.specs.Answers.{numberOf, placeOf, refusalOf}
 use Rattle.answers.specs.declared.Refusal.the-variants.{BadSections, BadSignature, BadLine}
 use Rattle.answers.specs.declared.Opened as declared
 use Rattle.answers.specs.declared.Sections as declared-sections
@@ -21,7 +21,7 @@ use Rattle.format.specs.Opening.{raws, sectionsOf, Lined, lined, bad-at, openLi
 use Rattle.loader.specs.Sections.{isSome, signatureLength, linesLength, codeLength, linesStart, codeStart, parts, headed, paired, whole, sectioned}
 use Rattle.loader.specs.Code.{orEmpty, signatureAt}
 use Rattle.loader.specs.Lines.{storedReaches, judged, linesFrom}
-use Rattle.loader.specs.Open.{placesOf, refusalOf, openedAs}
+use Rattle.loader.specs.Open.{placesOf, openedAs}
 use Rattle.loader.specs.declared.lines.Judgement.{Judgement}
 use Rattle.loader.specs.declared.lines.Judgement.the-variants.{Good, BadAt}
 use Rattle.loader.proofs.SectionLaws.{Lengths, paired-lengths, sections-read, sections-test}

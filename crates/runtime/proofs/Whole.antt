@@ -1,22 +1,18 @@
 -- A cycle on the sections of an opened image is format's cycle on the image; its count is the length of the way and at most the first line's reach and
 -- one more. By cases on the opening, and on what a row can come to. Assumes nothing.
-use Prim.Native.Nat.{ℕ, suc, _+_, _-_, _≤_}
+use Prim.Native.Nat.{ℕ, _+_, _-_, _≤_}
 use native.Mathlib.Omega.{arith}
 use mathlib.Core.Path.{_≡_, refl, sym, ap, subst, _∙_}
-use mathlib.Core.Bool.{Bool, true, false, cond}
-use mathlib.Core.Option.{some}
+use mathlib.Core.Bool.{true}
 use mathlib.Core.List.{List}
 use lib.ListN.{length, take, drop}
 use lib.IntN.{ℤ}
-use lib.Dec.{eqb}
-use Rattle.answers.specs.Answers.{numberOf, linesOf}
+use Rattle.answers.specs.Answers.{refusalOf, linesOf}
 use Rattle.answers.specs.declared.State.{State}
 use Rattle.answers.specs.declared.Refusal.{Refusal}
-use Rattle.answers.specs.declared.Refusal.the-variants.{BadSections, BadSignature, BadLine}
 use Rattle.answers.specs.declared.Sections.{Sections}
 use Rattle.answers.specs.declared.Opened.the-variants.{Image, NotOpened}
-use Rattle.answers.specs.declared.Cycled.the-variants.{Performed, NotPerformed}
-use Rattle.semantics.proofs.Basic.{eqb-true}
+use Rattle.answers.specs.declared.Cycled.the-variants.{NotPerformed}
 use Rattle.format.specs.Words.{Bytes}
 use Rattle.format.specs.Lines.{reach}
 use Rattle.format.specs.Walk.{from}
@@ -27,11 +23,11 @@ use Rattle.semantics.specs.Calls.{Answer, performed, not-performed, Called}
 use Rattle.images.specs.Outcome.{Outcome, row-refused, state-refused, operator-refused, performs}
 use Rattle.images.proofs.Outcomes.{row-outcome}
 use Rattle.loader.specs.Sections.{isSome, linesStart, codeStart}
-use Rattle.loader.specs.Open.{placesOf, refusalOf, openedAs}
-use Rattle.loader.proofs.OpenLaws.{lengths, signature-part, lines-part, code-part, refused-as, image-opened, opened-sections}
+use Rattle.loader.specs.Open.{placesOf, openedAs}
+use Rattle.loader.proofs.OpenLaws.{lengths, signature-part, lines-part, code-part, image-opened, opened-sections}
 use Rattle.cycle.specs.declared.Advanced.{Advanced}
 use Rattle.cycle.specs.Ran.{Checked}
-use Rattle.cycle.specs.Advances.{refusalFor, cycledOf, Advances}
+use Rattle.cycle.specs.Advances.{cycledOf, Advances}
 use Rattle.runtime.specs.Calls.{wayOf, reachFrom, firstReach}
 use Rattle.runtime.proofs.OpenedImage.{good, opened-checked}
 
@@ -99,27 +95,18 @@ module _ (b : List ℕ) (x : Sections) (e : Image x ≡ openedAs b (openOf b)) w
 
 -- An image that is refused.
 
--- the opener's refusals are those of a cycle
-refusal-same : (q k : ℕ) → numberOf (refusalOf q k) ≡ q → refusalOf q k ≡ refusalFor q k
-refusal-same q k e = on (eqb q 11) refl (eqb q 12) refl
-  where
-    on : (c : Bool) → eqb q 11 ≡ c → (d : Bool) → eqb q 12 ≡ d → refusalOf q k ≡ refusalFor q k
-    on true f d g = rw f
-    on false f true g = rw (f, g)
-    on false f false g = let z : 13 ≡ q = rw (f, g) at e in rw (← z)
-
 -- an image that is refused, and how
-pub not-opened-as : (b : List ℕ) (r : Refusal) → NotOpened r ≡ openedAs b (openOf b) → (q : ℕ) × (k : ℕ) × (openOf b ≡ not-opened q k) × (r ≡ refusalFor q k)
+pub not-opened-as : (b : List ℕ) (r : Refusal) → NotOpened r ≡ openedAs b (openOf b) → (q : ℕ) × (k : ℕ) × (openOf b ≡ not-opened q k) × (r ≡ refusalOf q k)
 not-opened-as b r e = on (openOf b) refl
   where
-    on : (z : Opened) → openOf b ≡ z → (q : ℕ) × (k : ℕ) × (openOf b ≡ not-opened q k) × (r ≡ refusalFor q k)
+    on : (z : Opened) → openOf b ≡ z → (q : ℕ) × (k : ℕ) × (openOf b ≡ not-opened q k) × (r ≡ refusalOf q k)
     on (opened t) f =
         let g : NotOpened r ≡ Image (placesOf b) = e ∙ ap (openedAs b) f in
         absurd (let d : _≡_ {A = ℕ} 0 1 = cc in omega arith)
     on (not-opened q k) f =
         let g : NotOpened r ≡ NotOpened (refusalOf q k) = e ∙ ap (openedAs b) f in
         let y : r ≡ refusalOf q k = cc in
-        (q, k, f, y ∙ refusal-same q k (refused-as b q k f .0))
+        (q, k, f, y)
 
 -- a cycle on it: state and row as they came
 pub refused-advance : (b : List ℕ) (r : Refusal) → NotOpened r ≡ openedAs b (openOf b) → (s : State) (i o : List ℤ)

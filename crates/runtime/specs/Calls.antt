@@ -10,7 +10,7 @@ use Rattle.format.specs.Walk.{from}
 use Rattle.format.specs.Opening.{Opened, opened, not-opened, openOf}
 use Rattle.semantics.specs.Records.{stateFor, Started, fresh, not-started}
 use Rattle.semantics.specs.Calls.{Answer, performed, not-performed}
-use Rattle.cycle.specs.Advances.{refusalFor}
+use Rattle.answers.specs.Answers.{refusalOf}
 
 -- "The way of a cycle lists the statements it performed"; a refused call performs none
 abbrev pub wayOf : Answer → List ℕ
@@ -29,7 +29,7 @@ firstReach b p = reachFrom (openOf b) p
 -- a fresh state is there, or refusal 11, 12 or 13
 abbrev pub startedOf : Started → declared.Started
 startedOf (fresh s) = Fresh
-startedOf (not-started q k) = NotStarted (refusalFor q k)
+startedOf (not-started q k) = NotStarted (refusalOf q k)
 
 -- the state beside that answer; where the image is refused, document 01 names none, and it is place 512 with 0 in every slot
 abbrev pub startOf : Started → State

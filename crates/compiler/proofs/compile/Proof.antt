@@ -22,10 +22,10 @@ same-length : tie.Need-same-length
 same-length c = search needs
 
 returns : tie.Need-returns
-returns c = let d = design-of _ _ _ _ _ _ _ _ _ (c .before .before .before .before .before .before .before .before .before .before .accept .ensures (record { ops-size = refl; args-size = refl; lines-size = refl; inputs-size = refl; outputs-size = refl; variables-size = refl; at-outputs-size = refl; at-variables-size = refl })) (c .before .before .before .before .before .before .before .before .front .given .1) in let e = c .before .before .write-image .ensures (d .process) (d .holds) (d .formed) in rw (compiled-accepted d (now (c .before .before .before .before .before .before .before .before .before .before .before .before .before .before .before .before .before .before .before .before .before .args .image))) e
+returns c = let d = design-of _ _ _ _ _ _ _ _ _ _ (c .before .before .before .before .before .before .before .before .before .before .accept .ensures (record { ops-size = refl; args-size = refl; lines-size = refl; inputs-size = refl; outputs-size = refl; variables-size = refl; at-outputs-size = refl; at-variables-size = refl })) (c .before .before .before .before .before .before .before .before .front .given .1) in let e = c .before .before .write-image .ensures (d .process) (d .holds) (d .formed) in rw (compiled-accepted d (now (c .before .before .before .before .before .before .before .before .before .before .before .before .before .before .before .before .before .before .before .before .before .args .image))) e
 
 returns-2 : tie.Need-returns-2
-returns-2 c = compiled-refused _ _ _ _ _ _ _ _ _ _ (c .before .before .before .accept .ensures (record { ops-size = refl; args-size = refl; lines-size = refl; inputs-size = refl; outputs-size = refl; variables-size = refl; at-outputs-size = refl; at-variables-size = refl })) (c .before .front2 .given .1)
+returns-2 c = compiled-refused _ _ _ _ (c .before .before .before .accept .ensures (record { ops-size = refl; args-size = refl; lines-size = refl; inputs-size = refl; outputs-size = refl; variables-size = refl; at-outputs-size = refl; at-variables-size = refl })) (c .before .front2 .given .1)
 
 pub compile-spec : {M : Type 1} → statement M
 compile-spec =

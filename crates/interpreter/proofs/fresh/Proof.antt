@@ -12,7 +12,7 @@ enum-known-front : tie.Need-enum-known-front
 enum-known-front c = search needs
 
 fresh-design-requires : tie.Need-fresh-design-requires
-fresh-design-requires c κs = let b = bounds (design-of _ _ _ _ _ _ _ _ _ (c .before .before .before .accept .ensures (record { ops-size = refl; args-size = refl; lines-size = refl; inputs-size = refl; outputs-size = refl; variables-size = refl; at-outputs-size = refl; at-variables-size = refl })) (c .before .front .given .1)) in (b .1, b .2)
+fresh-design-requires c κs = let b = bounds (design-of _ _ _ _ _ _ _ _ _ _ (c .before .before .before .accept .ensures (record { ops-size = refl; args-size = refl; lines-size = refl; inputs-size = refl; outputs-size = refl; variables-size = refl; at-outputs-size = refl; at-variables-size = refl })) (c .before .front .given .1)) in (b .1, b .2)
 
 enum-known-front-2 : tie.Need-enum-known-front-2
 enum-known-front-2 c = search needs
@@ -21,10 +21,10 @@ blank-requires : tie.Need-blank-requires
 blank-requires c κs = search needs
 
 returns : tie.Need-returns
-returns c = let d = design-of _ _ _ _ _ _ _ _ _ (c .before .before .before .before .accept .ensures (record { ops-size = refl; args-size = refl; lines-size = refl; inputs-size = refl; outputs-size = refl; variables-size = refl; at-outputs-size = refl; at-variables-size = refl })) (c .before .before .front .given .1) in fresh-accepted _ (d .process) (d .is-verdict) _ (c .fresh-design .ensures (d .process) (d .holds .declared .first-outputs .1) (d .holds .declared .first-variables .1))
+returns c = let d = design-of _ _ _ _ _ _ _ _ _ _ (c .before .before .before .before .accept .ensures (record { ops-size = refl; args-size = refl; lines-size = refl; inputs-size = refl; outputs-size = refl; variables-size = refl; at-outputs-size = refl; at-variables-size = refl })) (c .before .before .front .given .1) in fresh-accepted _ (d .process) (d .is-verdict) _ (c .fresh-design .ensures (d .process) (d .holds .declared .first-outputs .1) (d .holds .declared .first-variables .1))
 
 returns-2 : tie.Need-returns-2
-returns-2 c = fresh-refused _ _ (turned-of _ _ _ _ _ _ _ _ _ (c .before .before .before .before .accept .ensures (record { ops-size = refl; args-size = refl; lines-size = refl; inputs-size = refl; outputs-size = refl; variables-size = refl; at-outputs-size = refl; at-variables-size = refl })) (c .before .before .front2 .given .1)) _ (c .blank .ensures)
+returns-2 c = fresh-refused _ _ (turned-of _ _ _ (c .before .before .before .before .accept .ensures (record { ops-size = refl; args-size = refl; lines-size = refl; inputs-size = refl; outputs-size = refl; variables-size = refl; at-outputs-size = refl; at-variables-size = refl })) (c .before .before .front2 .given .1)) _ (c .blank .ensures)
 
 pub fresh-spec : {M : Type 1} → statement M
 fresh-spec =
