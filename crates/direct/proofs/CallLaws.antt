@@ -38,7 +38,8 @@ use Rattle.ir.proofs.Held.{entries-size, at-whole, at-first, at-rest, at-output
 use Rattle.direct.specs.Holding.{Short, HeldIn}
 use Rattle.direct.specs.Standing.{run, Stands}
 use Rattle.direct.specs.Checks.{checkOf, rowIs, slotsIn, placeIn, stateIs}
-use Rattle.direct.specs.Calls.{Design, Names, callOf, fedOf, Advances}
+use Rattle.semantics.specs.Calls.{Called}
+use Rattle.direct.specs.Calls.{Design, Names, callOf, fedOf, cycledOf, Advances}
 use Rattle.direct.specs.declared.Progress.{Progress}
 use Rattle.direct.specs.declared.Progress.the-variants.{Passed, Reached, Refused}
 use Rattle.direct.specs.declared.RowCheck.{RowCheck}
@@ -453,3 +454,7 @@ pub fresh-law : (p : Process) (o v : List ℤ) (r : State) (a b : List ℤ) → 
     → o ≡ initials (p .outputs) → v ≡ initials (p .variables) → r ≡ laid (atFirst p)
 unfolding atFirst stateFor
 fresh-law p o v r a b e x y f g = e ∙ rw (x, y, f, g)
+
+-- the equations of a call one by one
+pub advances-parts : {c : Called} {a : Advanced} {o : List ℤ} → Advances c a o → (a .answer ≡ cycledOf (c .answer)) × (a .state ≡ c .state) × (o ≡ c .row)
+advances-parts h = (h .answer, h .state, h .row)

@@ -11,7 +11,7 @@ ghost use Rattle.semantics.specs.Rows.{rowRefusal, atFirst};
 ghost use Rattle.semantics.specs.Records.{pad};
 ghost use Rattle.semantics.specs.Comparison.{laid};
 ghost use Rattle.semantics.specs.DirectRow.{fitsText, keptOf, cycled, directRow};
-ghost use Rattle.direct.specs.Calls.{Design, Names, callOf, fedOf, Advances};
+ghost use Rattle.direct.specs.Calls.{Design, Names, callOf, fedOf, cycledOf, Advances};
 use crate::Advanced;
 use crate::Progress;
 use crate::RowCheck;
@@ -165,7 +165,9 @@ pub fn advance(
 ) -> Advanced
     ensures { λ a. ⌜ ((p : Process) → Design p (now (codes .entry)) (now (args .entry)) (now (rows .entry)) size
         → Names p (now («input_types» .entry)) (now («output_types» .entry)) (now («variable_types» .entry))
-        → Advances (directRow p s (callOf (now (inputs .entry)) (now (row .entry)))) a (now (row .exit))) ⌝ }
+        → (a .answer ≡ cycledOf (directRow p s (callOf (now (inputs .entry)) (now (row .entry))) .answer))
+        × (a .state ≡ directRow p s (callOf (now (inputs .entry)) (now (row .entry))) .state)
+        × (now (row .exit) ≡ directRow p s (callOf (now (inputs .entry)) (now (row .entry))) .row)) ⌝ }
 {
     let check = row_check(input_types, inputs, output_types.len(), row.len());
     match check {

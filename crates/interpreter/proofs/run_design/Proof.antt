@@ -48,7 +48,10 @@ same-length : tie.Need-same-length
 same-length c = search needs
 
 returns : tie.Need-returns
-returns c = λ p ps qs h w. c .before .advance .ensures p (design-held p _ _ _ _ _ (h .body) w) (names-parts p _ _ _ ps qs _ _ _ (h .declared))
+returns c =
+    λ p ps qs h w.
+    let r = c .before .advance .ensures p (design-held p _ _ _ _ _ (h .body) w) (names-parts p _ _ _ ps qs _ _ _ (h .declared)) in
+    record { answer = r .0; state = r .1; row = r .2 }
 
 pub run-design-spec : {M : Type 1} → statement M
 run-design-spec =
