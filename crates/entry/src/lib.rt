@@ -1,4 +1,6 @@
-// The opened image: the caller's bytes and the bounds of the three sections, which it lends out as parts of those bytes.
+// The operations in the forms that document 01 names. Here the opened image: the caller's bytes and the bounds of the three sections, which it lends out as parts of those bytes.
+pub mod calls;
+
 ghost use mathlib.Core.Path.{_≡_};
 ghost use Rattle.entry.specs.Lending.{openingOf, Lends};
 use answers::Opened;

@@ -1,3 +1,4 @@
 pub mod RecordLaws
 pub mod AnswerLaws
 pub mod CallLaws
+pub mod Fits

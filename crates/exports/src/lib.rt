@@ -79,8 +79,8 @@ pub extern "C" fn rabtishu_cycle(
     *answer = numbers;
     if answer::is_performed(cycled) {
         let after = a.state;
-        let slots = record::from_state(after);
-        *state = slots;
+        let advanced = record::from_state(after);
+        *state = advanced;
     }
 }
 
@@ -122,8 +122,8 @@ pub extern "C" fn rabtishu_direct(
     *answer = numbers;
     if answer::is_performed(cycled) {
         let after = a.state;
-        let slots = record::from_state(after);
-        *state = slots;
+        let moved = record::from_state(after);
+        *state = moved;
     }
 }
 

@@ -1,0 +1,60 @@
+-- A refused call leaves the state as it came, so that storing it or not comes to the same. Assumes nothing.
+use Prim.Native.Nat.{ℕ}
+use native.Mathlib.Omega.{arith}
+use mathlib.Core.Path.{_≡_, refl, sym, ap, _∙_}
+use mathlib.Core.Bool.{Bool, true, false}
+use mathlib.Core.List.{List, []}
+use lib.IntN.{ℤ}
+use Rattle.semantics.proofs.Basic.{false-true}
+use Rattle.answers.specs.declared.State.{State}
+use Rattle.answers.specs.declared.Started as declared
+use Rattle.answers.specs.declared.Started.the-variants.{Fresh, NotStarted}
+use Rattle.format.specs.Words.{Bytes}
+use Rattle.semantics.specs.Records.{Started, fresh, not-started}
+use Rattle.semantics.specs.Calls.{Answer, performed, not-performed, Called, Call}
+use Rattle.cycle.specs.Advances.{isPerformed}
+use Rattle.theorems.specs.Demand1.{Runs}
+use Rattle.theorems.specs.Demand1.Runs.{performs, refuses}
+use Rattle.behaviour.specs.Direct.{directOf}
+use Rattle.theorems.proofs.Demand1.{demand1}
+use Rattle.direct.specs.Calls.{callOf}
+use Rattle.direct.specs.declared.Advanced.{Advanced}
+use Rattle.interpreter.specs.Answering.{cycledOf}
+use Rattle.entry.specs.Calling.{DirectOutcomes, Starting, stateAfter}
+
+-- a direct run that is refused
+direct-untouched : (text : List ℕ) (s : State) (c : Call) (q k : ℕ) → directOf text s c .answer ≡ not-performed q k → directOf text s c .state ≡ s
+unfolding Bytes
+direct-untouched text s c q k = go (directOf text s c) (demand1 text [] [] tt s c .run)
+  where
+    go : (r : Called) → Runs 1 s c r → r .answer ≡ not-performed q k → r .state ≡ s
+    go _ (performs way next row h) e = absurd (let z : _≡_ {A = ℕ} 0 1 = cc in omega arith)
+    go _ (refuses x y h j) e = refl
+
+module _ (text : List ℕ) (s : State) (i o : List ℤ) (a : Advanced) (u : List ℤ)
+    (h : (a .answer ≡ cycledOf (directOf text s (callOf i o) .answer)) × (a .state ≡ directOf text s (callOf i o) .state) × (u ≡ directOf text s (callOf i o) .row)) where
+  refused-kept : isPerformed (a .answer) ≡ false → directOf text s (callOf i o) .state ≡ s
+  refused-kept e = on (directOf text s (callOf i o) .answer) refl
+    where
+      on : (w : Answer) → directOf text s (callOf i o) .answer ≡ w → directOf text s (callOf i o) .state ≡ s
+      on (performed way) f = false-true (sym e ∙ ap isPerformed (h .0 ∙ ap cycledOf f))
+      on (not-performed q k) f = direct-untouched text s (callOf i o) q k f
+
+  -- the outcome, where p says whether the cycle was performed
+  pub outcome-of : (p : Bool) → p ≡ isPerformed (a .answer) → DirectOutcomes text s i o (record { performed = p; state = a .state; answer = a .answer }) u
+  outcome-of p e = record { answer = h .0; state = h .1; row = h .2; kept = λ f. refused-kept (sym e ∙ f) }
+
+-- whether a fresh state is there
+abbrev pub isFresh : declared.Started → Bool
+isFresh Fresh = true
+isFresh (NotStarted r) = false
+
+-- a fresh state asked for: `named` is the declared answer, `state` the record beside it
+module _ (named : Started → declared.Started) (state : Started → State) (is-fresh : (s : State) → isFresh (named (fresh s)) ≡ true)
+    (is-not : (q k : ℕ) → isFresh (named (not-started q k)) ≡ false) (same : (s : State) → state (fresh s) ≡ s) where
+  pub start-of : (f : Started) (a : declared.Started) (s : State) (d : Bool) → (a ≡ named f) × (s ≡ state f) → d ≡ isFresh a
+      → Starting named f (record { done = d; state = s; answer = a })
+  start-of (fresh x) a s d h j =
+      record { answer = h .0; stored = λ w t. h .1 ∙ same x; kept = λ w t. false-true (sym w ∙ j ∙ ap isFresh (h .0) ∙ is-fresh x) }
+  start-of (not-started q k) a s d h j =
+      record { answer = h .0; stored = λ w t. false-true (sym (j ∙ ap isFresh (h .0) ∙ is-not q k) ∙ w); kept = λ w t. refl }

@@ -1,0 +1,32 @@
+-- What the calls that store a state come to (document 01, "State", "Turned back"). Assumes nothing.
+use mathlib.Core.Path.{_≡_}
+use mathlib.Core.Bool.{true, false}
+use mathlib.Core.List.{List}
+use Prim.Native.Nat.{ℕ}
+use lib.IntN.{ℤ}
+use Rattle.answers.specs.declared.State.{State}
+use Rattle.answers.specs.declared.Started as declared
+use Rattle.semantics.specs.Records.{Started, fresh, not-started}
+use Rattle.behaviour.specs.Direct.{directOf}
+use Rattle.direct.specs.Calls.{callOf}
+use Rattle.interpreter.specs.Answering.{cycledOf}
+use Rattle.entry.specs.declared.calls.Outcome.{Outcome}
+use Rattle.entry.specs.declared.calls.Start.{Start}
+
+-- "Buffers and state are untouched": the record after a fresh state was asked for
+abbrev pub stateAfter : Started → State → State
+stateAfter (fresh s) t = s
+stateAfter (not-started q k) t = t
+
+-- the outcome r and the output row u as it is left are those of the direct run; `kept`: a cycle that was not performed leaves the state s
+pub record DirectOutcomes (text : List ℕ) (s : State) (i o : List ℤ) (r : Outcome) (u : List ℤ) : Type 0 where
+  pub answer : r .answer ≡ cycledOf (directOf text s (callOf i o) .answer)
+  pub state : r .state ≡ directOf text s (callOf i o) .state
+  pub row : u ≡ directOf text s (callOf i o) .row
+  pub kept : r .performed ≡ false → directOf text s (callOf i o) .state ≡ s
+
+-- r is the answer that the definition's f has as `named`, with its state where there is one
+pub record Starting (named : Started → declared.Started) (f : Started) (r : Start) : Type 0 where
+  pub answer : r .answer ≡ named f
+  pub stored : r .done ≡ true → (t : State) → r .state ≡ stateAfter f t
+  pub kept : r .done ≡ false → (t : State) → t ≡ stateAfter f t

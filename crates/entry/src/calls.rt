@@ -1,0 +1,127 @@
+// The calls that advance the caller's own state record: the new state is stored only where the call was done. The cycle on an image is
+// `runtime::advance_state`.
+ghost use mathlib.Core.Path.{_≡_};
+ghost use Rattle.format.specs.State.{freshOf};
+ghost use Rattle.runtime.specs.Calls as R;
+ghost use Rattle.behaviour.specs.Direct.{directOf, directFresh};
+ghost use Rattle.direct.specs.Calls.{callOf};
+ghost use Rattle.interpreter.specs.Answering as I;
+ghost use Rattle.entry.specs.Calling.{DirectOutcomes, Starting, stateAfter};
+use answers::Cycled;
+use answers::Started;
+use answers::State;
+
+// A cycle's answer, the state after it, and whether it was performed.
+struct Outcome {
+    performed: bool,
+    state: State,
+    answer: Cycled,
+}
+
+// The answer to a fresh state asked for, the state, and whether it is there.
+struct Start {
+    done: bool,
+    state: State,
+    answer: Started,
+}
+
+// A cycle from a text, and whether it was performed.
+fn direct_outcome(text: &[u8], s: State, inputs: &[i32], row: &mut [i32]) -> Outcome
+    ensures { λ r. ⌜ DirectOutcomes (now (text .entry)) s (now (inputs .entry)) (now (row .entry)) r (now (row .exit)) ⌝ }
+{
+    let a = interpreter::run(text, s, inputs, row);
+    let state = a.state;
+    let answer = a.answer;
+    if let Cycled::Performed(_) = answer {
+        Outcome {
+            performed: true,
+            state: state,
+            answer: answer,
+        }
+    } else {
+        Outcome {
+            performed: false,
+            state: state,
+            answer: answer,
+        }
+    }
+}
+
+// One cycle from a text, without an image.
+pub fn direct(text: &[u8], state: &mut State, inputs: &[i32], row: &mut [i32]) -> Cycled
+    ensures { λ r. ⌜ (r ≡ I.cycledOf (directOf (now (text .entry)) (now (state .entry)) (callOf (now (inputs .entry)) (now (row .entry))) .answer))
+        × (now (state .exit) ≡ directOf (now (text .entry)) (now (state .entry)) (callOf (now (inputs .entry)) (now (row .entry))) .state)
+        × (now (row .exit) ≡ directOf (now (text .entry)) (now (state .entry)) (callOf (now (inputs .entry)) (now (row .entry))) .row) ⌝ }
+{
+    let r = direct_outcome(text, *state, inputs, row);
+    if r.performed {
+        *state = r.state;
+    }
+    r.answer
+}
+
+// The fresh state of an image, and whether it is there.
+fn fresh_start(image: &[u8]) -> Start
+    ensures { λ r. ⌜ Starting R.startedOf (freshOf (now (image .entry))) r ⌝ }
+{
+    let f = runtime::fresh(image);
+    let state = f.state;
+    let answer = f.answer;
+    if let Started::Fresh = answer {
+        Start {
+            done: true,
+            state: state,
+            answer: answer,
+        }
+    } else {
+        Start {
+            done: false,
+            state: state,
+            answer: answer,
+        }
+    }
+}
+
+// The fresh state of an image.
+pub fn fresh(image: &[u8], state: &mut State) -> Started
+    ensures { λ r. ⌜ (r ≡ R.startedOf (freshOf (now (image .entry)))) × (now (state .exit) ≡ stateAfter (freshOf (now (image .entry))) (now (state .entry))) ⌝ }
+{
+    let r = fresh_start(image);
+    if r.done {
+        *state = r.state;
+    }
+    r.answer
+}
+
+// The fresh state of a text, and whether it is there.
+fn direct_start(text: &[u8]) -> Start
+    ensures { λ r. ⌜ Starting I.startedOf (directFresh (now (text .entry))) r ⌝ }
+{
+    let f = interpreter::fresh(text);
+    let state = f.state;
+    let answer = f.answer;
+    if let Started::Fresh = answer {
+        Start {
+            done: true,
+            state: state,
+            answer: answer,
+        }
+    } else {
+        Start {
+            done: false,
+            state: state,
+            answer: answer,
+        }
+    }
+}
+
+// The fresh state of a text, without an image.
+pub fn direct_fresh(text: &[u8], state: &mut State) -> Started
+    ensures { λ r. ⌜ (r ≡ I.startedOf (directFresh (now (text .entry)))) × (now (state .exit) ≡ stateAfter (directFresh (now (text .entry))) (now (state .entry))) ⌝ }
+{
+    let r = direct_start(text);
+    if r.done {
+        *state = r.state;
+    }
+    r.answer
+}
