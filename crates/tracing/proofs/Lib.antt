@@ -1,0 +1,8 @@
+pub mod Storing
+pub mod ReadingLaws
+pub mod RowLaws
+pub mod PrintingLaws
+pub mod ShowLaws
+pub mod ChunkLaws
+pub mod Whole
+pub mod Lines

@@ -1,0 +1,102 @@
+-- Decimals, one byte more; the integers of their numbers; the parts of a line, one part more. Assumes nothing.
+use mathlib.Core.Path.{_≡_, refl, sym, _∙_, ap}
+use mathlib.Core.Bool.{Bool, true, false, cond}
+use mathlib.Core.Option.{Option, none, some}
+use mathlib.Core.List.{List, [], _∷_, _++_}
+use Prim.Native.Nat.{ℕ, zero, suc, _+_, _*_, _-_, min, _≤_, _<_}
+use native.Mathlib.Omega.{arith}
+use native.Mathlib.Numerals.{add-one}
+use lib.IntN.{ℤ, pos, negℤ}
+use lib.Dec.{eqb, leb}
+use lib.ListN.{length, getD, take, drop, drop-of-length-le, length-drop}
+use lib.Seq.{drop-cons}
+use borrow.Author.Tests.{lt-ltb, le-ltb, le-leb, lt-leb, eq-eqb, ne-eqb}
+use Rattle.semantics.specs.Twos.{signed32}
+use Rattle.language.specs.Bytes.{between}
+use Rattle.tracing.specs.Rows.{digits, magnitude, upward, downward, decimalOf}
+use Rattle.tracing.specs.Reading.{other, orAbove, readAs}
+use Rattle.tracing.specs.declared.rows.Decimal.{Decimal}
+use Rattle.tracing.specs.declared.rows.Decimal.the-variants.{Value, Unreadable}
+
+pub other-not : (c b : ℕ) → (b ≡ c → ⊥) → other c b ≡ true
+unfolding other
+other-not c b h = rw (ne-eqb b c h)
+
+pub other-is : (c b : ℕ) → b ≡ c → other c b ≡ false
+unfolding other
+other-is c b h = rw (eq-eqb b c h)
+
+-- the number of the digits from an index on
+module _ (w : List ℕ) (i v : ℕ) where
+  pub number-none : length w ≤ i → 2147483649 ≡ orAbove (magnitude (drop i w))
+  unfolding magnitude
+  number-none h = rw (drop-of-length-le w h)
+
+  pub number-first : i < length w → orAbove (digits 0 (drop i w)) ≡ orAbove (magnitude (drop i w))
+  unfolding magnitude
+  number-first h = rw (drop-cons w i 0 h)
+
+  pub number-stop : i < length w → between 48 57 (getD w i 0) ≡ false → 2147483649 ≡ orAbove (digits v (drop i w))
+  unfolding digits
+  number-stop h e = rw (drop-cons w i 0 h, e)
+
+  pub number-again : (r : ℕ) → i < length w → between 48 57 (getD w i 0) ≡ true → r ≡ min (v * 10 + (getD w i 0 - 48)) 2147483649
+      → orAbove (digits r (drop (i + 1) w)) ≡ orAbove (digits v (drop i w))
+  unfolding digits
+  number-again r h e q = rw (drop-cons w i 0 h, add-one i, e, q)
+
+  pub number-end : length w ≤ i → v ≡ orAbove (digits v (drop i w))
+  unfolding digits
+  number-end h = rw (drop-of-length-le w h)
+
+-- the integers of a number
+pub up-none : (m : ℕ) → 2147483647 < m → Unreadable ≡ readAs (cond (leb m 2147483647) (some (pos m)) none)
+up-none m h = rw (lt-leb m 2147483647 h)
+
+pub up-value : (m : ℕ) (z : ℤ) → m ≤ 2147483647 → z ≡ signed32 m → Value z ≡ readAs (cond (leb m 2147483647) (some (pos m)) none)
+up-value m z h e = rw (le-leb m 2147483647 h, e, lt-ltb m 2147483648 (omega arith))
+
+pub down-none : (m : ℕ) → 2147483648 < m → Unreadable ≡ readAs (cond (leb m 2147483648) (some (negℤ (pos m))) none)
+down-none m h = rw (lt-leb m 2147483648 h)
+
+pub down-zero : (m : ℕ) (z : ℤ) → m ≡ 0 → z ≡ signed32 0 → Value z ≡ readAs (cond (leb m 2147483648) (some (negℤ (pos m))) none)
+down-zero m z h e = rw (h, e)
+
+pub down-value : (m : ℕ) (z : ℤ) → m ≤ 2147483648 → (m ≡ 0 → ⊥) → z ≡ signed32 (4294967296 - m) → Value z ≡ readAs (cond (leb m 2147483648) (some (negℤ (pos m))) none)
+down-value zero z h n e = absurd (n refl)
+down-value (suc k) z h n e =
+    let d : 4294967295 - (4294967296 - suc k) ≡ k = omega arith in
+    rw (le-leb (suc k) 2147483648 h, e, le-ltb (4294967296 - suc k) 2147483648 (omega arith), d)
+
+-- a number outside integer is no integer, as where there is no number
+pub up-all : (x : Option ℕ) → readAs (cond (leb (orAbove x) 2147483647) (some (pos (orAbove x))) none) ≡ readAs (upward x)
+up-all none = refl
+up-all (some m) = refl
+
+pub down-all : (x : Option ℕ) → readAs (cond (leb (orAbove x) 2147483648) (some (negℤ (pos (orAbove x)))) none) ≡ readAs (downward x)
+down-all none = refl
+down-all (some m) = refl
+
+-- the integer of a decimal
+pub decimal-empty : (w : List ℕ) → length w ≡ 0 → Unreadable ≡ readAs (decimalOf w)
+unfolding decimalOf
+decimal-empty [] h = refl
+decimal-empty (b ∷ w) h = absurd (omega arith)
+
+pub decimal-down : (w : List ℕ) → (length w ≡ 0 → ⊥) → getD w 0 0 ≡ 45 → decimalOf w ≡ downward (magnitude (drop 1 w))
+unfolding decimalOf
+decimal-down [] h e = absurd (h refl)
+decimal-down (b ∷ w) h e = rw (eq-eqb b 45 e)
+
+pub decimal-up : (w : List ℕ) → (length w ≡ 0 → ⊥) → (getD w 0 0 ≡ 45 → ⊥) → decimalOf w ≡ upward (magnitude (drop 0 w))
+unfolding decimalOf
+decimal-up [] h e = absurd (h refl)
+decimal-up (b ∷ w) h e = rw (ne-eqb b 45 e)
+
+pub read-down : (w : List ℕ) (m : ℕ) (r : Decimal) → (length w ≡ 0 → ⊥) → getD w 0 0 ≡ 45 → m ≡ orAbove (magnitude (drop 1 w))
+    → r ≡ readAs (cond (leb m 2147483648) (some (negℤ (pos m))) none) → r ≡ readAs (decimalOf w)
+read-down w m r h e q d = d ∙ (rw q (down-all (magnitude (drop 1 w))) ∙ ap readAs (sym (decimal-down w h e)))
+
+pub read-up : (w : List ℕ) (m : ℕ) (r : Decimal) → (length w ≡ 0 → ⊥) → (getD w 0 0 ≡ 45 → ⊥) → m ≡ orAbove (magnitude (drop 0 w))
+    → r ≡ readAs (cond (leb m 2147483647) (some (pos m)) none) → r ≡ readAs (decimalOf w)
+read-up w m r h e q d = d ∙ (rw q (up-all (magnitude (drop 0 w))) ∙ ap readAs (sym (decimal-up w h e)))

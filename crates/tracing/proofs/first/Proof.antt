@@ -1,0 +1,14 @@
+-- `tracing::first` meets its contract: the fresh state. Assumes nothing.
+use Rattle.tracing.proofs.ChunkLaws.{first-is}
+use borrow.Author.Needs.{needs}
+use Rattle.tracing.proofs.first.Statement.{statement}
+use Rattle.tracing.proofs.first.Tie as tie
+
+fresh-requires : tie.Need-fresh-requires
+fresh-requires c κs = search needs
+
+returns : tie.Need-returns
+returns c = first-is _ _ (c .before .fresh .ensures .1)
+
+pub first-spec : {M : Type 1} → statement M
+first-spec = tie.close (tie.spec fresh-requires returns)

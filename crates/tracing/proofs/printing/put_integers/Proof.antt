@@ -1,0 +1,61 @@
+-- `tracing::printing::put_integers` meets its contract. The invariant: what is stored and the integers from here on make the whole. Assumes nothing.
+use mathlib.Core.Path.{_≡_, refl}
+use Prim.Native.Nat.{_+_, _-_}
+use native.Mathlib.Omega.{arith}
+use lib.ListN.{length}
+use mir.Syntax.{w32}
+use mir.Val.{SFits}
+use mir.Facts.{toZ-ofZ}
+use Rattle.tracing.proofs.PrintingLaws.{Printed, printed-first, printed-again, printed-end}
+use borrow.Author.Needs.{needs}
+use Rattle.tracing.proofs.printing.put_integers.Statement.{statement}
+use Rattle.tracing.proofs.printing.put_integers.Tie as tie
+
+abbrev Inv-loop : tie.InvT-loop
+Inv-loop out₀ at values k₀ i₀ out k i = Printed out₀ at values out k i
+
+abbrev μ-loop : tie.MeasureT-loop
+μ-loop out₀ at values k₀ i₀ out k i = length values - i
+
+loop-holds : tie.Need-loop-holds Inv-loop μ-loop
+loop-holds c = printed-first _ _ _
+
+put-requires : tie.Need-put-requires Inv-loop μ-loop
+put-requires c κs = search needs
+
+value-requires : tie.Need-value-requires Inv-loop μ-loop
+value-requires c κs = search needs
+
+put-integer-requires : tie.Need-put-integer-requires Inv-loop μ-loop
+put-integer-requires c κs = search needs
+
+add-i : tie.Need-add-i Inv-loop μ-loop
+add-i c = search needs
+
+loop-less : tie.Need-loop-less Inv-loop μ-loop
+loop-less c = search needs
+
+loop-again : tie.Need-loop-again Inv-loop μ-loop
+loop-again c = let fit : SFits w32 (c .before .before .before .value .result) = search needs in printed-again _ _ _ _ _ _ (c .before .before .before .before .before .before .before .before .before .before .loop .inv) (c .before .before .before .value .result) _ _ _ _ (c .before .before .before .before .before .before .before .before .before .loop-test .taken) (c .before .before .before .value .ensures) (c .before .before .before .before .before .before .before .put .ensures) (rw (toZ-ofZ fit) at (c .before .before .put-integer .ensures)) (search needs)
+
+same-length : tie.Need-same-length Inv-loop μ-loop
+same-length c = c .before .loop .inv .kept
+
+returns : tie.Need-returns Inv-loop μ-loop
+returns c = printed-end _ _ _ _ _ _ (c .before .loop .inv) (c .loop-test .left)
+
+pub put-integers-spec : {M : Type 1} → statement M
+put-integers-spec =
+    tie.close
+    (tie.spec
+    Inv-loop
+    μ-loop
+    loop-holds
+    put-requires
+    value-requires
+    put-integer-requires
+    add-i
+    loop-less
+    loop-again
+    same-length
+    returns)
