@@ -4,6 +4,8 @@ ghost use Prim.Native.Nat.{_≤_};
 ghost use lib.ListN.{length};
 use libc::STDOUT_FILENO;
 use tracing::Begun;
+use tracing::Line;
+use tracing::Progress;
 
 // The bytes of the file that a path names, at most as many as there is room for; none where it cannot be opened.
 fn read_file(path: &[u8], bytes: &mut [u8]) -> usize
@@ -32,18 +34,23 @@ fn print_header(text: &[u8]) {
     io::write_all(STDOUT_FILENO, first_bytes(&bytes, line.size));
 }
 
+// Prints the line of the next row, if there is one.
+fn print_row(image: &[u8], rows: &[u8], p: Progress) -> Line {
+    let mut line = [0u8; 256];
+    let l = tracing::next(image, rows, p, &mut line);
+    io::write_all(STDOUT_FILENO, first_bytes(&line, l.size));
+    l
+}
+
 // Prints the lines of the rows: there are at most 65,536.
 fn print_rows(image: &[u8], rows: &[u8]) {
-    let mut line = [0u8; 256];
     let mut p = tracing::first(image);
-    let mut count = 0;
+    let mut count: usize = 0;
     while count < 65537 {
-        let l = tracing::next(image, rows, p, &mut line);
-        let size = l.size;
-        if size == 0 {
+        let l = print_row(image, rows, p);
+        if l.size == 0 {
             return;
         }
-        io::write_all(STDOUT_FILENO, first_bytes(&line, size));
         p = l.progress;
         count += 1;
     }
