@@ -1,2 +1,3 @@
 pub mod LendingLaws
 pub mod CallingLaws
+pub mod SectionsLent
