@@ -1,6 +1,14 @@
-// The operations in the forms that document 01 names. Here the opened image: the caller's bytes and the bounds of the three sections, which it lends out as parts of those bytes.
+// The public operations in the forms that document 01 names, none with a `requires`. `compile`, `cycle` (the state by `&mut`) and `token_at` are proved where they
+// stand and named here again; `fresh`, `direct` and `direct_fresh` store the caller's own state record (calls.rt); the opened image, below, holds the caller's
+// bytes and the bounds of the three sections, which it lends out as parts of those bytes.
 pub mod calls;
 
+pub use calls::direct;
+pub use calls::direct_fresh;
+pub use calls::fresh;
+pub use compiler::compile;
+pub use lexer::token_at;
+pub use runtime::advance_state as cycle;
 ghost use mathlib.Core.Path.{_≡_};
 ghost use Rattle.entry.specs.Lending.{openingOf, Lends};
 use answers::Opened;

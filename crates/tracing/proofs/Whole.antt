@@ -136,9 +136,9 @@ trace-image text rows buffer n p v h e =
     let s : startOf (freshOf b) ≡ d .state = ap startOf (d .starts) in
     let a = by-image b vs (startOf (freshOf b)) 0 in
     let t : callsOf b (startOf (freshOf b)) (callsFor (room b) vs) ≡ equationCalls p (atFirst p) (callsFor (room b) vs) =
-        ap (λ (x : State). callsOf b x (callsFor (room b) vs)) s ∙ (d .same (callsFor (room b) vs) ∙ ap (λ (x : Process). equationCalls x (atFirst x) (callsFor (room b) vs)) same) in
+    ap (λ (x : State). callsOf b x (callsFor (room b) vs)) s ∙ (d .same (callsFor (room b) vs) ∙ ap (λ (x : Process). equationCalls x (atFirst x) (callsFor (room b) vs)) same) in
     let y : imageLines b (startOf (freshOf b)) 0 vs ≡ rowsTraced p (atFirst p) 0 (rowValues (rowsIn rows)) =
-        a ∙ (ap (printed 0 vs) t ∙ (sym (by-equations p (room b) m vs (atFirst p) 0) ∙ all-short p (w .inputs) (rowValues (rowsIn rows)) (atFirst p) 0)) in
+    a ∙ (ap (printed 0 vs) t ∙ (sym (by-equations p (room b) m vs (atFirst p) 0) ∙ all-short p (w .inputs) (rowValues (rowsIn rows)) (atFirst p) 0)) in
     let k : leb (length rows) 65536 ≡ true = le-leb (length rows) 65536 h in
     let z : tracedBy (accepted p) rows ≡ headerOf p ++ rowsTraced p (atFirst p) 0 (rowValues (rowsIn rows)) = rw k in
     ap (λ (x : Verdict). tracedBy x rows) v ∙ (z ∙ ap (λ (l : List ℕ). headerOf p ++ l) (sym y))
