@@ -11,25 +11,38 @@ use Rattle.answers.specs.declared.Started as declared
 use Rattle.answers.specs.declared.Started.the-variants.{Fresh, NotStarted}
 use Rattle.format.specs.Words.{Bytes}
 use Rattle.semantics.specs.Records.{Started, fresh, not-started}
+use Rattle.design.specs.Process.{Process}
+use Rattle.semantics.specs.Rows.{Kept, Outcome}
+use Rattle.semantics.specs.Answer.{Answers}
+use Rattle.semantics.specs.Answer as A
 use Rattle.semantics.specs.Calls.{Answer, performed, not-performed, Called, Call}
+use Rattle.semantics.specs.Comparison.{fed, laid, told}
 use Rattle.cycle.specs.Advances.{isPerformed}
-use Rattle.theorems.specs.Demand1.{Runs}
-use Rattle.theorems.specs.Demand1.Runs.{performs, refuses}
+use Rattle.theorems.specs.Promises.{RunsText}
+use Rattle.theorems.specs.Promises as P
 use Rattle.behaviour.specs.Direct.{directOf}
-use Rattle.theorems.proofs.Demand1.{demand1}
+use Rattle.theorems.proofs.Main.{demand1}
 use Rattle.direct.specs.Calls.{callOf}
 use Rattle.direct.specs.declared.Advanced.{Advanced}
 use Rattle.interpreter.specs.Answering.{cycledOf}
-use Rattle.entry.specs.Calling.{DirectOutcomes, Starting, stateAfter}
+use Rattle.entry.specs.Calling.{DirectOutcomes, Starting}
+
+-- a row of the equations that is refused keeps what was kept
+row-untouched : (d : Process) (k : Kept) (c : Call) (r : Outcome × Kept) (q x : ℕ) → Answers d k (fed c) r → told (r .0) ≡ not-performed q x → laid (r .1) ≡ laid k
+row-untouched d k c r q x (A.by-14 y m) e = refl
+row-untouched d k c r q x (A.by-16 n m o) e = refl
+row-untouched d k c r q x (A.performs y τ m h w) e = absurd (let z : _≡_ {A = ℕ} 0 1 = cc in omega arith)
 
 -- a direct run that is refused
 direct-untouched : (text : List ℕ) (s : State) (c : Call) (q k : ℕ) → directOf text s c .answer ≡ not-performed q k → directOf text s c .state ≡ s
 unfolding Bytes
 direct-untouched text s c q k = go (directOf text s c) (demand1 text [] [] tt s c .run)
   where
-    go : (r : Called) → Runs 1 s c r → r .answer ≡ not-performed q k → r .state ≡ s
-    go _ (performs way next row h) e = absurd (let z : _≡_ {A = ℕ} 0 1 = cc in omega arith)
-    go _ (refuses x y h j) e = refl
+    go : (r : Called) → RunsText text s c r → r .answer ≡ not-performed q k → r .state ≡ s
+    go _ (P.RunsText.refuses x y h j m) e = refl
+    go _ (P.RunsText.by-14 d v x m) e = refl
+    go _ (P.RunsText.by-15 d v m n) e = refl
+    go _ (P.RunsText.answers d v m g r a) e = row-untouched d (g .kept) c r q k a e ∙ g .layout
 
 module _ (text : List ℕ) (s : State) (i o : List ℤ) (a : Advanced) (u : List ℤ)
     (h : (a .answer ≡ cycledOf (directOf text s (callOf i o) .answer)) × (a .state ≡ directOf text s (callOf i o) .state) × (u ≡ directOf text s (callOf i o) .row)) where

@@ -1,3 +1,4 @@
 pub mod LendingLaws
 pub mod CallingLaws
 pub mod SectionsLent
+pub mod TokenLent

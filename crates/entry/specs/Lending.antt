@@ -6,10 +6,10 @@ use Prim.Native.Nat.{ℕ, _+_, _-_}
 use lib.ListN.{length, take, drop}
 use lib.Dec.{leb}
 use denote.Ref.{RefT, now}
-use Rattle.answers.specs.Answers.{numberOf, placeOf}
+use Rattle.answers.specs.Answers.{numberOf, placeOf, refusalOf}
 use Rattle.answers.specs.declared.Sections.{Sections}
 use Rattle.format.specs.Opening.{Opened, opened, not-opened, openOf}
-use Rattle.loader.specs.Open.{placesOf, refusalOf}
+use Rattle.loader.specs.Open.{placesOf}
 use Rattle.entry.specs.declared.Opening.{Opening}
 
 -- the bounds of three empty sections

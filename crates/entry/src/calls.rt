@@ -1,5 +1,5 @@
-// The calls that advance the caller's own state record: the new state is stored only where the call was done. The cycle on an image is
-// `runtime::advance_state`.
+// The calls on texts and images. Those that advance the caller's own state record store the new state only where the call was done; the cycle on an
+// image is `runtime::advance_state`.
 ghost use mathlib.Core.Path.{_≡_};
 ghost use Rattle.format.specs.State.{freshOf};
 ghost use Rattle.runtime.specs.Calls as R;

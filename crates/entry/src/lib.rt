@@ -1,15 +1,17 @@
-// The public operations in the forms that document 01 names, none with a `requires`. `compile`, `cycle` (the state by `&mut`) and `token_at` are proved where they
-// stand and named here again; `fresh`, `direct` and `direct_fresh` store the caller's own state record (calls.rt); the opened image, below, holds the caller's
-// bytes and the bounds of the three sections, which it lends out as parts of those bytes.
+// The public operations in the forms that document 01 names, none with a `requires`. `compile` and `cycle` (the state by `&mut`) are proved where they stand and
+// named here again; `fresh`, `direct` and `direct_fresh` store the caller's own state record (calls.rt); the opened image holds the caller's bytes and the bounds
+// of the three sections, which it lends out as parts of those bytes, and `token_at` a part of the text.
 pub mod calls;
 
 pub use calls::direct;
 pub use calls::direct_fresh;
 pub use calls::fresh;
 pub use compiler::compile;
-pub use lexer::token_at;
 pub use runtime::advance_state as cycle;
 ghost use mathlib.Core.Path.{_≡_};
+ghost use Prim.Native.Nat.{_+_};
+ghost use lib.ListN.{length};
+ghost use Rattle.language.specs.Lexer.{tokenAt};
 ghost use Rattle.entry.specs.Lending.{openingOf, Lends};
 use answers::Opened;
 use answers::Sections;
@@ -120,4 +122,33 @@ pub fn code<'a>(i: Image<'a>) -> &'a [u8]
     ensures { λ r. ⌜ Lends (i .entry .bytes) (i .entry .opening .sections .code) (i .entry .opening .sections .end) r ⌝ }
 {
     code_part(i.bytes, i.opening)
+}
+
+// So many bytes from a start on, as that part; an empty part where they do not lie in the bytes.
+fn part<'a>(bytes: &'a [u8], start: usize, n: usize) -> &'a [u8]
+    ensures { λ r. ⌜ Lends (bytes .entry) start (start + n) r ⌝ }
+{
+    if bytes.len() < start {
+        return between(bytes, 1, 0);
+    }
+    if bytes.len() - start < n {
+        return between(bytes, 1, 0);
+    }
+    between(bytes, start, start + n)
+}
+
+// The length of the token that starts at a place, or 0.
+fn token_length(text: &[u8], place: usize) -> usize
+    ensures { λ r. ⌜ r ≡ length (tokenAt (now (text .entry)) place) ⌝ }
+{
+    let t = lexer::token_at(text, place);
+    t.len()
+}
+
+// The token that starts at a place, as that part of the text: at the place itself; or an empty part where none starts.
+pub fn token_at<'a>(text: &'a [u8], place: usize) -> &'a [u8]
+    ensures { λ r. ⌜ (now r ≡ tokenAt (now (text .entry)) place) × Lends (text .entry) place (place + length (tokenAt (now (text .entry)) place)) r ⌝ }
+{
+    let n = token_length(text, place);
+    part(text, place, n)
 }

@@ -6,7 +6,6 @@ use Prim.Native.Nat.{ℕ, _+_, _≤_}
 use native.Mathlib.Omega.{arith}
 use lib.ListN.{length, take}
 use lib.Seq.{take-append-seam}
-use lib.IntN.{ℤ}
 use borrow.Author.Tests.{le-ltb}
 use Rattle.answers.specs.declared.Refusal.{Refusal}
 use Rattle.grammar.specs.Token.{Token}
@@ -40,7 +39,7 @@ use Rattle.scope.specs.Resolves.{WordsIn}
 use Rattle.frontend.specs.declared.Front.{Front}
 use Rattle.frontend.specs.declared.Front.the-variants.{Accepted, Refused}
 use Rattle.frontend.specs.declared.layout.Counts.{Counts}
-use Rattle.frontend.specs.Fronts.{FrontAs}
+use Rattle.frontend.specs.Fronts.{frontOf}
 use Rattle.frontend.proofs.Fronting.{tree-in}
 use Rattle.labels.specs.declared.Line.{Line}
 use Rattle.labels.specs.Header.{headerOf, headerFor, isAccepted}
@@ -53,20 +52,20 @@ use Rattle.labels.proofs.Listed.{header-is, header-short}
 not-accepted : {A : Type 0} {c : Counts} {x : Refusal} → Accepted c ≡ Refused x → A
 not-accepted e = absurd (let z : _≡_ {A = ℕ} 0 1 = cc in omega arith)
 
-pub front-yes : (text : List ℕ) {r : Front} {c : Counts} (ops : List ℕ) (args : List ℤ) (lines is os vs : List ℕ) (ps qs : List ℤ) → FrontAs (verdict text) r ops args lines is os vs ps qs → r ≡ Accepted c → true ≡ isAccepted (verdict text)
+pub front-yes : (text : List ℕ) {r : Front} {c : Counts} → r ≡ frontOf (verdict text) → r ≡ Accepted c → true ≡ isAccepted (verdict text)
 unfolding isAccepted
-front-yes text {r} {c} ops args lines is os vs ps qs f e = go (verdict text) f
+front-yes text {r} {c} f e = go (verdict text) f
   where
-    go : (v : Verdict) → FrontAs v r ops args lines is os vs ps qs → true ≡ isAccepted v
+    go : (v : Verdict) → r ≡ frontOf v → true ≡ isAccepted v
     go (accepted p) g = refl
     go (refused n k) g = not-accepted (sym e ∙ g)
 
-pub front-no : (text : List ℕ) {r : Front} {x : Refusal} (ops : List ℕ) (args : List ℤ) (lines is os vs : List ℕ) (ps qs : List ℤ) → FrontAs (verdict text) r ops args lines is os vs ps qs → r ≡ Refused x → false ≡ isAccepted (verdict text)
+pub front-no : (text : List ℕ) {r : Front} {x : Refusal} → r ≡ frontOf (verdict text) → r ≡ Refused x → false ≡ isAccepted (verdict text)
 unfolding isAccepted
-front-no text {r} {x} ops args lines is os vs ps qs f e = go (verdict text) f
+front-no text {r} {x} f e = go (verdict text) f
   where
-    go : (v : Verdict) → FrontAs v r ops args lines is os vs ps qs → false ≡ isAccepted v
-    go (accepted p) (c, g, h) = not-accepted (sym g ∙ e)
+    go : (v : Verdict) → r ≡ frontOf v → false ≡ isAccepted v
+    go (accepted p) g = not-accepted (sym g ∙ e)
     go (refused n k) g = refl
 
 -- WHAT AN ACCEPTED TEXT HAS

@@ -6,3 +6,5 @@ pub mod ShowLaws
 pub mod ChunkLaws
 pub mod Whole
 pub mod Lines
+pub mod Refused
+mod Examples

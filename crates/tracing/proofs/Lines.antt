@@ -1,21 +1,16 @@
 -- The lines of the calls of `next`, one behind another, are what is pending. Assumes nothing.
 use mathlib.Core.Path.{_≡_, refl, sym, _∙_, ap, subst}
 use mathlib.Core.Bool.{Bool, true, false}
-use mathlib.Core.Option.{Option}
-use mathlib.Core.List.{List, [], _∷_, _++_}
-use Prim.Native.Nat.{ℕ, zero, suc, _+_, _-_, _≤_, _<_, min}
+use mathlib.Core.List.{List, [], _++_}
+use Prim.Native.Nat.{ℕ, zero, suc, _-_, _≤_, _<_}
 use native.Mathlib.Omega.{arith}
 use native.Mathlib.Numerals.{add-one}
-use lib.IntN.{ℤ}
 use lib.Dec.{ltb}
-use lib.ListN.{length, drop, drop-of-length-le}
+use lib.ListN.{length, drop-of-length-le}
 use borrow.Author.Tests.{lt-ltb, ltb-true, ltb-false}
-use Rattle.answers.specs.declared.State.{State}
-use Rattle.lexer.specs.Places.{part}
-use Rattle.tracing.specs.Rows.{split, rowsIn, decimals}
-use Rattle.tracing.specs.Reading.{partEnd, short}
+use Rattle.tracing.specs.Rows.{split}
 use Rattle.tracing.specs.Trace.{rowValues}
-use Rattle.tracing.specs.Chunks.{rowShown, goesOn, rowAt, passed, onward, nextOf, shorts, imageLines, pending, chunks}
+use Rattle.tracing.specs.Chunks.{rowShown, rowAt, passed, onward, nextOf, shorts, imageLines, pending, chunks}
 use Rattle.tracing.specs.declared.Progress.{Progress}
 use Rattle.tracing.proofs.RowLaws.{row-inside, rows-step}
 use Rattle.tracing.proofs.ChunkLaws.{at-end, row-there}

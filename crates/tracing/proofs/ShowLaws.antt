@@ -2,13 +2,12 @@
 use mathlib.Core.Path.{_≡_, refl, sym, _∙_, ap, subst}
 use mathlib.Core.Bool.{Bool, true, false, cond}
 use mathlib.Core.Option.{Option, none, some}
-use mathlib.Core.List.{List, [], _∷_}
-use Prim.Native.Nat.{ℕ, zero, suc, _+_, _-_, _≤_, _<_, min}
+use mathlib.Core.List.{List, _∷_}
+use Prim.Native.Nat.{ℕ, zero, suc, _-_, _≤_}
 use native.Mathlib.Omega.{arith}
 use lib.IntN.{ℤ, pos}
 use lib.Dec.{leb}
 use lib.ListN.{length, take, drop, replicate}
-use lib.Seq.{sets}
 use borrow.Author.Tests.{leb-true}
 use Rattle.answers.specs.Answers.{numberOf}
 use Rattle.answers.specs.declared.State.{State}
@@ -21,7 +20,7 @@ use Rattle.cycle.specs.Advances.{cycledOf}
 use Rattle.tracing.specs.Printing.{performedLine, refusedLine}
 use Rattle.tracing.specs.Reading.{short, readsOf, Reads}
 use Rattle.tracing.specs.Stored.{Puts}
-use Rattle.tracing.specs.Chunks.{lineOf, shown, room, rowShown, Shows}
+use Rattle.tracing.specs.Chunks.{lineOf, shown, room, Shows}
 use Rattle.tracing.specs.declared.rows.Row.{Row}
 use Rattle.tracing.specs.declared.rows.Row.the-variants.{Values, Unreadable}
 use Rattle.tracing.proofs.Storing.{take-sets}

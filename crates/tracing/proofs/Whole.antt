@@ -1,10 +1,10 @@
 -- The trace of an image is the trace of its text: the lines of rows are printed from a list of calls, and by demand 3 the calls on the image are those of
 -- the equations. Assumes nothing.
-use mathlib.Core.Path.{_≡_, refl, sym, _∙_, ap, subst}
+use mathlib.Core.Path.{_≡_, refl, sym, _∙_, ap}
 use mathlib.Core.Bool.{Bool, true, false, cond}
 use mathlib.Core.Option.{Option, none, some}
 use mathlib.Core.List.{List, [], _∷_, _++_}
-use Prim.Native.Nat.{ℕ, suc, _≤_, _<_, min}
+use Prim.Native.Nat.{ℕ, suc, _≤_, _<_}
 use native.Mathlib.Omega.{arith}
 use lib.IntN.{ℤ, pos}
 use lib.Dec.{leb, eqb}
@@ -21,20 +21,19 @@ use Rattle.format.specs.Image as Image
 use Rattle.format.specs.Signature.{signatureBytes}
 use Rattle.format.specs.Encode.{signatureFor, tableOf, encode}
 use Rattle.format.specs.State.{freshOf}
-use Rattle.semantics.specs.Records.{stateFor, fresh}
+use Rattle.semantics.specs.Records.{stateFor}
 use Rattle.format.specs.Cycle.{cycleOf, callsOf}
 use Rattle.semantics.specs.Calls.{Called, Call}
 use Rattle.runtime.specs.Calls.{startOf}
 use Rattle.theorems.specs.Compile.{Compile, written, not-compiled, written-into, onVerdict, compileOf}
 use Rattle.semantics.specs.Comparison.{fed, seen, equationCalls}
-use Rattle.theorems.specs.Promises.{Demand3}
 use Rattle.theorems.proofs.Demand3.{demand3}
 use Rattle.tracing.specs.Rows.{rowsIn}
 use Rattle.tracing.specs.Printing.{refusedLine, refusedText}
 use Rattle.labels.specs.Header.{headerOf}
 use Rattle.tracing.specs.Reading.{short}
 use Rattle.tracing.specs.Trace.{lineFor, rowTraced, rowsTraced, rowValues, tracedBy, traceOf}
-use Rattle.tracing.specs.Chunks.{shown, room, rowShown, firstOf, shorts, imageLines, pending}
+use Rattle.tracing.specs.Chunks.{shown, room, firstOf, shorts, imageLines, pending}
 
 -- the calls of rows, with an output row of m zeros; an unreadable row makes no call
 unfoldable callsFor : ℕ → List (Option (List ℤ)) → List Call

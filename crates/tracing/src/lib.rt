@@ -2,7 +2,7 @@
 // one row into a lent buffer. What is printed for a whole text is a refusal of `start` alone, or a header and then the lines.
 ghost use mathlib.Core.Path.{_≡_};
 ghost use Prim.Native.Nat.{_≤_, _+_, min};
-ghost use lib.ListN.{length, take, getD};
+ghost use lib.ListN.{length, take};
 ghost use mathlib.Core.Option.{some};
 ghost use Rattle.format.specs.Cycle.{cycleOf};
 ghost use Rattle.tracing.specs.Rows.{decimals};

@@ -1,6 +1,5 @@
 // The rows of a file's bytes, and the decimals of a row.
 ghost use mathlib.Core.Path.{_≡_};
-ghost use mathlib.Core.List.{List, _∷_, []};
 ghost use mathlib.Core.Option.{some, none};
 ghost use mathlib.Core.Bool.{cond};
 ghost use Prim.Native.Nat.{_+_, _-_, _*_, min, _≤_, _<_};

@@ -15,10 +15,10 @@ enum-told-2 : tie.Need-enum-told-2
 enum-told-2 c = search needs
 
 returns : tie.Need-returns
-returns c = front-yes _ _ _ _ _ _ _ _ _ (c .before .before .accept .ensures (record { ops-size = refl; args-size = refl; lines-size = refl; inputs-size = refl; outputs-size = refl; variables-size = refl; at-outputs-size = refl; at-variables-size = refl })) (c .enum-told .given .1)
+returns c = front-yes _ (c .before .before .accept .ensures (record { ops-size = refl; args-size = refl; lines-size = refl; inputs-size = refl; outputs-size = refl; variables-size = refl; at-outputs-size = refl; at-variables-size = refl }) .0) (c .enum-told .given .1)
 
 returns-2 : tie.Need-returns-2
-returns-2 c = front-no _ _ _ _ _ _ _ _ _ (c .before .before .accept .ensures (record { ops-size = refl; args-size = refl; lines-size = refl; inputs-size = refl; outputs-size = refl; variables-size = refl; at-outputs-size = refl; at-variables-size = refl })) (c .enum-told2 .given .1)
+returns-2 c = front-no _ (c .before .before .accept .ensures (record { ops-size = refl; args-size = refl; lines-size = refl; inputs-size = refl; outputs-size = refl; variables-size = refl; at-outputs-size = refl; at-variables-size = refl }) .0) (c .enum-told2 .given .1)
 
 pub accepted-spec : {M : Type 1} → statement M
 accepted-spec = tie.close (tie.spec accept-requires enum-told enum-told-2 returns returns-2)

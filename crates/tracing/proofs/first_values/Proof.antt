@@ -1,7 +1,6 @@
 -- `tracing::first_values` meets its contract: all of a slice that is shorter, or the part from its beginning. Assumes nothing.
 use mathlib.Core.Path.{sym}
-use Prim.Native.Nat.{_≤_, _-_}
-use native.Mathlib.Omega.{arith}
+use Prim.Native.Nat.{_≤_}
 use lib.ListN.{length}
 use lib.Seq.{take-all}
 use Rattle.tracing.proofs.ShowLaws.{part-first}

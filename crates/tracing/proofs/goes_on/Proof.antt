@@ -1,6 +1,5 @@
 -- `tracing::goes_on` meets its contract: by its tests. Assumes nothing.
 use Rattle.tracing.proofs.ChunkLaws.{too-long, at-end, row-there}
-use borrow.Author.Needs.{needs}
 use Rattle.tracing.proofs.goes_on.Statement.{statement}
 use Rattle.tracing.proofs.goes_on.Tie as tie
 

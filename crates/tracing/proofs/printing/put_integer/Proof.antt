@@ -1,6 +1,5 @@
 -- `tracing::printing::put_integer` meets its contract: by two's complement. Assumes nothing.
 use mir.Facts.{toZ-ofZ}
-use native.Mathlib.Omega.{arith}
 use Rattle.tracing.proofs.PrintingLaws.{puts-up, puts-down}
 use borrow.Author.Needs.{needs}
 use Rattle.tracing.proofs.printing.put_integer.Statement.{statement}

@@ -1,6 +1,6 @@
 -- `tracing::printing::put_text` meets its contract. The invariant: the bytes passed are stored. Assumes nothing.
 use mathlib.Core.Path.{_≡_, refl}
-use Prim.Native.Nat.{_+_, _-_, _≤_}
+use Prim.Native.Nat.{_-_, _≤_}
 use native.Mathlib.Omega.{arith}
 use lib.ListN.{length, take}
 use Rattle.tracing.specs.Stored.{Puts}

@@ -1,5 +1,5 @@
 -- `tracing::rows::read_row` meets its contract. The invariant: the values stored and the parts from here on make the row. Assumes nothing.
-use mathlib.Core.Path.{_≡_, sym, _∙_, ap}
+use mathlib.Core.Path.{_∙_, ap}
 use Prim.Native.Nat.{_+_, _-_}
 use native.Mathlib.Omega.{arith}
 use lib.ListN.{length}

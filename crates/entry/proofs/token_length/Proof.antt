@@ -1,0 +1,15 @@
+-- `entry::token_length` meets its contract: the length of the part that the lexer hands out. Assumes nothing.
+use mathlib.Core.Path.{ap}
+use lib.ListN.{length}
+use borrow.Author.Needs.{needs}
+use Rattle.entry.proofs.token_length.Statement.{statement}
+use Rattle.entry.proofs.token_length.Tie as tie
+
+token-at-requires : tie.Need-token-at-requires
+token-at-requires c κs = search needs
+
+returns : tie.Need-returns
+returns c = ap length (c .token-at .ensures)
+
+pub token-length-spec : {M : Type 1} → statement M
+token-length-spec = tie.close (tie.spec token-at-requires returns)

@@ -1,0 +1,46 @@
+-- The trace of tally as document 01 prints it (P1), byte for byte, computed from the text and the rows; a refused text; rows that are not readable.
+-- Assumes nothing.
+use mathlib.Core.Path.{_≡_, refl}
+use mathlib.Core.List.{List}
+use Prim.Native.Nat.{ℕ}
+use Rattle.design.specs.Types as Types
+use Rattle.design.specs.Expression as Expression
+use Rattle.design.specs.Statement as Statement
+use Rattle.language.specs.Bytes.{bytes}
+use Rattle.language.proofs.Computing.{computed}
+use Rattle.language.proofs.ExamplesReadings.{tallyText}
+use Rattle.semantics.specs.Evaluation as Evaluation
+use Rattle.semantics.specs.Equations as Equations
+use Rattle.semantics.specs.Rows as Rows
+use Rattle.tracing.specs.Rows as R
+use Rattle.tracing.specs.Printing as Printing
+use Rattle.labels.specs.Header as Header
+use Rattle.tracing.specs.Trace as Trace
+use Rattle.tracing.specs.Trace.{traceOf}
+
+-- opens all that a trace computes by
+unfoldable opened : List ℕ → List ℕ → List ℕ
+unfolding computed Types.inRange Types.inType Expression.bind Expression.fold Statement.size Statement.has Evaluation.unaryResult Evaluation.binaryResult Evaluation.asInteger Evaluation.applyUnary Evaluation.applyBinary Evaluation.leafValue Evaluation.evaluate Equations.perform Equations.holds Equations.log Equations.then Equations.acted Equations.tested Equations.pick Equations.start Equations.resume Equations.enter Equations.cycle Rows.atFirst Rows.wrongValue Rows.rowRefusal Rows.concluded Rows.judged Rows.row R.split R.digits R.magnitude R.decimalOf R.all R.decimals Printing.decimalBy Printing.integers Printing.performedLine Printing.refusedLine Printing.refusedText Header.digits Header.nameBytes Header.labelled Header.headerOf Trace.rowsTraced Trace.rowValues Trace.traceOf
+opened text rows = traceOf text rows
+
+-- P1
+pub p1 : traceOf tallyText (bytes "7\n7\n1\n-5\n-2147483648\n20\n") ≡ bytes "cycle wait lines total\n0 2 3 0\n1 2 3 0\n2 5 4 14\n3 2 3 14\n4 refused 16\n5 2 3 14\n"
+unfolding opened
+p1 = refl
+
+-- a last line without LF counts; an empty line is a row of no values; a double space, `+`, CR, a decimal outside integer and a row of two values are 14;
+-- leading zeros and `-0` are decimals
+pub unreadable : traceOf tallyText (bytes "007\n\n7  1\n+7\n7\r\n-2147483649\n2147483648\n1 2\n 7\n7 \n-\n-0")
+    ≡ bytes "cycle wait lines total\n0 2 3 0\n1 refused 14\n2 refused 14\n3 refused 14\n4 refused 14\n5 refused 14\n6 refused 14\n7 refused 14\n8 refused 14\n9 refused 14\n10 refused 14\n11 2 3 0\n"
+unfolding opened
+unreadable = refl
+
+-- no rows: the header alone
+pub no-rows : traceOf tallyText (bytes "") ≡ bytes "cycle wait lines total\n"
+unfolding opened
+no-rows = refl
+
+-- a refused text, whatever the rows are
+pub refused-text : traceOf (bytes "entity 5") (bytes "7\n") ≡ bytes "refused 3 7\n"
+unfolding opened
+refused-text = refl
