@@ -8,7 +8,6 @@ use lib.IntN.{ℤ}
 use Rattle.semantics.proofs.Basic.{false-true}
 use Rattle.answers.specs.declared.State.{State}
 use Rattle.answers.specs.declared.Started as declared
-use Rattle.answers.specs.declared.Started.the-variants.{Fresh, NotStarted}
 use Rattle.format.specs.Words.{Bytes}
 use Rattle.semantics.specs.Records.{Started, fresh, not-started}
 use Rattle.design.specs.Process.{Process}
@@ -25,7 +24,7 @@ use Rattle.theorems.proofs.Main.{demand1}
 use Rattle.direct.specs.Calls.{callOf}
 use Rattle.direct.specs.declared.Advanced.{Advanced}
 use Rattle.interpreter.specs.Answering.{cycledOf}
-use Rattle.entry.specs.Calling.{DirectOutcomes, Starting}
+use Rattle.entry.specs.Calling.{DirectOutcomes, Starting, isFresh}
 
 -- a row of the equations that is refused keeps what was kept
 row-untouched : (d : Process) (k : Kept) (c : Call) (r : Outcome × Kept) (q x : ℕ) → Answers d k (fed c) r → told (r .0) ≡ not-performed q x → laid (r .1) ≡ laid k
@@ -56,11 +55,6 @@ module _ (text : List ℕ) (s : State) (i o : List ℤ) (a : Advanced) (u : List
   -- the outcome, where p says whether the cycle was performed
   pub outcome-of : (p : Bool) → p ≡ isPerformed (a .answer) → DirectOutcomes text s i o (record { performed = p; state = a .state; answer = a .answer }) u
   outcome-of p e = record { answer = h .0; state = h .1; row = h .2; kept = λ f. refused-kept (sym e ∙ f) }
-
--- whether a fresh state is there
-abbrev pub isFresh : declared.Started → Bool
-isFresh Fresh = true
-isFresh (NotStarted r) = false
 
 -- a fresh state asked for: `named` is the declared answer, `state` the record beside it
 module _ (named : Started → declared.Started) (state : Started → State) (is-fresh : (s : State) → isFresh (named (fresh s)) ≡ true)

@@ -1,11 +1,12 @@
 -- What the calls that store a state come to (document 01, "State", "Turned back"). Assumes nothing.
 use mathlib.Core.Path.{_≡_}
-use mathlib.Core.Bool.{true, false}
+use mathlib.Core.Bool.{Bool, true, false}
 use mathlib.Core.List.{List}
 use Prim.Native.Nat.{ℕ}
 use lib.IntN.{ℤ}
 use Rattle.answers.specs.declared.State.{State}
 use Rattle.answers.specs.declared.Started as declared
+use Rattle.answers.specs.declared.Started.the-variants.{Fresh, NotStarted}
 use Rattle.semantics.specs.Records.{Started, fresh, not-started}
 use Rattle.behaviour.specs.Direct.{directOf}
 use Rattle.direct.specs.Calls.{callOf}
@@ -30,3 +31,8 @@ pub record Starting (named : Started → declared.Started) (f : Started) (r : St
   pub answer : r .answer ≡ named f
   pub stored : r .done ≡ true → (t : State) → r .state ≡ stateAfter f t
   pub kept : r .done ≡ false → (t : State) → t ≡ stateAfter f t
+
+-- whether a fresh state is there
+abbrev pub isFresh : declared.Started → Bool
+isFresh Fresh = true
+isFresh (NotStarted r) = false

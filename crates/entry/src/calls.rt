@@ -6,7 +6,7 @@ ghost use Rattle.runtime.specs.Calls as R;
 ghost use Rattle.behaviour.specs.Direct.{directOf, directFresh};
 ghost use Rattle.direct.specs.Calls.{callOf};
 ghost use Rattle.interpreter.specs.Answering as I;
-ghost use Rattle.entry.specs.Calling.{DirectOutcomes, Starting, stateAfter};
+ghost use Rattle.entry.specs.Calling.{DirectOutcomes, Starting, stateAfter, isFresh};
 use answers::Cycled;
 use answers::Started;
 use answers::State;
@@ -60,6 +60,16 @@ pub fn direct(text: &[u8], state: &mut State, inputs: &[i32], row: &mut [i32]) -
     r.answer
 }
 
+// Whether a fresh state is there.
+fn is_fresh(answer: Started) -> bool
+    ensures { λ r. ⌜ r ≡ isFresh answer ⌝ }
+{
+    match answer {
+        Started::Fresh => true,
+        Started::NotStarted(_) => false,
+    }
+}
+
 // The fresh state of an image, and whether it is there.
 fn fresh_start(image: &[u8]) -> Start
     ensures { λ r. ⌜ Starting R.startedOf (freshOf (now (image .entry))) r ⌝ }
@@ -67,18 +77,11 @@ fn fresh_start(image: &[u8]) -> Start
     let f = runtime::fresh(image);
     let state = f.state;
     let answer = f.answer;
-    if let Started::Fresh = answer {
-        Start {
-            done: true,
-            state: state,
-            answer: answer,
-        }
-    } else {
-        Start {
-            done: false,
-            state: state,
-            answer: answer,
-        }
+    let done = is_fresh(answer);
+    Start {
+        done: done,
+        state: state,
+        answer: answer,
     }
 }
 
@@ -100,18 +103,11 @@ fn direct_start(text: &[u8]) -> Start
     let f = interpreter::fresh(text);
     let state = f.state;
     let answer = f.answer;
-    if let Started::Fresh = answer {
-        Start {
-            done: true,
-            state: state,
-            answer: answer,
-        }
-    } else {
-        Start {
-            done: false,
-            state: state,
-            answer: answer,
-        }
+    let done = is_fresh(answer);
+    Start {
+        done: done,
+        state: state,
+        answer: answer,
     }
 }
 
