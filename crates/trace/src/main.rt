@@ -36,7 +36,7 @@ fn print_header(text: &[u8]) {
 
 // Prints the line of the next row, if there is one.
 fn print_row(image: &[u8], rows: &[u8], p: Progress) -> Line {
-    let mut line = [0u8; 256];
+    let mut line = [0u8; 512];
     let l = tracing::next(image, rows, p, &mut line);
     io::write_all(STDOUT_FILENO, first_bytes(&line, l.size));
     l
@@ -58,7 +58,7 @@ fn print_rows(image: &[u8], rows: &[u8]) {
 
 fn trace(text: &[u8], rows: &[u8]) {
     let mut image = [0u8; 65535];
-    let mut line = [0u8; 256];
+    let mut line = [0u8; 512];
     match tracing::start(text, rows, &mut image, &mut line) {
         Begun::Only(size) => {
             io::write_all(STDOUT_FILENO, first_bytes(&line, size));

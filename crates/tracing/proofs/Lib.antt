@@ -7,4 +7,6 @@ pub mod ChunkLaws
 pub mod Whole
 pub mod Lines
 pub mod Refused
+pub mod Program
+pub mod Short
 mod Examples

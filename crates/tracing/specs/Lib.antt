@@ -4,3 +4,4 @@ pub mod Reading
 pub mod Stored
 pub mod Trace
 pub mod Chunks
+pub mod Program
