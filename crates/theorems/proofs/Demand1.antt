@@ -1,149 +1,239 @@
--- Demand 1: by cases on the verdict, on the opened image and on the direct row. Assumes nothing.
+-- Demand 1: what each call comes to (Cases), and every refusal exactly when its clause says so: from the verdict, the opener's clauses, and the tests of
+-- rows, states and operators. Assumes nothing.
 use mathlib.Core.Path.{_≡_, refl, sym, _∙_, ap, subst}
 use mathlib.Core.Bool.{Bool, true, false, cond}
+use mathlib.Core.Logic.{_↔_}
 use mathlib.Core.Option.{Option, none, some}
-use mathlib.Core.List.{List, _++_}
-use Prim.Native.Nat.{ℕ, _≤_}
+use mathlib.Core.List.{List, [], _++_}
+use Prim.Native.Nat.{ℕ, _≤_, _<_}
 use native.Mathlib.Omega.{arith}
 use lib.ListN.{length, drop}
+use lib.IntN.{ℤ}
 use lib.Dec.{leb}
-use borrow.Author.Tests.{leb-true, leb-false}
+use borrow.Author.Tests.{lt-leb, leb-false}
 use Rattle.answers.specs.declared.State.{State}
 use Rattle.design.specs.Process.{Process, WellFormed}
-use Rattle.language.specs.Rules.{table}
-use Rattle.language.specs.Validity.{Valid, here, there, Refuses, too-long, no-token, no-sentence, past-limit, offends}
+use Rattle.language.specs.Validity.{Valid, Refuses}
 use Rattle.language.specs.Verdict.{Verdict, accepted, refused, verdict}
 use Rattle.language.proofs.Judged as J
 use Rattle.language.proofs.WellFormed.{valid-well-formed}
-use Rattle.semantics.specs.Rows.{rowRefusal, row, atFirst}
+use Rattle.semantics.specs.Equations as Equations
+use Rattle.semantics.specs.Rows.{Kept, Outcome, rowRefusal, concluded, judged, row}
 use Rattle.semantics.specs.InputRow.{Meets14}
-use Rattle.semantics.specs.Calls.{Call}
-use Rattle.semantics.specs.Comparison.{fed, laid, seen}
-use Rattle.semantics.specs.DirectRow.{fitsText, directRow, Described}
-use Rattle.semantics.proofs.Basic.{none-some, false-true}
-use Rattle.semantics.proofs.Rows.{meets-14-exactly, row-answers}
+use Rattle.semantics.specs.Refusal.{CycleOverflows}
+use Rattle.semantics.specs.Answer.{Answers}
+use Rattle.semantics.specs.Answer as A
+use Rattle.semantics.specs.Records.{Started, fresh, not-started}
+use Rattle.semantics.specs.Calls.{Answer, performed, not-performed, Call, Called, unless14, turnedBack}
+use Rattle.semantics.specs.Comparison.{fed, laid, told, seen}
+use Rattle.semantics.specs.DirectRow.{directRow, Described}
+use Rattle.semantics.proofs.Basic.{none-some}
+use Rattle.semantics.proofs.Rows.{meets-14-exactly}
+use Rattle.semantics.proofs.Refusal.{refusal-exactly}
 use Rattle.semantics.proofs.DirectRows.{direct-row}
-use Rattle.semantics.proofs.Described.{fits-exactly, direct-15}
+use Rattle.semantics.proofs.Described.{direct-15}
 use Rattle.format.specs.Words.{Bytes}
+use Rattle.format.specs.Image.{Table}
+use Rattle.format.specs.Good.{GoodTable}
 use Rattle.format.specs.Opening.{Opened, opened, not-opened, openOf}
-use Rattle.format.specs.Refusals.{Refusal, sections-refused, signature-refused, line-refused}
-use Rattle.format.specs.State.{freshFrom, freshOf}
-use Rattle.format.specs.Cycle.{cycleOf}
+use Rattle.format.specs.Refusals.{Refusal}
+use Rattle.format.specs.State.{stateOk, memoryOf, freshFrom, freshOf}
+use Rattle.format.specs.Walk.{tableCycle}
+use Rattle.format.specs.Cycle.{rowPlace, ended, tableRow, rowOf, unlessClosed, cycleOf}
 use Rattle.format.specs.Encode.{encode}
 use Rattle.format.proofs.Opens.{opens-exactly}
 use Rattle.format.proofs.Refusals.{refused-exactly}
-use Rattle.images.proofs.Outcomes.{image-outcome}
+use Rattle.images.specs.Outcome as O
+use Rattle.images.proofs.InputRows.{row-exactly}
+use Rattle.images.proofs.States.{state-exactly}
 use Rattle.behaviour.specs.Direct.{unlessRefused, directOf, freshText, directFresh}
-use Rattle.theorems.specs.Compile.{written, not-compiled, written-into, onVerdict, compileOf}
-use Rattle.theorems.specs.Promises.{Compiles, writes, too-short, Opens, opens, Starts, Runs, runs, RunsText, by-14, by-15, answers, StartsText, Demand1}
-use Rattle.theorems.specs.Promises as D
+use Rattle.theorems.specs.Compile.{Compile, Compiled, written, not-compiled, written-into, onVerdict, compileOf}
+use Rattle.theorems.specs.Promises as P
+use Rattle.theorems.proofs.Cases.{compiles, image-opens, image-starts, image-runs, text-runs, text-starts}
 
--- the numbers of a text's refusals
-refuses-9 : (b : List ℕ) (n p : ℕ) → Refuses b n p → (1 ≤ n) × (n ≤ 9)
-unfolding table
-refuses-9 b n p (too-long h) = (omega arith, omega arith)
-refuses-9 b n p (no-token h s) = (omega arith, omega arith)
-refuses-9 b n p (no-sentence ts h l e) = (omega arith, omega arith)
-refuses-9 b n p (past-limit ts h l e) = (omega arith, omega arith)
-refuses-9 b n p (offends h (here e l)) = (omega arith, omega arith)
-refuses-9 b n p (offends h (there f (here e l))) = (omega arith, omega arith)
-refuses-9 b n p (offends h (there f (there g (here e l)))) = (omega arith, omega arith)
-refuses-9 b n p (offends h (there f (there g (there i (here e l))))) = (omega arith, omega arith)
-refuses-9 b n p (offends h (there f (there g (there i (there j (here e l)))))) = (omega arith, omega arith)
+-- COMPILE
+module _ (text buffer : List ℕ) (q k : ℕ) where
+  compile-back : P.CompileRefused text buffer q k → compileOf text buffer .answer ≡ not-compiled q k
+  unfolding compileOf written-into
+  compile-back (P.CompileRefused.by-text r) = ap (λ (v : Verdict). onVerdict v buffer .answer) (J.refuses text q k .1 r)
+  compile-back (P.CompileRefused.by-buffer d v h e f) =
+      let l : leb (length (encode d)) (length buffer) ≡ false = lt-leb (length (encode d)) (length buffer) h in
+      let z : onVerdict (accepted d) buffer .answer ≡ not-compiled 10 (length (encode d)) = rw l in
+      ap (λ (x : Verdict). onVerdict x buffer .answer) (J.accepts text d .1 v) ∙ (z ∙ ap (λ (n : ℕ). not-compiled n (length (encode d))) (sym e) ∙ ap (λ (n : ℕ). not-compiled q n) (sym f))
 
--- a compile
-module _ (text buffer : List ℕ) where
-  written-compiles : (d : Process) → Valid text d → Compiles text buffer (written-into (encode d) buffer)
-  unfolding written-into
-  written-compiles d v = fits (leb (length (encode d)) (length buffer)) refl
+  on-encoded : (d : Process) → Valid text d → (b : Bool) → leb (length (encode d)) (length buffer) ≡ b
+      → cond {A = Compile} b (record { answer = written (length (encode d)); buffer = encode d ++ drop (length (encode d)) buffer }) (record { answer = not-compiled 10 (length (encode d)); buffer = buffer }) .answer ≡ not-compiled q k
+      → P.CompileRefused text buffer q k
+  on-encoded d v true l e = absurd (let z : _≡_ {A = ℕ} 0 1 = cc in omega arith)
+  on-encoded d v false l e =
+      let a : q ≡ 10 = cc in
+      let b : k ≡ length (encode d) = cc in
+      P.CompileRefused.by-buffer d v (leb-false (length (encode d)) (length buffer) l) a b
+
+  compile-there : compileOf text buffer .answer ≡ not-compiled q k → P.CompileRefused text buffer q k
+  unfolding compileOf written-into
+  compile-there e = on (verdict text) refl
     where
-      fits : (b : Bool) → leb (length (encode d)) (length buffer) ≡ b
-          → Compiles text buffer
-          (cond b (record { answer = written (length (encode d)); buffer = encode d ++ drop (length (encode d)) buffer }) (record { answer = not-compiled 10 (length (encode d)); buffer = buffer }))
-      fits true e = writes d v (leb-true (length (encode d)) (length buffer) e)
-      fits false e = too-short d v (leb-false (length (encode d)) (length buffer) e)
+      on : (v : Verdict) → verdict text ≡ v → P.CompileRefused text buffer q k
+      on (accepted d) f =
+          on-encoded d (J.accepts text d .0 f) (leb (length (encode d)) (length buffer)) refl (sym (ap (λ (x : Verdict). onVerdict x buffer .answer) f) ∙ e)
+      on (refused n x) f =
+          let z : not-compiled n x ≡ not-compiled q k = sym (ap (λ (y : Verdict). onVerdict y buffer .answer) f) ∙ e in
+          let a : n ≡ q = cc in
+          let b : x ≡ k = cc in
+          P.CompileRefused.by-text (J.refuses text q k .0 (f ∙ (ap (λ (m : ℕ). refused m x) a ∙ ap (λ (m : ℕ). refused q m) b)))
 
-  compiles : Compiles text buffer (compileOf text buffer)
-  unfolding compileOf
-  compiles = on (verdict text) refl
-    where
-      on : (v : Verdict) → verdict text ≡ v → Compiles text buffer (onVerdict v buffer)
-      on (accepted d) e = written-compiles d (J.accepts text d .0 e)
-      on (refused n k) e = let c = J.refuses text n k .0 e in let r = refuses-9 text n k c in D.refuses n k (r .0) (r .1) c
+  pub compile-refused : (compileOf text buffer .answer ≡ not-compiled q k) ↔ P.CompileRefused text buffer q k
+  compile-refused = (compile-there, compile-back)
 
--- an image
-module _ (image : List ℕ) (h : Bytes image) where
-  numbers : (q k : ℕ) → Refusal image q k → (11 ≤ q) × (q ≤ 13)
-  numbers q k (sections-refused n p x) = (omega arith, omega arith)
-  numbers q k (signature-refused n p x s x′) = (omega arith, omega arith)
-  numbers q k (line-refused n x s σ g l) = (omega arith, omega arith)
+-- IMAGES
+module _ (image : List ℕ) (h : Bytes image) (q k : ℕ) where
+  fresh-there : (o : Opened) → freshFrom o ≡ not-started q k → o ≡ not-opened q k
+  fresh-there (opened t) e = absurd (let z : _≡_ {A = ℕ} 0 1 = cc in omega arith)
+  fresh-there (not-opened n x) e =
+      let a : n ≡ q = cc in
+      let b : x ≡ k = cc in
+      ap (λ (m : ℕ). not-opened m x) a ∙ ap (λ (m : ℕ). not-opened q m) b
 
-  image-opens : Opens image (openOf image)
-  image-opens = on (openOf image) refl
-    where
-      on : (o : Opened) → openOf image ≡ o → Opens image o
-      on (opened t) e = let g = opens-exactly image t h .0 e in opens t (g .0) (g .1)
-      on (not-opened q k) e = let c = refused-exactly image h q k .0 e in let r = numbers q k c in D.refuses q k (r .0) (r .1) c
-
-  image-starts : Starts image (freshOf image)
+  fresh-refused : (freshOf image ≡ not-started q k) ↔ Refusal image q k
   unfolding freshOf
-  image-starts = on (openOf image) refl
-    where
-      on : (o : Opened) → openOf image ≡ o → Starts image (freshFrom o)
-      on (opened t) e = D.starts t e
-      on (not-opened q k) e = let c = refused-exactly image h q k .0 e in let r = numbers q k c in D.refuses q k (r .0) (r .1) c
+  fresh-refused =
+      (λ e. refused-exactly image h q k .0 (fresh-there (openOf image) e), λ r. ap freshFrom (refused-exactly image h q k .1 r))
 
-  image-runs : (s : State) (c : Call) → Runs image s c (cycleOf image s (c .inputs) (c .outputs))
-  unfolding cycleOf
-  image-runs s c = on (openOf image) refl
-    where
-      on : (o : Opened) → openOf image ≡ o → Runs image s c (cycleOf image s (c .inputs) (c .outputs))
-      on (opened t) e = runs t e _ (image-outcome image t h e s (c .inputs) (c .outputs))
-      on (not-opened q k) e = let x = refused-exactly image h q k .0 e in let r = numbers q k x in rw e (D.refuses q k (r .0) (r .1) x)
+  module _ (s : State) (c : Call) where
+    -- a table's row, where the image is opened
+    opened-row : (t : Table) → openOf image ≡ opened t → cycleOf image s (c .inputs) (c .outputs) ≡ rowOf t s (c .inputs) (c .outputs)
+    unfolding cycleOf
+    opened-row t e = ap (λ (o : Opened). unlessClosed o s (c .outputs) (λ u. rowOf u s (c .inputs) (c .outputs))) e
 
--- a text
-module _ (text : List ℕ) (s : State) (c : Call) where
-  not-14 : (d : Process) → rowRefusal d (fed c) ≡ none → (k : ℕ) → Meets14 d (fed c) k → ⊥
-  not-14 d e k m = none-some k (sym e ∙ meets-14-exactly d (fed c) k .1 m)
+    no-row : (t : Table) → ((x : ℕ) → O.Meets14 (t .signature) (c .inputs) (length (c .outputs)) x → ⊥) → rowPlace (t .signature) (c .inputs) (length (c .outputs)) ≡ none
+    no-row t m = go (rowPlace (t .signature) (c .inputs) (length (c .outputs))) refl
+      where
+        go : (o : Option ℕ) → rowPlace (t .signature) (c .inputs) (length (c .outputs)) ≡ o → o ≡ none
+        go none e = refl
+        go (some x) e = absurd (m x (row-exactly (t .signature) (c .inputs) (length (c .outputs)) x .0 e))
 
-  -- a state that is described: the row of the equations from what is kept
-  described-runs : (d : Process) → Valid text d → WellFormed d → rowRefusal d (fed c) ≡ none → (g : Described d s) → RunsText text s c (directRow d s c)
-  described-runs d v w e g =
-      let x : directRow d s c ≡ seen (row d (g .kept) (fed c)) c = subst (λ (z : State). directRow d z c ≡ seen (row d (g .kept) (fed c)) c) (g .layout) (direct-row d w (g .kept) (g .invariant) c) in
-      subst (RunsText text s c) (sym x) (answers d v (not-14 d e) g (row d (g .kept) (fed c)) (row-answers d w (g .kept) (fed c)))
+    bad-state : (t : Table) → GoodTable t → (O.GoodState t s → ⊥) → stateOk t s ≡ false
+    bad-state t g n = go (stateOk t s) refl
+      where
+        go : (b : Bool) → stateOk t s ≡ b → b ≡ false
+        go true e = absurd (n (state-exactly t g s .0 e))
+        go false e = refl
 
-  process-runs : (d : Process) → Valid text d → WellFormed d → RunsText text s c (directRow d s c)
-  unfolding directRow
-  process-runs d v w = judge (rowRefusal d (fed c)) refl
-    where
-      state : rowRefusal d (fed c) ≡ none → (b : Bool) → fitsText d s ≡ b → RunsText text s c (directRow d s c)
-      state e true f = described-runs d v w e (fits-exactly d w s .0 f)
-      state e false f =
-          let n : Described d s → ⊥ = λ g. false-true (sym f ∙ fits-exactly d w s .1 g) in
-          subst (RunsText text s c) (sym (direct-15 d w s c e n)) (by-15 d v (not-14 d e) n)
+    cycle-back : P.CycleRefused image s c q k → cycleOf image s (c .inputs) (c .outputs) .answer ≡ not-performed q k
+    unfolding cycleOf rowOf tableRow
+    cycle-back (P.CycleRefused.by-image r) =
+        ap (λ (o : Opened). unlessClosed o s (c .outputs) (λ u. rowOf u s (c .inputs) (c .outputs)) .answer) (refused-exactly image h q k .1 r)
+    cycle-back (P.CycleRefused.by-row t e m f) =
+        let z : rowOf t s (c .inputs) (c .outputs) .answer ≡ not-performed 14 k = rw (row-exactly (t .signature) (c .inputs) (length (c .outputs)) k .1 m) in
+        ap (λ (r : Called). r .answer) (opened-row t e) ∙ (z ∙ ap (λ (n : ℕ). not-performed n k) (sym f))
+    cycle-back (P.CycleRefused.by-state t e m n f j) =
+        let z : rowOf t s (c .inputs) (c .outputs) .answer ≡ not-performed 15 0 = rw (no-row t m, bad-state t (opens-exactly image t h .0 e .1) n) in
+        ap (λ (r : Called). r .answer) (opened-row t e) ∙ (z ∙ (ap (λ (x : ℕ). not-performed x 0) (sym f) ∙ ap (λ (x : ℕ). not-performed q x) (sym j)))
+    cycle-back (P.CycleRefused.by-operator t e m g y f) =
+        let z : rowOf t s (c .inputs) (c .outputs) .answer ≡ not-performed 16 k = rw (no-row t m, state-exactly t (opens-exactly image t h .0 e .1) s .1 g, y) in
+        ap (λ (r : Called). r .answer) (opened-row t e) ∙ (z ∙ ap (λ (n : ℕ). not-performed n k) (sym f))
 
-      judge : (o : Option ℕ) → rowRefusal d (fed c) ≡ o → RunsText text s c (directRow d s c)
-      judge (some k) e = rw e (by-14 d v k (meets-14-exactly d (fed c) k .0 e))
-      judge none e = state e (fitsText d s) refl
+    on-outcome : (t : Table) → openOf image ≡ opened t → (r : Called) → O.Outcome t s (c .inputs) (c .outputs) r → r .answer ≡ not-performed q k → P.CycleRefused image s c q k
+    on-outcome t o _ (O.row-refused x m) e =
+        let a : q ≡ 14 = cc in
+        let b : x ≡ k = cc in
+        P.CycleRefused.by-row t o (subst (O.Meets14 (t .signature) (c .inputs) (length (c .outputs))) b m) a
+    on-outcome t o _ (O.state-refused m g) e =
+        let a : q ≡ 15 = cc in
+        let b : k ≡ 0 = cc in
+        P.CycleRefused.by-state t o m g a b
+    on-outcome t o _ (O.operator-refused x m g l y) e =
+        let a : q ≡ 16 = cc in
+        let b : x ≡ k = cc in
+        P.CycleRefused.by-operator t o m g (y ∙ ap (λ (n : ℕ). Equations.refused 16 n) b) a
+    on-outcome t o _ (O.performs p τ m g y w z n l) e = absurd (let x : _≡_ {A = ℕ} 0 1 = cc in omega arith)
 
-  text-runs : RunsText text s c (directOf text s c)
-  unfolding directOf
-  text-runs = on (verdict text) refl
-    where
-      on : (v : Verdict) → verdict text ≡ v → RunsText text s c (unlessRefused v s c)
-      on (accepted d) e = let v = J.accepts text d .0 e in process-runs d v (valid-well-formed v)
-      on (refused n k) e = let x = J.refuses text n k .0 e in let r = refuses-9 text n k x in D.refuses n k (r .0) (r .1) x
+    on-runs : (r : Called) → P.Runs image s c r → r .answer ≡ not-performed q k → P.CycleRefused image s c q k
+    on-runs r (P.Runs.runs t o _ y) e = on-outcome t o r y e
+    on-runs _ (P.Runs.refuses n x l m y) e =
+        let a : n ≡ q = cc in
+        let b : x ≡ k = cc in
+        P.CycleRefused.by-image (subst (λ (z : ℕ). Refusal image q z) b (subst (λ (z : ℕ). Refusal image z x) a y))
 
-text-starts : (text : List ℕ) → StartsText text (directFresh text)
-unfolding directFresh
-text-starts text = on (verdict text) refl
-  where
-    on : (v : Verdict) → verdict text ≡ v → StartsText text (freshText v)
-    on (accepted d) e = D.starts d (J.accepts text d .0 e) (laid (atFirst d)) (ap freshText e)
-    on (refused n k) e = let x = J.refuses text n k .0 e in let r = refuses-9 text n k x in D.refuses n k (r .0) (r .1) x
+    cycle-refused : (cycleOf image s (c .inputs) (c .outputs) .answer ≡ not-performed q k) ↔ P.CycleRefused image s c q k
+    cycle-refused = (on-runs (cycleOf image s (c .inputs) (c .outputs)) (image-runs image h s c), cycle-back)
+
+-- TEXTS
+module _ (text : List ℕ) (q k : ℕ) where
+  start-there : (v : Verdict) → freshText v ≡ not-started q k → v ≡ refused q k
+  start-there (accepted d) e = absurd (let z : _≡_ {A = ℕ} 0 1 = cc in omega arith)
+  start-there (refused n x) e =
+      let a : n ≡ q = cc in
+      let b : x ≡ k = cc in
+      ap (λ (m : ℕ). refused m x) a ∙ ap (λ (m : ℕ). refused q m) b
+
+  direct-fresh-refused : (directFresh text ≡ not-started q k) ↔ Refuses text q k
+  unfolding directFresh
+  direct-fresh-refused = (λ e. J.refuses text q k .0 (start-there (verdict text) e), λ r. ap freshText (J.refuses text q k .1 r))
+
+  module _ (s : State) (c : Call) where
+    -- the row on the process, where the text is accepted
+    accepted-row : (d : Process) → Valid text d → directOf text s c ≡ directRow d s c
+    unfolding directOf
+    accepted-row d v = ap (λ (x : Verdict). unlessRefused x s c) (J.accepts text d .1 v)
+
+    no-14 : (d : Process) → ((x : ℕ) → Meets14 d (fed c) x → ⊥) → rowRefusal d (fed c) ≡ none
+    no-14 d m = go (rowRefusal d (fed c)) refl
+      where
+        go : (o : Option ℕ) → rowRefusal d (fed c) ≡ o → o ≡ none
+        go none e = refl
+        go (some x) e = absurd (m x (meets-14-exactly d (fed c) x .0 e))
+
+    overflows-row : (d : Process) (g : Kept) → rowRefusal d (fed c) ≡ none
+        → Equations.cycle (d .body) (g .place) (c .inputs) (record { way = []; memory = g .memory }) ≡ Equations.refused 16 k → told (row d g (fed c) .0) ≡ not-performed 16 k
+    unfolding row judged concluded
+    overflows-row d g n e = rw (n, e)
+
+    direct-back : P.DirectRefused text s c q k → directOf text s c .answer ≡ not-performed q k
+    unfolding directOf directRow
+    direct-back (P.DirectRefused.by-text r) = ap (λ (x : Verdict). unlessRefused x s c .answer) (J.refuses text q k .1 r)
+    direct-back (P.DirectRefused.by-row d v m e) =
+        let z : directRow d s c .answer ≡ not-performed 14 k = rw (meets-14-exactly d (fed c) k .1 m) in
+        ap (λ (r : Called). r .answer) (accepted-row d v) ∙ (z ∙ ap (λ (n : ℕ). not-performed n k) (sym e))
+    direct-back (P.DirectRefused.by-state d v m n e f) =
+        ap (λ (r : Called). r .answer) (accepted-row d v ∙ direct-15 d (valid-well-formed v) s c (no-14 d m) n)
+        ∙ (ap (λ (x : ℕ). not-performed x 0) (sym e) ∙ ap (λ (x : ℕ). not-performed q x) (sym f))
+    direct-back (P.DirectRefused.by-operator d v m g o e) =
+        let w = valid-well-formed v in
+        let y : directRow d s c ≡ seen (row d (g .kept) (fed c)) c = subst (λ (z : State). directRow d z c ≡ seen (row d (g .kept) (fed c)) c) (g .layout) (direct-row d w (g .kept) (g .invariant) c) in
+        let x = refusal-exactly (c .inputs) (d .body) (g .kept .place) (record { way = []; memory = g .kept .memory }) k .1 o in
+        ap (λ (r : Called). r .answer) (accepted-row d v ∙ y) ∙ (overflows-row d (g .kept) (no-14 d m) x ∙ ap (λ (n : ℕ). not-performed n k) (sym e))
+
+    on-answers : (d : Process) → Valid text d → ((x : ℕ) → Meets14 d (fed c) x → ⊥) → (g : Described d s) (r : Outcome × Kept) → Answers d (g .kept) (fed c) r
+        → told (r .0) ≡ not-performed q k → P.DirectRefused text s c q k
+    on-answers d v m g r (A.by-14 x y) e = absurd (m x y)
+    on-answers d v m g r (A.by-16 n y o) e =
+        let a : q ≡ 16 = cc in
+        let b : n ≡ k = cc in
+        P.DirectRefused.by-operator d v m g (subst (CycleOverflows (c .inputs) (d .body) (g .kept .place) (record { way = []; memory = g .kept .memory })) b o) a
+    on-answers d v m g r (A.performs x τ y z w) e = absurd (let u : _≡_ {A = ℕ} 0 1 = cc in omega arith)
+
+    on-text : (r : Called) → P.RunsText text s c r → r .answer ≡ not-performed q k → P.DirectRefused text s c q k
+    on-text _ (P.RunsText.refuses n x l m y) e =
+        let a : n ≡ q = cc in
+        let b : x ≡ k = cc in
+        P.DirectRefused.by-text (subst (λ (z : ℕ). Refuses text q z) b (subst (λ (z : ℕ). Refuses text z x) a y))
+    on-text _ (P.RunsText.by-14 d v x m) e =
+        let a : q ≡ 14 = cc in
+        let b : x ≡ k = cc in
+        P.DirectRefused.by-row d v (subst (Meets14 d (fed c)) b m) a
+    on-text _ (P.RunsText.by-15 d v m n) e =
+        let a : q ≡ 15 = cc in
+        let b : k ≡ 0 = cc in
+        P.DirectRefused.by-state d v m n a b
+    on-text _ (P.RunsText.answers d v m g r a) e = on-answers d v m g r a e
+
+    direct-refused : (directOf text s c .answer ≡ not-performed q k) ↔ P.DirectRefused text s c q k
+    direct-refused = (on-text (directOf text s c) (text-runs text s c), direct-back)
 
 -- THE THEOREM
-pub demand1 : (text buffer image : List ℕ) → Bytes image → (s : State) (c : Call) → Demand1 text buffer image s c
+pub demand1 : (text buffer image : List ℕ) → Bytes image → (s : State) (c : Call) → P.Demand1 text buffer image s c
 demand1 text buffer image h s c =
     record {
       compiled = compiles text buffer;
@@ -152,4 +242,13 @@ demand1 text buffer image h s c =
       cycled = image-runs image h s c;
       run = text-runs text s c;
       run-started = text-starts text;
+      exactly = λ q k.
+          record {
+            compile-refused = compile-refused text buffer q k;
+            image-refused = refused-exactly image h q k;
+            fresh-refused = fresh-refused image h q k;
+            cycle-refused = cycle-refused image h q k s c;
+            direct-refused = direct-refused text q k s c;
+            direct-fresh-refused = direct-fresh-refused text q k;
+          };
     }

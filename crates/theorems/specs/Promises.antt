@@ -15,7 +15,9 @@ use Rattle.language.specs.Validity.{Parses, Valid, Refuses}
 use Rattle.language.specs.Verdict.{accepted, refused, verdict}
 use Rattle.semantics.specs.Rows.{Kept, Outcome, rows, atFirst}
 use Rattle.semantics.specs.Rows as R
+use Rattle.semantics.specs.Equations as Equations
 use Rattle.semantics.specs.InputRow.{Meets14}
+use Rattle.semantics.specs.Refusal.{CycleOverflows}
 use Rattle.semantics.specs.PublishedRows.{publishedRows}
 use Rattle.semantics.specs.Answer.{Answers, AllAnswer}
 use Rattle.semantics.specs.Way.{Distinct}
@@ -26,10 +28,10 @@ use Rattle.semantics.specs.DirectRow.{Described}
 use Rattle.format.specs.Image.{Table, encodeTable}
 use Rattle.format.specs.Good.{GoodTable}
 use Rattle.format.specs.Lines.{linesOf, reachesOf, reach}
-use Rattle.format.specs.Walk.{from}
+use Rattle.format.specs.Walk.{from, tableCycle}
 use Rattle.format.specs.Opening.{Opened, opened, not-opened, openOf}
 use Rattle.format.specs.Refusals.{Refusal}
-use Rattle.format.specs.State.{freshTable, freshOf}
+use Rattle.format.specs.State.{memoryOf, freshTable, freshOf}
 use Rattle.format.specs.Cycle.{cycleOf, callsOf}
 use Rattle.format.specs.Encode.{tableOf, encode}
 use Rattle.images.specs.Outcome as Image
@@ -39,7 +41,7 @@ use Rattle.theorems.specs.Compile.{Compile, written, not-compiled, compi
 
 -- DEMAND 1. "Nothing that comes in can upset it: every text, image, state and input row gets a result or a numbered refusal; every call ends; a refusal has
 -- its place fixed and alters no byte of image, state or output row." Each operation below comes to one of the cases that are listed, and each case holds
--- the condition that document 01 has for it. The cases exclude each other, so each is met exactly when its condition holds.
+-- the condition that document 01 has for it; behind them, for each operation, that it is refused by q at k exactly when a clause of the table says so.
 
 -- compile: 1 to 9 by the table's rows, 10 where the image does not fit, else the image, "only the image's own bytes"
 pub data Compiles (text buffer : List ℕ) : Compile → Type 0 where
@@ -77,6 +79,38 @@ pub data StartsText (text : List ℕ) : Started → Type 0 where
   starts : (d : Process) → Valid text d → (s : State) → directFresh text ≡ fresh s → StartsText text (fresh s)
   refuses : (q k : ℕ) → 1 ≤ q → q ≤ 9 → Refuses text q k → StartsText text (not-started q k)
 
+-- the clauses for a refused compile: 1 to 9, and 10, "image buffer too short", at "bytes needed"
+pub data CompileRefused (text buffer : List ℕ) (q k : ℕ) : Type 0 where
+  by-text : Refuses text q k → CompileRefused text buffer q k
+  by-buffer : (d : Process) → Valid text d → length buffer < length (encode d) → q ≡ 10 → k ≡ length (encode d) → CompileRefused text buffer q k
+
+-- the clauses for a refused cycle: 11 to 13 of the image; 14 of the rows; 15 of the state, where the rows are right; 16 where the state is right too
+pub data CycleRefused (image : List ℕ) (s : State) (c : Call) (q k : ℕ) : Type 0 where
+  by-image : Refusal image q k → CycleRefused image s c q k
+  by-row : (t : Table) → openOf image ≡ opened t → Image.Meets14 (t .signature) (c .inputs) (length (c .outputs)) k → q ≡ 14 → CycleRefused image s c q k
+  by-state : (t : Table) → openOf image ≡ opened t → ((x : ℕ) → Image.Meets14 (t .signature) (c .inputs) (length (c .outputs)) x → ⊥) → (Image.GoodState t s → ⊥)
+      → q ≡ 15 → k ≡ 0 → CycleRefused image s c q k
+  by-operator : (t : Table) → openOf image ≡ opened t → ((x : ℕ) → Image.Meets14 (t .signature) (c .inputs) (length (c .outputs)) x → ⊥) → Image.GoodState t s
+      → tableCycle (t .lines) (t .reaches) (s .place) (c .inputs) (record { way = []; memory = memoryOf (t .signature) s }) ≡ Equations.refused 16 k
+      → q ≡ 16 → CycleRefused image s c q k
+
+-- the clauses for a refused direct run: 1 to 9 of the text; 14, 15 and 16 as before, by the text's declarations, waits and operators
+pub data DirectRefused (text : List ℕ) (s : State) (c : Call) (q k : ℕ) : Type 0 where
+  by-text : Refuses text q k → DirectRefused text s c q k
+  by-row : (d : Process) → Valid text d → Meets14 d (fed c) k → q ≡ 14 → DirectRefused text s c q k
+  by-state : (d : Process) → Valid text d → ((x : ℕ) → Meets14 d (fed c) x → ⊥) → (Described d s → ⊥) → q ≡ 15 → k ≡ 0 → DirectRefused text s c q k
+  by-operator : (d : Process) → Valid text d → ((x : ℕ) → Meets14 d (fed c) x → ⊥) → (g : Described d s)
+      → CycleOverflows (c .inputs) (d .body) (g .kept .place) (record { way = []; memory = g .kept .memory }) k → q ≡ 16 → DirectRefused text s c q k
+
+-- "Given exactly for": every refusal of every operation
+pub record Exactly (text buffer image : List ℕ) (s : State) (c : Call) (q k : ℕ) : Type 0 where
+  pub compile-refused : (compileOf text buffer .answer ≡ not-compiled q k) ↔ CompileRefused text buffer q k
+  pub image-refused : (openOf image ≡ not-opened q k) ↔ Refusal image q k
+  pub fresh-refused : (freshOf image ≡ not-started q k) ↔ Refusal image q k
+  pub cycle-refused : (cycleOf image s (c .inputs) (c .outputs) .answer ≡ not-performed q k) ↔ CycleRefused image s c q k
+  pub direct-refused : (directOf text s c .answer ≡ not-performed q k) ↔ DirectRefused text s c q k
+  pub direct-fresh-refused : (directFresh text ≡ not-started q k) ↔ Refuses text q k
+
 pub record Demand1 (text buffer image : List ℕ) (s : State) (c : Call) : Type 0 where
   pub compiled : Compiles text buffer (compileOf text buffer)
   pub opened : Opens image (openOf image)
@@ -84,6 +118,7 @@ pub record Demand1 (text buffer image : List ℕ) (s : State) (c : Call) : Type 
   pub cycled : Runs image s c (cycleOf image s (c .inputs) (c .outputs))
   pub run : RunsText text s c (directOf text s c)
   pub run-started : StartsText text (directFresh text)
+  pub exactly : (q k : ℕ) → Exactly text buffer image s c q k
 
 -- DEMAND 2, for every text b.
 pub record Demand2 (b : List ℕ) : Type 0 where
