@@ -139,5 +139,5 @@ unfolding directFresh
 text-starts text = on (verdict text) refl
   where
     on : (v : Verdict) → verdict text ≡ v → StartsText text (freshText v)
-    on (accepted d) e = D.starts d (J.accepts text d .0 e) (laid (atFirst d)) (ap freshText e)
+    on (accepted d) e = D.starts d (J.accepts text d .0 e)
     on (refused n k) e = let x = J.refuses text n k .0 e in let r = refuses-9 text n k x in D.refuses n k (r .0) (r .1) x

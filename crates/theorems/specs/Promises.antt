@@ -23,7 +23,7 @@ use Rattle.semantics.specs.Answer.{Answers, AllAnswer}
 use Rattle.semantics.specs.Way.{Distinct}
 use Rattle.semantics.specs.Records.{Started, fresh, not-started}
 use Rattle.semantics.specs.Calls.{Answer, performed, not-performed, Called, Call, turnedBack}
-use Rattle.semantics.specs.Comparison.{fed, seen, equationCalls}
+use Rattle.semantics.specs.Comparison.{fed, laid, seen, equationCalls}
 use Rattle.semantics.specs.DirectRow.{Described}
 use Rattle.format.specs.Image.{Table, encodeTable}
 use Rattle.format.specs.Good.{GoodTable}
@@ -76,7 +76,7 @@ pub data RunsText (text : List ℕ) (s : State) (c : Call) : Called → Type 0 w
 
 -- direct_fresh: the beginning and the initial values, or 1 to 9
 pub data StartsText (text : List ℕ) : Started → Type 0 where
-  starts : (d : Process) → Valid text d → (s : State) → directFresh text ≡ fresh s → StartsText text (fresh s)
+  starts : (d : Process) → Valid text d → StartsText text (fresh (laid (atFirst d)))
   refuses : (q k : ℕ) → 1 ≤ q → q ≤ 9 → Refuses text q k → StartsText text (not-started q k)
 
 -- the clauses for a refused compile: 1 to 9, and 10, "image buffer too short", at "bytes needed"
