@@ -7,8 +7,8 @@ use std::path::Path;
 
 /// The trace of an example over these rows, without header and row numbers.
 fn rows_of(name: &str, rows: &str) -> Vec<String> {
-    let folder = Path::new(env!("CARGO_MANIFEST_DIR")).join("data/examples");
-    let text = fs::read(folder.join(format!("{name}.vhd"))).expect("the example is there");
+    let folder = Path::new(env!("CARGO_MANIFEST_DIR")).join("../../examples");
+    let text = fs::read(folder.join(name).join("process.vhd")).expect("the example is there");
     let printed = trace(&text, rows.as_bytes());
     assert_eq!(printed, direct_trace(&text, rows.as_bytes()));
     let lines = printed.lines().skip(1);

@@ -18,5 +18,21 @@ fn every_folder_has_its_trace() {
         assert_eq!(direct_trace(&text, &rows), expected, "{}", folder.display());
         seen += 1;
     }
-    assert_eq!(seen, 10);
+    assert_eq!(seen, 11);
+}
+
+/// The program crates/trace has its own copy of tally, as a program's data must stand in its crate.
+#[test]
+fn the_trace_program_has_tally() {
+    let root = Path::new(env!("CARGO_MANIFEST_DIR")).join("../..");
+    let read = |name: &str| fs::read(root.join(name)).expect("the file is there");
+    let pairs = [
+        ("process.vhd", "data/process.vhd"),
+        ("rows.txt", "data/rows.txt"),
+        ("trace.txt", "stdout"),
+    ];
+    for (example, own) in pairs {
+        let example = read(&format!("examples/tally/{example}"));
+        assert_eq!(example, read(&format!("crates/trace/{own}")));
+    }
 }

@@ -174,27 +174,27 @@ fn examples() -> Vec<Case> {
         &[1, 1, 0, 0, 3],
     ];
     vec![
-        case(include_str!("../../data/examples/gcd.vhd"), &gcd),
+        case(include_str!("../../../../examples/gcd/process.vhd"), &gcd),
         case(
-            include_str!("../../data/examples/factorial.vhd"),
+            include_str!("../../../../examples/factorial/process.vhd"),
             &factorial,
         ),
-        case(include_str!("../../data/examples/immediate.vhd"), empty),
-        case(include_str!("../../data/examples/cell_behavior.vhd"), bits),
+        case(include_str!("../../../../examples/immediate/process.vhd"), empty),
+        case(include_str!("../../../../examples/cell_behavior/process.vhd"), bits),
         case(
-            include_str!("../../data/examples/cell_implementation.vhd"),
+            include_str!("../../../../examples/cell_implementation/process.vhd"),
             bits,
         ),
         case(
-            include_str!("../../data/examples/parity_behavior.vhd"),
+            include_str!("../../../../examples/parity_behavior/process.vhd"),
             bits,
         ),
         case(
-            include_str!("../../data/examples/parity_implementation.vhd"),
+            include_str!("../../../../examples/parity_implementation/process.vhd"),
             bits,
         ),
-        case(include_str!("../../data/examples/marking.vhd"), marking),
-        case(include_str!("../../data/examples/time_counter.vhd"), time),
+        case(include_str!("../../../../examples/marking/process.vhd"), marking),
+        case(include_str!("../../../../examples/time_counter/process.vhd"), time),
     ]
 }
 
