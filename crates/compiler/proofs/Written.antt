@@ -1,20 +1,19 @@
 -- What a compile writes fits, opens, and starts as the text's design does: `Fits` for every accepted text, `OpensAs` for every compile that wrote.
 -- Assumes nothing.
-use mathlib.Core.Path.{_≡_, refl, sym, _∙_, ap, subst}
-use mathlib.Core.Bool.{Bool, true, false}
-use mathlib.Core.List.{List, [], _∷_, _++_}
+use mathlib.Core.Path.{_≡_, sym, _∙_, ap, subst}
+use mathlib.Core.Bool.{true}
+use mathlib.Core.List.{List, [], _∷_}
 use Prim.Native.Nat.{ℕ, _+_, _<_, _≤_}
 use native.Mathlib.Omega.{arith}
-use lib.Dec.{leb, ltb}
-use lib.ListN.{length, take, drop, length-append}
-use lib.Seq.{take-at}
+use lib.Dec.{ltb}
+use lib.ListN.{length, take, length-append}
 use borrow.Author.Tests.{ltb-true}
 use Rattle.answers.specs.declared.Compiled as declared
 use Rattle.answers.specs.declared.Compiled.the-variants.{Written}
 use Rattle.design.specs.Statement as D
 use Rattle.design.specs.Process.{Process, WellFormed}
 use Rattle.language.specs.Validity.{Valid}
-use Rattle.language.specs.Verdict.{Verdict, accepted, refused, verdict}
+use Rattle.language.specs.Verdict.{accepted, verdict}
 use Rattle.language.proofs.Judged.{accepts}
 use Rattle.language.proofs.WellFormed.{valid-well-formed}
 use Rattle.semantics.proofs.Basic.{and-left, and-right}
@@ -26,10 +25,10 @@ use Rattle.format.specs.Opening.{openOf}
 use Rattle.format.specs.Encode.{tableOf, encode}
 use Rattle.format.proofs.Sections.{form1-length}
 use Rattle.images.proofs.Processes.{process-good, encode-opens, encode-bytes}
-use Rattle.theorems.specs.Compile.{Compiled, Compile, written, not-compiled, written-into, onVerdict, compileOf}
+use Rattle.theorems.specs.Compile.{Compiled, Compile, written, not-compiled, compileOf}
 use Rattle.behaviour.specs.Direct.{directFresh, freshText}
 use Rattle.theorems.proofs.Size.{valid-fits}
-use Rattle.theorems.proofs.Demand3.{demand3}
+use Rattle.theorems.proofs.Demand3.{wrote, demand3}
 use Rattle.compiler.specs.Compiles.{compiledOf}
 use Rattle.compiler.specs.Written.{TwoBytes, AllTwoBytes, Fits, OpensAs}
 
@@ -80,40 +79,19 @@ accepted-fits text p e =
 
 -- THE IMAGE WRITTEN
 
-not-written : {A : Type 0} {q k n : ℕ} → not-compiled q k ≡ written n → A
-not-written e = absurd (let z : _≡_ {A = ℕ} 0 1 = cc in omega arith)
-
--- the design of a compile that wrote n bytes, and the bytes
-written-image : (text buffer : List ℕ) (n : ℕ) → compileOf text buffer .answer ≡ written n → (p : Process) × (verdict text ≡ accepted p) × (take n (compileOf text buffer .buffer) ≡ encode p)
-unfolding compileOf written-into
-written-image text buffer n e = on (verdict text) refl
-  where
-    on : (v : Verdict) → verdict text ≡ v → (p : Process) × (verdict text ≡ accepted p) × (take n (compileOf text buffer .buffer) ≡ encode p)
-    on (refused q k) h = not-written (sym (ap (λ (v : Verdict). onVerdict v buffer .answer) h) ∙ e)
-    on (accepted p) h = fits (leb (length (encode p)) (length buffer)) refl
-      where
-        fits : (b : Bool) → leb (length (encode p)) (length buffer) ≡ b → (p : Process) × (verdict text ≡ accepted p) × (take n (compileOf text buffer .buffer) ≡ encode p)
-        fits true l =
-            let c : compileOf text buffer ≡ record { answer = written (length (encode p)); buffer = encode p ++ drop (length (encode p)) buffer } = rw (h, l) in
-            let a : written (length (encode p)) ≡ written n = sym (ap (λ (r : Compile). r .answer) c) ∙ e in
-            let m : length (encode p) ≡ n = cc in
-            (p, h, ap (λ (r : Compile). take n (r .buffer)) c ∙ take-at (encode p) (drop (length (encode p)) buffer) n m)
-        fits false l =
-            let c : compileOf text buffer ≡ record { answer = not-compiled 10 (length (encode p)); buffer = buffer } = rw (h, l) in
-            not-written (sym (ap (λ (r : Compile). r .answer) c) ∙ e)
-
 -- What a compile wrote, by the definition.
 pub written-opens : (text buffer : List ℕ) (n : ℕ) → compileOf text buffer .answer ≡ written n → OpensAs text (take n (compileOf text buffer .buffer))
 unfolding directFresh
 written-opens text buffer n e =
-    let (p, h, i) = written-image text buffer n e in
-    let v : Valid text p = accepts text p .0 h in
+    let r = wrote text buffer n e in
+    let p = r .process in
+    let v : Valid text p = accepts text p .0 (r .verdict) in
     record {
       process = p;
-      accepts = h;
-      is = i;
-      opens = ap openOf i ∙ encode-opens p (valid-well-formed v) (valid-fits text p v);
-      starts = demand3 text buffer n e .direct-start ∙ ap freshText h;
+      accepts = r .verdict;
+      is = r .image;
+      opens = ap openOf (r .image) ∙ encode-opens p (valid-well-formed v) (valid-fits text p v);
+      starts = demand3 text buffer n e .direct-start ∙ ap freshText (r .verdict);
     }
 
 -- an answer of the code that says written

@@ -8,8 +8,7 @@ use Prim.Native.Nat.{ℕ, suc, _≤_, _<_}
 use native.Mathlib.Omega.{arith}
 use lib.IntN.{ℤ, pos}
 use lib.Dec.{leb, eqb}
-use lib.ListN.{length, getD, take, drop, replicate, length-replicate, length-map}
-use lib.Seq.{take-at}
+use lib.ListN.{length, getD, take, replicate, length-replicate, length-map}
 use borrow.Author.Tests.{le-leb, lt-leb, leb-false, ne-eqb}
 use Rattle.answers.specs.declared.State.{State}
 use Rattle.design.specs.Process.{Process, WellFormed}
@@ -25,9 +24,9 @@ use Rattle.semantics.specs.Records.{stateFor}
 use Rattle.format.specs.Cycle.{cycleOf, callsOf}
 use Rattle.semantics.specs.Calls.{Called, Call}
 use Rattle.runtime.specs.Calls.{startOf}
-use Rattle.theorems.specs.Compile.{Compile, written, not-compiled, written-into, onVerdict, compileOf}
+use Rattle.theorems.specs.Compile.{written, compileOf}
 use Rattle.semantics.specs.Comparison.{fed, seen, equationCalls}
-use Rattle.theorems.proofs.Demand3.{demand3}
+use Rattle.theorems.proofs.Demand3.{wrote, demand3}
 use Rattle.tracing.specs.Rows.{rowsIn}
 use Rattle.tracing.specs.Printing.{refusedLine, refusedText}
 use Rattle.labels.specs.Header.{headerOf}
@@ -108,16 +107,6 @@ room-is p w =
     let y = w .outputs in
     omega arith
 
--- what a compile wrote
-written-image : (i b : List ℕ) (n : ℕ) → written-into i b .answer ≡ written n → take n (written-into i b .buffer) ≡ i
-unfolding written-into
-written-image i b n e = go (leb (length i) (length b)) e
-  where
-    go : (q : Bool) → cond {A = Compile} q (record { answer = written (length i); buffer = i ++ drop (length i) b }) (record { answer = not-compiled 10 (length i); buffer = b }) .answer ≡ written n
-        → take n (cond {A = Compile} q (record { answer = written (length i); buffer = i ++ drop (length i) b }) (record { answer = not-compiled 10 (length i); buffer = b }) .buffer) ≡ i
-    go true e = let m : length i ≡ n = cc in take-at i (drop (length i) b) n m
-    go false e = absurd (let z : _≡_ {A = ℕ} 0 1 = cc in omega arith)
-
 -- THE THEOREM: where a compile wrote the image of the text and the rows are not too long, the trace is the header, then what is pending before the first row
 pub trace-image : (text rows buffer : List ℕ) (n : ℕ) (p : Process) → verdict text ≡ accepted p → length rows ≤ 65536 → compileOf text buffer .answer ≡ written n
     → traceOf text rows ≡ headerOf p ++ pending (take n (compileOf text buffer .buffer)) rows (firstOf (take n (compileOf text buffer .buffer)))
@@ -129,8 +118,10 @@ trace-image text rows buffer n p v h e =
     let q : accepted (d .process) ≡ accepted p = sym (accepts text (d .process) .1 (d .valid)) ∙ v in
     let same : d .process ≡ p = cc in
     let vs = shorts (rowValues (rowsIn rows)) in
-    let f : written-into (encode p) buffer .answer ≡ written n = ap (λ (x : Verdict). onVerdict x buffer .answer) (sym v) ∙ e in
-    let i : b ≡ encode p = ap (λ (x : Verdict). take n (onVerdict x buffer .buffer)) v ∙ written-image (encode p) buffer n f in
+    let g = wrote text buffer n e in
+    let u : accepted (g .process) ≡ accepted p = sym (g .verdict) ∙ v in
+    let wrote-same : g .process ≡ p = cc in
+    let i : b ≡ encode p = g .image ∙ ap encode wrote-same in
     let m : room b ≡ length (p .outputs) = ap room i ∙ room-is p w in
     let s : startOf (freshOf b) ≡ d .state = ap startOf (d .starts) in
     let a = by-image b vs (startOf (freshOf b)) 0 in
