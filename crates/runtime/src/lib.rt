@@ -33,8 +33,8 @@ pub struct FreshState {
     pub answer: Started,
 }
 
-// A cycle on an image that opened, by its sections.
-fn on_sections(image: &[u8], at: Sections, s: State, inputs: &[i32], row: &mut [i32]) -> Advanced
+// A cycle on an image that was opened before, by the sections that `open` answered: for callers that run many rows on one image and check it once.
+pub fn cycle_opened(image: &[u8], at: Sections, s: State, inputs: &[i32], row: &mut [i32]) -> Advanced
     requires { ⌜ Image at ≡ openedAs (now image) (openOf (now image)) ⌝ }
     ensures { λ a. ⌜ Advances (cycleOf (now (image .entry)) s (now (inputs .entry)) (now (row .entry))) a (now (row .exit)) ⌝ }
 {
@@ -62,7 +62,7 @@ pub fn cycle(image: &[u8], s: State, inputs: &[i32], row: &mut [i32]) -> Advance
 {
     let opened = loader::open(image);
     match opened {
-        Opened::Image(at) => on_sections(image, at, s, inputs, row),
+        Opened::Image(at) => cycle_opened(image, at, s, inputs, row),
         Opened::NotOpened(r) => Advanced {
             state: s,
             answer: Cycled::NotPerformed(r),

@@ -13,8 +13,8 @@ open-requires c κs = search needs
 enum-known-opened : tie.Need-enum-known-opened
 enum-known-opened c = search needs
 
-on-sections-requires : tie.Need-on-sections-requires
-on-sections-requires c κs = sym (c .before .before .opened .given .1) ∙ c .before .before .before .before .«open» .ensures
+cycle-opened-requires : tie.Need-cycle-opened-requires
+cycle-opened-requires c κs = sym (c .before .before .opened .given .1) ∙ c .before .before .before .before .«open» .ensures
 
 enum-known-opened-2 : tie.Need-enum-known-opened-2
 enum-known-opened-2 c = search needs
@@ -25,7 +25,7 @@ same-length c = search needs
 returns : tie.Need-returns
 returns c =
     let a = c .before .before .before .before .before .before .before .before .args in
-    whole (a .image .now) (all-bytes (a .image .now) (λ k. omega (arith, c .before .before .before .before .before .before .before .shared-slice-known .given k))) (a .s) (a .inputs .now) (a .row .now) _ _ (c .before .on-sections .ensures)
+    whole (a .image .now) (all-bytes (a .image .now) (λ k. omega (arith, c .before .before .before .before .before .before .before .shared-slice-known .given k))) (a .s) (a .inputs .now) (a .row .now) _ _ (c .before .cycle-opened .ensures)
 
 returns-2 : tie.Need-returns-2
 returns-2 c =
@@ -39,7 +39,7 @@ cycle-spec =
     (tie.spec
     open-requires
     enum-known-opened
-    on-sections-requires
+    cycle-opened-requires
     enum-known-opened-2
     same-length
     returns

@@ -1,11 +1,11 @@
--- `runtime::on_sections` meets its contract: the parts are the sections of the image, and what they come to is what the image comes to.
+-- `runtime::cycle_opened` meets its contract: the parts are the sections of the image, and what they come to is what the image comes to.
 -- Assumes nothing.
 use native.Mathlib.Omega.{arith}
 use borrow.Author.Needs.{needs}
 use Rattle.runtime.proofs.OpenedImage.{all-bytes}
 use Rattle.runtime.proofs.Whole.{placed, sections-advance}
-use Rattle.runtime.proofs.on_sections.Statement.{statement}
-use Rattle.runtime.proofs.on_sections.Tie as tie
+use Rattle.runtime.proofs.cycle_opened.Statement.{statement}
+use Rattle.runtime.proofs.cycle_opened.Tie as tie
 
 sub-advance : tie.Need-sub-advance
 sub-advance c = let p = placed (c .before .args .image .now) (c .before .args .at) (c .before .pre) in omega arith
@@ -45,8 +45,8 @@ returns c =
     let a = c .before .before .before .before .before .before .before .args in
     sections-advance (a .image .now) (a .at) (c .before .before .before .before .before .before .before .pre) (all-bytes (a .image .now) (λ k. omega (arith, c .before .before .before .before .before .before .shared-slice-known .given k))) (a .s) (a .inputs .now) (a .row .now) _ _ (c .before .advance .ensures)
 
-pub on-sections-spec : {M : Type 1} → statement M
-on-sections-spec =
+pub cycle-opened-spec : {M : Type 1} → statement M
+cycle-opened-spec =
     tie.close
     (tie.spec
     sub-advance
