@@ -95,7 +95,7 @@ module _ (image : List ℕ) (h : Bytes image) (q k : ℕ) where
       let b : x ≡ k = cc in
       ap (λ (m : ℕ). not-opened m x) a ∙ ap (λ (m : ℕ). not-opened q m) b
 
-  fresh-refused : (freshOf image ≡ not-started q k) ↔ Refusal image q k
+  pub fresh-refused : (freshOf image ≡ not-started q k) ↔ Refusal image q k
   unfolding freshOf
   fresh-refused =
       (λ e. refused-exactly image h q k .0 (fresh-there (openOf image) e), λ r. ap freshFrom (refused-exactly image h q k .1 r))
@@ -168,7 +168,7 @@ module _ (text : List ℕ) (q k : ℕ) where
       let b : x ≡ k = cc in
       ap (λ (m : ℕ). refused m x) a ∙ ap (λ (m : ℕ). refused q m) b
 
-  direct-fresh-refused : (directFresh text ≡ not-started q k) ↔ Refuses text q k
+  pub direct-fresh-refused : (directFresh text ≡ not-started q k) ↔ Refuses text q k
   unfolding directFresh
   direct-fresh-refused = (λ e. J.refuses text q k .0 (start-there (verdict text) e), λ r. ap freshText (J.refuses text q k .1 r))
 

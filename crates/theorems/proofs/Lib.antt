@@ -6,3 +6,7 @@ pub mod Cases
 pub mod Demand1
 pub mod Demand3
 pub mod Main
+pub mod TokensOf
+pub mod LexedPlaces
+pub mod OffencePlaces
+pub mod Places

@@ -1,0 +1,202 @@
+-- Every place and every count that is answered is small: a place of 1 to 9 is that of a token of the text or the text's length; the bytes of an image are at
+-- most 65,535; a line is one of at most 512, and so is every line of a way, none twice. Assumes nothing.
+use mathlib.Core.Path.{_≡_, refl, sym, _∙_, ap, subst}
+use mathlib.Core.Logic.{⊎-elim}
+use mathlib.Core.Option.{some}
+use mathlib.Core.List.{List, [], _∷_}
+use Prim.Native.Nat.{ℕ, zero, suc, _≤_, _<_, _/_}
+use native.Mathlib.Omega.{arith}
+use lib.ListN.{length, drop}
+use lib.IntN.{ℤ}
+use Rattle.answers.specs.declared.State.{State}
+use Rattle.design.specs.Expression.{nth}
+use Rattle.design.specs.Process.{Process}
+use Rattle.language.specs.Validity.{Valid, Refuses, too-long, no-token, no-sentence, past-limit, offends}
+use Rattle.language.specs.Verdict.{Verdict, accepted, refused, verdict}
+use Rattle.language.proofs.Judged as J
+use Rattle.language.proofs.WellFormed.{valid-well-formed}
+use Rattle.semantics.specs.InputRow.{Wrong}
+use Rattle.semantics.specs.Records.{not-started}
+use Rattle.semantics.specs.Calls.{performed, not-performed, Called, Call}
+use Rattle.semantics.proofs.Basic.{none-some}
+use Rattle.format.specs.Words.{Bytes}
+use Rattle.format.specs.Signature.{Signature, GoodSignature}
+use Rattle.format.specs.Image.{Table}
+use Rattle.format.specs.Good.{GoodTable}
+use Rattle.format.specs.Opening.{raws, not-opened, openOf}
+use Rattle.format.specs.Refusals.{Refusal, sections-refused, signature-refused, line-refused, bad-line, not-filled}
+use Rattle.format.specs.Refusals as F
+use Rattle.format.specs.State.{freshOf}
+use Rattle.format.specs.Cycle.{cycleOf}
+use Rattle.format.specs.Encode.{tableOf}
+use Rattle.format.proofs.Opens.{whole-lines-back, opens-exactly}
+use Rattle.format.proofs.Refusals.{refused-exactly}
+use Rattle.images.specs.Outcome.{Meets14, Outcome, row-refused, state-refused, operator-refused, performs}
+use Rattle.images.proofs.Outcomes.{row-outcome}
+use Rattle.images.proofs.Processes.{process-good}
+use Rattle.behaviour.specs.Direct.{unlessRefused, directOf, directFresh}
+use Rattle.theorems.specs.Compile.{written, not-compiled, compileOf}
+use Rattle.theorems.specs.Promises as P
+use Rattle.theorems.specs.Places.{Fits}
+use Rattle.theorems.proofs.TokensOf.{tokens-of}
+use Rattle.theorems.proofs.LexedPlaces.{By, lexed-places, stopped-place, token-place}
+use Rattle.theorems.proofs.OffencePlaces.{offence-place}
+use Rattle.theorems.proofs.Size.{valid-fits}
+use Rattle.theorems.proofs.Cases.{image-runs}
+use Rattle.theorems.proofs.Direct.{row-direct}
+use Rattle.theorems.proofs.Demand1 as D1
+use Rattle.theorems.proofs.Main.{compiled}
+
+-- 1 TO 9: a byte offset of the text
+refuses-offset : (text : List ℕ) (q k : ℕ) → Refuses text q k → k ≤ length text
+refuses-offset text q k (too-long h) = omega arith
+refuses-offset text q k (no-token h s) = stopped-place s
+refuses-offset text q k (no-sentence {k = j} ts h l e) = token-place (length text) ts j (lexed-places l)
+refuses-offset text q k (past-limit {k = j} ts h l e) = token-place (length text) ts j (lexed-places l)
+refuses-offset text q k (offends {t} p f) = offence-place (length text) t q k (tokens-of (By (length text)) (p .reads) (lexed-places (p .lexes))) f
+
+-- and the text is short, or the refusal is 1
+short : (text : List ℕ) (k : ℕ) → length text ≤ 16384 → k ≤ length text → k ≤ 16384
+short text k h l = omega arith
+
+pub refuses-place : (text : List ℕ) (q k : ℕ) → Refuses text q k → k ≤ 16384
+refuses-place text q k (too-long h) = omega arith
+refuses-place text q k (no-token h s) = short text k h (refuses-offset text q k (no-token h s))
+refuses-place text q k (no-sentence ts h l e) = short text k h (refuses-offset text q k (no-sentence ts h l e))
+refuses-place text q k (past-limit ts h l e) = short text k h (refuses-offset text q k (past-limit ts h l e))
+refuses-place text q k (offends p f) = short text k (p .short) (refuses-offset text q k (offends p f))
+
+-- COMPILE: besides, the bytes of an image
+module _ (text buffer : List ℕ) where
+  refused-place : (q k : ℕ) → P.CompileRefused text buffer q k → k ≤ 65535
+  refused-place q k (P.CompileRefused.by-text r) = let h = refuses-place text q k r in omega arith
+  refused-place q k (P.CompileRefused.by-buffer d v l e f) = let h = valid-fits text d v in omega arith
+
+  pub compile-place : (q k : ℕ) → compileOf text buffer .answer ≡ not-compiled q k → k ≤ 65535
+  compile-place q k e = refused-place q k (D1.compile-refused text buffer q k .0 e)
+
+  pub compile-count : (n : ℕ) → compileOf text buffer .answer ≡ written n → n ≤ 65535
+  compile-count n e = compiled text buffer n e .size
+
+-- 11 TO 13: at most the line count
+raws-count : (n : ℕ) (s : List ℕ) → length (raws n s) ≡ n
+unfolding raws
+raws-count zero s = refl
+raws-count (suc n) s = ap suc (raws-count n (drop 12 s))
+
+image-place : (image : List ℕ) (q k : ℕ) → Refusal image q k → k ≤ 512
+image-place image q k (sections-refused n p x) = omega arith
+image-place image q k (signature-refused n p x s y) = omega arith
+image-place image q k (line-refused n x s σ g l) = go l
+  where
+    go : F.Lowest σ x k → k ≤ 512
+    go (bad-line h b a) = let w = whole-lines-back (x .lines) (s .lines) in let c = raws-count (length (x .lines) / 12) (x .lines) in omega arith
+    go (not-filled h a b) = let w = whole-lines-back (x .lines) (s .lines) in let c = raws-count (length (x .lines) / 12) (x .lines) in omega arith
+
+-- 14: an index of the input row, which has at most 16 values
+nth-below : {X : Type 0} (l : List X) (k : ℕ) (x : X) → nth l k ≡ some x → k < length l
+unfolding nth
+nth-below [] k x e = none-some x e
+nth-below (y ∷ l) zero x e = omega arith
+nth-below (y ∷ l) (suc k) x e = let h = nth-below l k x e in omega arith
+
+row-place : (σ : Signature) → GoodSignature σ → (i : List ℤ) (n k : ℕ) → Meets14 σ i n k → k ≤ 512
+unfolding Meets14 Wrong
+row-place σ g i n k m = ⊎-elim (λ h. omega (arith, h .1)) (λ h. omega (arith, g .inputs, nth-below (σ .inputs) k (h .1 .0) (h .1 .2))) m
+
+-- A ROW ON A GOOD TABLE: 14, 15 at 0, 16 at a line, or a way of lines
+module _ (t : Table) (g : GoodTable t) (s : State) (i o : List ℤ) where
+  outcome-place : (r : Called) → Outcome t s i o r → (q k : ℕ) → r .answer ≡ not-performed q k → k ≤ 512
+  outcome-place _ (row-refused x m) q k e = let h = row-place (t .signature) (g .signature) i (length o) x m in let z : x ≡ k = cc in omega arith
+  outcome-place _ (state-refused m b) q k e = let z : k ≡ 0 = cc in omega arith
+  outcome-place _ (operator-refused x m b l y) q k e = let z : x ≡ k = cc in omega (arith, g .few-lines)
+  outcome-place _ (performs p τ m b y w v n l) q k e = absurd (let z : _≡_ {A = ℕ} 0 1 = cc in omega arith)
+
+  outcome-count : (r : Called) → Outcome t s i o r → (way : List ℕ) → r .answer ≡ performed way → length way ≤ 512
+  outcome-count _ (row-refused x m) way e = absurd (let z : _≡_ {A = ℕ} 0 1 = cc in omega arith)
+  outcome-count _ (state-refused m b) way e = absurd (let z : _≡_ {A = ℕ} 0 1 = cc in omega arith)
+  outcome-count _ (operator-refused x m b l y) way e = absurd (let z : _≡_ {A = ℕ} 0 1 = cc in omega arith)
+  outcome-count _ (performs p τ m b y w v n l) way e = let z : τ .way ≡ way = cc in let x = ap length z in omega (arith, v .few, g .few-lines)
+
+-- IMAGES
+module _ (image : List ℕ) (h : Bytes image) where
+  pub open-place : (q k : ℕ) → openOf image ≡ not-opened q k → k ≤ 512
+  open-place q k e = image-place image q k (refused-exactly image h q k .0 e)
+
+  pub fresh-place : (q k : ℕ) → freshOf image ≡ not-started q k → k ≤ 512
+  fresh-place q k e = image-place image q k (D1.fresh-refused image h q k .0 e)
+
+  module _ (s : State) (c : Call) where
+    run-place : (r : Called) → P.Runs image s c r → (q k : ℕ) → r .answer ≡ not-performed q k → k ≤ 512
+    run-place r (P.Runs.runs t e _ y) q k f = outcome-place t (opens-exactly image t h .0 e .1) s (c .inputs) (c .outputs) r y q k f
+    run-place _ (P.Runs.refuses n x l m y) q k f = let z : x ≡ k = cc in let b = image-place image n x y in omega arith
+
+    run-count : (r : Called) → P.Runs image s c r → (way : List ℕ) → r .answer ≡ performed way → length way ≤ 512
+    run-count r (P.Runs.runs t e _ y) way f = outcome-count t (opens-exactly image t h .0 e .1) s (c .inputs) (c .outputs) r y way f
+    run-count _ (P.Runs.refuses n x l m y) way f = absurd (let z : _≡_ {A = ℕ} 0 1 = cc in omega arith)
+
+    pub cycle-place : (q k : ℕ) → cycleOf image s (c .inputs) (c .outputs) .answer ≡ not-performed q k → k ≤ 512
+    cycle-place = run-place (cycleOf image s (c .inputs) (c .outputs)) (image-runs image h s c)
+
+    pub cycle-count : (way : List ℕ) → cycleOf image s (c .inputs) (c .outputs) .answer ≡ performed way → length way ≤ 512
+    cycle-count = run-count (cycleOf image s (c .inputs) (c .outputs)) (image-runs image h s c)
+
+-- TEXTS: the direct run of an accepted text is the row on its table
+module _ (text : List ℕ) (s : State) (c : Call) where
+  direct-good : (d : Process) → Valid text d → GoodTable (tableOf d)
+  direct-good d v = process-good d (valid-well-formed v) (valid-fits text d v)
+
+  direct-outcome : (d : Process) → Valid text d → Outcome (tableOf d) s (c .inputs) (c .outputs) (directOf text s c)
+  unfolding directOf
+  direct-outcome d v =
+      subst (Outcome (tableOf d) s (c .inputs) (c .outputs)) (row-direct d (valid-well-formed v) s c ∙ sym (ap (λ (x : Verdict). unlessRefused x s c) (J.accepts text d .1 v)))
+      (row-outcome (tableOf d) (direct-good d v) s (c .inputs) (c .outputs))
+
+  direct-refused : (n x : ℕ) → verdict text ≡ refused n x → directOf text s c .answer ≡ not-performed n x
+  unfolding directOf
+  direct-refused n x e = ap (λ (v : Verdict). unlessRefused v s c .answer) e
+
+  pub direct-place : (q k : ℕ) → directOf text s c .answer ≡ not-performed q k → k ≤ 16384
+  direct-place q k e = on (verdict text) refl
+    where
+      on : (v : Verdict) → verdict text ≡ v → k ≤ 16384
+      on (accepted d) f =
+          let v = J.accepts text d .0 f in
+          let h = outcome-place (tableOf d) (direct-good d v) s (c .inputs) (c .outputs) (directOf text s c) (direct-outcome d v) q k e in
+          omega arith
+      on (refused n x) f =
+          let h = refuses-place text n x (J.refuses text n x .0 f) in
+          let z : not-performed n x ≡ not-performed q k = sym (direct-refused n x f) ∙ e in
+          let y : x ≡ k = cc in
+          omega arith
+
+  pub direct-count : (way : List ℕ) → directOf text s c .answer ≡ performed way → length way ≤ 512
+  direct-count way e = on (verdict text) refl
+    where
+      on : (v : Verdict) → verdict text ≡ v → length way ≤ 512
+      on (accepted d) f =
+          let v = J.accepts text d .0 f in
+          outcome-count (tableOf d) (direct-good d v) s (c .inputs) (c .outputs) (directOf text s c) (direct-outcome d v) way e
+      on (refused n x) f =
+          let z : not-performed n x ≡ performed way = sym (direct-refused n x f) ∙ e in
+          absurd (let y : _≡_ {A = ℕ} 0 1 = cc in omega arith)
+
+pub direct-fresh-place : (text : List ℕ) (q k : ℕ) → directFresh text ≡ not-started q k → k ≤ 16384
+direct-fresh-place text q k e = refuses-place text q k (D1.direct-fresh-refused text q k .0 e)
+
+-- THE THEOREM
+pub fits : (text buffer image : List ℕ) → Bytes image → (s : State) (c : Call) → Fits text buffer image s c
+fits text buffer image h s c =
+    record {
+      text-offset = λ q k e. refuses-offset text q k (J.refuses text q k .0 e);
+      text-place = λ q k e. refuses-place text q k (J.refuses text q k .0 e);
+      compile-place = compile-place text buffer;
+      compile-count = compile-count text buffer;
+      open-place = open-place image h;
+      fresh-place = fresh-place image h;
+      cycle-place = cycle-place image h s c;
+      cycle-count = cycle-count image h s c;
+      direct-place = direct-place text s c;
+      direct-count = direct-count text s c;
+      direct-fresh-place = direct-fresh-place text;
+    }
