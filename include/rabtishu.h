@@ -40,7 +40,7 @@
  *    14  input or output row of a wrong length; wrong input value         0; its index
  *    15  place or slot of the state                                       0
  *    16  result of +, - or sign outside integer                           its line
- * Places of 1 to 9 are byte offsets of the text.
+ * Places of 1 to 9 are byte offsets of the text. Every place and every count is at most 65535 and is told as it is.
  *
  * Stack: rabtishu_compile, rabtishu_direct_fresh and rabtishu_direct keep their arrays on the stack of the caller's thread, about 260,000 bytes; every
  * call has been run on the largest texts and images in a stack of 1 MiB.

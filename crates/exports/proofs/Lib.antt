@@ -1,4 +1,3 @@
 pub mod RecordLaws
-pub mod AnswerLaws
 pub mod CallLaws
-pub mod Fits
+pub mod NarrowLaws

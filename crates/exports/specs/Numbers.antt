@@ -2,7 +2,8 @@
 -- nothing.
 use mathlib.Core.Bool.{Bool, true, false}
 use mathlib.Core.List.{List, [], _∷_}
-use Prim.Native.Nat.{ℕ, _%_, _^_}
+use Prim.Native.Nat.{ℕ, _<_, _^_}
+use lib.ListN.{getD}
 use Rattle.answers.specs.Answers.{numberOf, placeOf}
 use Rattle.answers.specs.declared.Refusal.{Refusal}
 use Rattle.answers.specs.declared.Compiled.{Compiled}
@@ -14,17 +15,18 @@ use Rattle.answers.specs.declared.Started.the-variants.{Fresh, NotStarted}
 use Rattle.answers.specs.declared.Cycled.{Cycled}
 use Rattle.answers.specs.declared.Cycled.the-variants.{Performed, NotPerformed}
 
--- the low 32 bits of a place or a count
-abbrev pub low32 : ℕ → ℕ
-low32 n = n % 2 ^ 32
+-- place and count of an answer's three numbers have 32 bits; theorems/specs/Places.antt says that those of every call do
+pub record Narrow (a : List ℕ) : Type 0 where
+  pub place : getD a 1 0 < 2 ^ 32
+  pub count : getD a 2 0 < 2 ^ 32
 
 -- turned back: the columns "No" and "Place"; nothing is counted
 abbrev pub refusedAs : Refusal → List ℕ
-refusedAs r = numberOf r ∷ low32 (placeOf r) ∷ 0 ∷ []
+refusedAs r = numberOf r ∷ placeOf r ∷ 0 ∷ []
 
 -- done: no refusal, and so many image bytes or lines
 abbrev pub doneAs : ℕ → List ℕ
-doneAs n = 0 ∷ 0 ∷ low32 n ∷ []
+doneAs n = 0 ∷ 0 ∷ n ∷ []
 
 -- a compile: the image bytes written
 abbrev pub compiledNumbers : Compiled → List ℕ

@@ -1,39 +1,37 @@
 // The three numbers of an answer: the refusal's number or 0, its place or 0, a count.
 ghost use mathlib.Core.Path.{_≡_};
+ghost use Prim.Native.Nat.{_<_, _^_};
+ghost use Rattle.answers.specs.Answers.{placeOf};
 ghost use Rattle.cycle.specs.Advances.{isPerformed};
-ghost use Rattle.exports.specs.Numbers.{low32, refusedAs, doneAs, compiledNumbers, openedNumbers, startedNumbers, cycledNumbers, isFresh};
+ghost use Rattle.exports.specs.Numbers.{Narrow, refusedAs, doneAs, compiledNumbers, openedNumbers, startedNumbers, cycledNumbers, isFresh};
 use answers::Compiled;
 use answers::Cycled;
 use answers::Opened;
 use answers::Refusal;
 use answers::Started;
 
-// The low 32 bits of a place or a count.
-fn low(n: usize) -> u32
-    ensures { λ r. ⌜ r ≡ low32 n ⌝ }
-{
-    (n & 0xffffffff) as u32
-}
-
 // Turned back: number and place.
 fn refused(r: Refusal) -> [u32; 3]
+    requires { ⌜ placeOf r < 2 ^ 32 ⌝ }
     ensures { λ a. ⌜ a ≡ refusedAs r ⌝ }
 {
     let number = answers::number(r);
-    let place = low(answers::place(r));
+    let place = answers::place(r) as u32;
     [number, place, 0]
 }
 
 // Done: so many image bytes or lines.
 fn done(n: usize) -> [u32; 3]
+    requires { ⌜ n < 2 ^ 32 ⌝ }
     ensures { λ a. ⌜ a ≡ doneAs n ⌝ }
 {
-    let count = low(n);
+    let count = n as u32;
     [0, 0, count]
 }
 
 // The answer of a compile.
 pub(crate) fn compiled(c: Compiled) -> [u32; 3]
+    requires { ⌜ Narrow (compiledNumbers c) ⌝ }
     ensures { λ a. ⌜ a ≡ compiledNumbers c ⌝ }
 {
     match c {
@@ -44,6 +42,7 @@ pub(crate) fn compiled(c: Compiled) -> [u32; 3]
 
 // The answer of an image opened.
 pub(crate) fn opened(o: Opened) -> [u32; 3]
+    requires { ⌜ Narrow (openedNumbers o) ⌝ }
     ensures { λ a. ⌜ a ≡ openedNumbers o ⌝ }
 {
     match o {
@@ -54,6 +53,7 @@ pub(crate) fn opened(o: Opened) -> [u32; 3]
 
 // The answer of a fresh state asked for.
 pub(crate) fn started(s: Started) -> [u32; 3]
+    requires { ⌜ Narrow (startedNumbers s) ⌝ }
     ensures { λ a. ⌜ a ≡ startedNumbers s ⌝ }
 {
     match s {
@@ -64,6 +64,7 @@ pub(crate) fn started(s: Started) -> [u32; 3]
 
 // The answer of a cycle.
 pub(crate) fn cycled(c: Cycled) -> [u32; 3]
+    requires { ⌜ Narrow (cycledNumbers c) ⌝ }
     ensures { λ a. ⌜ a ≡ cycledNumbers c ⌝ }
 {
     match c {

@@ -1,6 +1,7 @@
--- `exports::rabtishu_compile` meets its contract: the compiler's, its answer as three numbers. Assumes nothing.
+-- `exports::rabtishu_compile` meets its contract: the compiler's, its answer as three numbers, whose place and count have 32 bits. Assumes nothing.
 use mathlib.Core.Path.{ap, _∙_}
 use Rattle.exports.specs.Numbers.{compiledNumbers}
+use Rattle.exports.proofs.NarrowLaws.{compile-narrow}
 use borrow.Author.Needs.{needs}
 use Rattle.exports.proofs.rabtishu_compile.Statement.{statement}
 use Rattle.exports.proofs.rabtishu_compile.Tie as tie
@@ -9,7 +10,7 @@ compile-requires : tie.Need-compile-requires
 compile-requires c κs = search needs
 
 compiled-requires : tie.Need-compiled-requires
-compiled-requires c κs = search needs
+compiled-requires c κs = compile-narrow _ _ (c .before .before .compile .ensures .0)
 
 same-length : tie.Need-same-length
 same-length c = search needs

@@ -5,6 +5,9 @@ use Rattle.format.specs.Cycle.{cycleOf}
 use Rattle.semantics.specs.Calls.{Called}
 use Rattle.cycle.specs.Advances.{cycledOf}
 use Rattle.exports.proofs.CallLaws.{cycled-stored, cycled-kept}
+use native.Mathlib.Omega.{arith}
+use Rattle.runtime.proofs.OpenedImage.{all-bytes}
+use Rattle.exports.proofs.NarrowLaws.{cycle-narrow}
 use borrow.Author.Needs.{needs}
 use Rattle.exports.proofs.rabtishu_cycle.Statement.{statement}
 use Rattle.exports.proofs.rabtishu_cycle.Tie as tie
@@ -16,7 +19,10 @@ cycle-requires : tie.Need-cycle-requires
 cycle-requires c κs = search needs
 
 cycled-requires : tie.Need-cycled-requires
-cycled-requires c κs = search needs
+cycled-requires c κs =
+    let a = c .before .before .before .before .before .before .args in
+    let h = all-bytes (a .image .now) (λ k. omega (arith, c .before .before .before .before .before .shared-slice-known .given k)) in
+    cycle-narrow (a .image .now) h (c .before .before .before .to-state .result) (a .inputs .now) (a .row .now) (c .before .cycle .ensures .0)
 
 is-performed-requires : tie.Need-is-performed-requires
 is-performed-requires c κs = search needs

@@ -6,6 +6,7 @@ use Rattle.behaviour.specs.Direct.{directOf}
 use Rattle.interpreter.specs.Answering.{cycledOf}
 use Rattle.direct.specs.Calls.{callOf}
 use Rattle.exports.proofs.CallLaws.{cycled-stored, cycled-kept}
+use Rattle.exports.proofs.NarrowLaws.{direct-narrow}
 use borrow.Author.Needs.{needs}
 use Rattle.exports.proofs.rabtishu_direct.Statement.{statement}
 use Rattle.exports.proofs.rabtishu_direct.Tie as tie
@@ -17,7 +18,9 @@ run-requires : tie.Need-run-requires
 run-requires c κs = search needs
 
 cycled-requires : tie.Need-cycled-requires
-cycled-requires c κs = search needs
+cycled-requires c κs =
+    let a = c .before .before .before .before .before .before .args in
+    direct-narrow (a .text .now) (c .before .before .before .to-state .result) (callOf (a .inputs .now) (a .row .now)) (c .before .run .ensures .0)
 
 is-performed-requires : tie.Need-is-performed-requires
 is-performed-requires c κs = search needs

@@ -4,6 +4,7 @@ use Rattle.interpreter.specs.Answering.{startedOf, startOf}
 use Rattle.behaviour.specs.Direct.{directFresh}
 use Rattle.exports.specs.Numbers.{isFresh, startedNumbers}
 use Rattle.exports.proofs.CallLaws.{started-stored, started-kept}
+use Rattle.exports.proofs.NarrowLaws.{direct-fresh-narrow}
 use borrow.Author.Needs.{needs}
 use Rattle.exports.proofs.rabtishu_direct_fresh.Statement.{statement}
 use Rattle.exports.proofs.rabtishu_direct_fresh.Tie as tie
@@ -12,7 +13,7 @@ fresh-requires : tie.Need-fresh-requires
 fresh-requires c κs = search needs
 
 started-requires : tie.Need-started-requires
-started-requires c κs = search needs
+started-requires c κs = direct-fresh-narrow (c .before .before .args .text .now) (c .fresh .ensures .0)
 
 is-fresh-requires : tie.Need-is-fresh-requires
 is-fresh-requires c κs = search needs

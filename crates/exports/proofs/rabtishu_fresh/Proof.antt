@@ -4,6 +4,9 @@ use Rattle.runtime.specs.Calls.{startedOf, startOf}
 use Rattle.format.specs.State.{freshOf}
 use Rattle.exports.specs.Numbers.{isFresh, startedNumbers}
 use Rattle.exports.proofs.CallLaws.{started-stored, started-kept}
+use native.Mathlib.Omega.{arith}
+use Rattle.runtime.proofs.OpenedImage.{all-bytes}
+use Rattle.exports.proofs.NarrowLaws.{fresh-narrow}
 use borrow.Author.Needs.{needs}
 use Rattle.exports.proofs.rabtishu_fresh.Statement.{statement}
 use Rattle.exports.proofs.rabtishu_fresh.Tie as tie
@@ -12,7 +15,9 @@ fresh-requires : tie.Need-fresh-requires
 fresh-requires c κs = search needs
 
 started-requires : tie.Need-started-requires
-started-requires c κs = search needs
+started-requires c κs =
+    let b = c .before .before .args .image .now in
+    fresh-narrow b (all-bytes b (λ k. omega (arith, c .before .shared-slice-known .given k))) (c .fresh .ensures .0)
 
 is-fresh-requires : tie.Need-is-fresh-requires
 is-fresh-requires c κs = search needs

@@ -1,6 +1,9 @@
--- `exports::rabtishu_open` meets its contract: the opener's, its answer as three numbers. Assumes nothing.
+-- `exports::rabtishu_open` meets its contract: the opener's, its answer as three numbers, whose place has 32 bits. Assumes nothing.
 use mathlib.Core.Path.{ap, _∙_}
 use Rattle.exports.specs.Numbers.{openedNumbers}
+use native.Mathlib.Omega.{arith}
+use Rattle.runtime.proofs.OpenedImage.{all-bytes}
+use Rattle.exports.proofs.NarrowLaws.{open-narrow}
 use borrow.Author.Needs.{needs}
 use Rattle.exports.proofs.rabtishu_open.Statement.{statement}
 use Rattle.exports.proofs.rabtishu_open.Tie as tie
@@ -9,7 +12,9 @@ open-requires : tie.Need-open-requires
 open-requires c κs = search needs
 
 opened-requires : tie.Need-opened-requires
-opened-requires c κs = search needs
+opened-requires c κs =
+    let b = c .before .before .args .image .now in
+    open-narrow b (all-bytes b (λ k. omega (arith, c .before .shared-slice-known .given k))) (c .«open» .ensures)
 
 returns : tie.Need-returns
 returns c = c .opened .ensures ∙ ap openedNumbers (c .before .«open» .ensures)

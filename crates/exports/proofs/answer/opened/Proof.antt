@@ -1,6 +1,7 @@
 -- `exports::answer::opened` meets its contract, case by case. Assumes nothing.
 use mathlib.Core.Path.{sym, ap, _∙_}
 use Rattle.exports.specs.Numbers.{openedNumbers}
+use Rattle.exports.proofs.NarrowLaws.{narrowed}
 use borrow.Author.Needs.{needs}
 use Rattle.exports.proofs.answer.opened.Statement.{statement}
 use Rattle.exports.proofs.answer.opened.Tie as tie
@@ -15,7 +16,7 @@ enum-known-o : tie.Need-enum-known-o
 enum-known-o c = search needs
 
 refused-requires : tie.Need-refused-requires
-refused-requires c κs = search needs
+refused-requires c κs = narrowed openedNumbers (c .before .o .given .1) (c .before .before .before .pre) .place
 
 returns : tie.Need-returns
 returns c = c .done .ensures ∙ sym (ap openedNumbers (c .before .enum-told .given .1))

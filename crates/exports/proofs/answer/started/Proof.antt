@@ -1,6 +1,7 @@
 -- `exports::answer::started` meets its contract, case by case. Assumes nothing.
 use mathlib.Core.Path.{sym, ap, _∙_}
 use Rattle.exports.specs.Numbers.{startedNumbers}
+use Rattle.exports.proofs.NarrowLaws.{narrowed}
 use borrow.Author.Needs.{needs}
 use Rattle.exports.proofs.answer.started.Statement.{statement}
 use Rattle.exports.proofs.answer.started.Tie as tie
@@ -15,7 +16,7 @@ enum-known-s : tie.Need-enum-known-s
 enum-known-s c = search needs
 
 refused-requires : tie.Need-refused-requires
-refused-requires c κs = search needs
+refused-requires c κs = narrowed startedNumbers (c .before .s .given .1) (c .before .before .before .pre) .place
 
 returns : tie.Need-returns
 returns c = c .done .ensures ∙ sym (ap startedNumbers (c .before .enum-told .given .1))
