@@ -1,5 +1,6 @@
--- `exports::answer::cycled` meets its contract, case by case. Assumes nothing.
+-- `exports::answer::cycled` meets its contract, case by case: the place or count is that of its argument. Assumes nothing.
 use mathlib.Core.Path.{sym, ap, _∙_}
+use native.Mathlib.Omega.{arith}
 use Rattle.exports.specs.Numbers.{cycledNumbers}
 use Rattle.exports.proofs.NarrowLaws.{narrowed}
 use borrow.Author.Needs.{needs}
@@ -10,13 +11,13 @@ enum-known-c : tie.Need-enum-known-c
 enum-known-c c = search needs
 
 done-requires : tie.Need-done-requires
-done-requires c κs = narrowed cycledNumbers (c .before .c .given .1) (c .before .before .before .pre) .count
+done-requires c κs = omega (arith, narrowed cycledNumbers (c .before .c .given .1) (c .before .before .before .pre) .count)
 
 enum-known-c-2 : tie.Need-enum-known-c-2
 enum-known-c-2 c = search needs
 
 refused-requires : tie.Need-refused-requires
-refused-requires c κs = narrowed cycledNumbers (c .before .c2 .given .1) (c .before .before .before .pre) .place
+refused-requires c κs = omega (arith, narrowed cycledNumbers (c .before .c2 .given .1) (c .before .before .before .pre) .place)
 
 returns : tie.Need-returns
 returns c = c .done .ensures ∙ sym (ap cycledNumbers (c .before .before .c .given .1))

@@ -1,5 +1,6 @@
--- `exports::answer::started` meets its contract, case by case. Assumes nothing.
+-- `exports::answer::started` meets its contract, case by case: the place or count is that of its argument. Assumes nothing.
 use mathlib.Core.Path.{sym, ap, _∙_}
+use native.Mathlib.Omega.{arith}
 use Rattle.exports.specs.Numbers.{startedNumbers}
 use Rattle.exports.proofs.NarrowLaws.{narrowed}
 use borrow.Author.Needs.{needs}
@@ -16,7 +17,7 @@ enum-known-s : tie.Need-enum-known-s
 enum-known-s c = search needs
 
 refused-requires : tie.Need-refused-requires
-refused-requires c κs = narrowed startedNumbers (c .before .s .given .1) (c .before .before .before .pre) .place
+refused-requires c κs = omega (arith, narrowed startedNumbers (c .before .s .given .1) (c .before .before .before .pre) .place)
 
 returns : tie.Need-returns
 returns c = c .done .ensures ∙ sym (ap startedNumbers (c .before .enum-told .given .1))
