@@ -55,7 +55,8 @@ done-narrow : (n : ℕ) → n ≤ 65535 → Narrow (doneAs n)
 done-narrow n h = record { place = omega arith; count = omega arith }
 
 -- a cycle's answer, of an image or of a text: `named` is the declared answer
-cycled-narrow : (named : Answer → Cycled) → ((w : List ℕ) → named (performed w) ≡ Performed (length w)) → ((q k : ℕ) → named (not-performed q k) ≡ NotPerformed (refusalOf q k))
+cycled-narrow : (named : Answer → Cycled) → ((w : List ℕ) → named (performed w) ≡ Performed (length w))
+    → ((q k : ℕ) → named (not-performed q k) ≡ NotPerformed (refusalOf q k))
     → (a : Answer) → ((w : List ℕ) → a ≡ performed w → length w ≤ 512) → ((q k : ℕ) → a ≡ not-performed q k → k ≤ 16384) → Narrow (cycledNumbers (named a))
 cycled-narrow named y n (performed w) f g = narrowed cycledNumbers (sym (y w)) (let h = f w refl in done-narrow (length w) (omega arith))
 cycled-narrow named y n (not-performed q k) f g = narrowed cycledNumbers (sym (n q k)) (let h = g q k refl in refused-narrow q k (omega arith))

@@ -20,7 +20,9 @@ later n m l (x ∷ ts) h = (let a = h .0 in omega arith, later n m l ts (h .1))
 
 from-places : {n : ℕ} {b : List ℕ} {ts : List Token} → Lexes n b ts → Each (By (n + length b)) ts
 from-places S.end = tt
-from-places {n} {ts = ts} (S.Lexes.gap {w} {rest} p r) = let e = length-append w rest in later (n + length w + length rest) (n + length (w ++ rest)) (omega arith) ts (from-places r)
+from-places {n} {ts = ts} (S.Lexes.gap {w} {rest} p r) =
+    let e = length-append w rest in
+    later (n + length w + length rest) (n + length (w ++ rest)) (omega arith) ts (from-places r)
 from-places {n} (S.Lexes.token {w} {rest} {ts} p r) =
     let e = length-append w rest in
     (omega arith, later (n + length w + length rest) (n + length (w ++ rest)) (omega arith) ts (from-places r))

@@ -117,7 +117,9 @@ module _ (n : ℕ) where
   -- REFUSAL 5
   again-inside : (v : ℕ) (ds : List Decl) → Each Named ds → Inside (again v ds)
   unfolding again
-  again-inside v ds h = each-inside Named (λ d. unless (not (eqb (d .name .value) v)) (d .name .place)) (λ d k. unless-inside (not (eqb (d .name .value) v)) (d .name .place) k) ds h
+  again-inside v ds h =
+      each-inside Named (λ d. unless (not (eqb (d .name .value) v)) (d .name .place))
+      (λ d k. unless-inside (not (eqb (d .name .value) v)) (d .name .place) k) ds h
 
   doubled-inside : (ds : List Decl) → Each Named ds → Inside (doubled ds)
   unfolding doubled
@@ -192,7 +194,8 @@ module _ (n : ℕ) where
   wants-inside (some t) (some u) p h = unless-inside (sameType t u) p h
 
   -- an expression where a type is wanted, at the token x
-  wanted-inside : (Δ : List Decl) (e : Expr) (t : Option ExprTy) (x : Token) → By n x → InExpr (By n) e → Inside (typesIn Δ e ++ wants t (typeOf Δ e) (x .place))
+  wanted-inside : (Δ : List Decl) (e : Expr) (t : Option ExprTy) (x : Token) → By n x → InExpr (By n) e
+      → Inside (typesIn Δ e ++ wants t (typeOf Δ e) (x .place))
   wanted-inside Δ e t x h k = join (typesIn Δ e) (wants t (typeOf Δ e) (x .place)) (types-in-inside Δ e k) (wants-inside t (typeOf Δ e) (x .place) h)
 
   types-of-inside : (Δ : List Decl) (s : Stmt) → InStmt (By n) s → Inside (typesOf Δ s)
@@ -214,7 +217,9 @@ module _ (n : ℕ) where
 
   initials-inside : (g : Group) → InGroup (By n) g → Inside (initialsOf g)
   unfolding initialsOf
-  initials-inside g h = cond-inside (isInput (g .mode)) [] (initialOf (typeNamed (g .type)) (g .init)) tt (initial-inside (typeNamed (g .type)) (g .init) (h .init))
+  initials-inside g h =
+      cond-inside (isInput (g .mode)) [] (initialOf (typeNamed (g .type)) (g .init)) tt
+      (initial-inside (typeNamed (g .type)) (g .init) (h .init))
 
   types-inside : (t : Text) → InText (By n) t → Inside (types t)
   unfolding types

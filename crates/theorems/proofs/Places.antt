@@ -149,7 +149,8 @@ module _ (text : List ℕ) (s : State) (c : Call) where
   direct-outcome : (d : Process) → Valid text d → Outcome (tableOf d) s (c .inputs) (c .outputs) (directOf text s c)
   unfolding directOf
   direct-outcome d v =
-      subst (Outcome (tableOf d) s (c .inputs) (c .outputs)) (row-direct d (valid-well-formed v) s c ∙ sym (ap (λ (x : Verdict). unlessRefused x s c) (J.accepts text d .1 v)))
+      subst (Outcome (tableOf d) s (c .inputs) (c .outputs))
+      (row-direct d (valid-well-formed v) s c ∙ sym (ap (λ (x : Verdict). unlessRefused x s c) (J.accepts text d .1 v)))
       (row-outcome (tableOf d) (direct-good d v) s (c .inputs) (c .outputs))
 
   direct-refused : (n x : ℕ) → verdict text ≡ refused n x → directOf text s c .answer ≡ not-performed n x

@@ -128,7 +128,10 @@ module _ (P : Token → Type 0) where
   all-keep more = (λ s hs. hs, (λ t ht f hf s hs. (hs, hf t ht), tt))
   all-keep statement = (
     λ x hx f hf. hf x hx,
-    (λ _ _ _ _. tt, (λ _ _ _ _ n hn _ _ _ _ _ _. hn, (λ i hi e he _ _ a ha f hf _ _ _ _ _ _. hf i e a hi he ha, (λ w hw e he _ _ a ha _ _ _ _ _ _. (hw, he, ha), tt)))),
+    (
+      λ _ _ _ _. tt,
+      (λ _ _ _ _ n hn _ _ _ _ _ _. hn, (λ i hi e he _ _ a ha f hf _ _ _ _ _ _. hf i e a hi he ha, (λ w hw e he _ _ a ha _ _ _ _ _ _. (hw, he, ha), tt))),
+    ),
   )
   all-keep target = (λ _ _ e he _ _ x hx. (hx, he), (λ _ _ e he _ _ x hx. (hx, he), tt))
   all-keep else-part = (λ i e a hi he ha. (hi, he, ha), (λ _ _ b hb i e a hi he ha. (hi, he, ha, hb), tt))
