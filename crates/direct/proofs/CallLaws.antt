@@ -35,17 +35,17 @@ use Rattle.semantics.specs.Comparison.{laid}
 use Rattle.semantics.specs.DirectRow.{fitsText, placeFor, keptOf, cycled, directRow}
 use Rattle.ir.specs.Arrays.{Row, At, typeCode, BodyIn, NamesIn}
 use Rattle.ir.proofs.Held.{entries-size, at-whole, at-first, at-rest, at-output, at-variable, at-null, at-wait as at-wait-row, at-if, at-while, at-else}
-use Rattle.direct.specs.Holding.{Short, HeldIn}
-use Rattle.direct.specs.Standing.{run, Stands}
+use Rattle.execution.specs.Holding.{Short, HeldIn}
+use Rattle.execution.specs.Standing.{run, Stands}
 use Rattle.direct.specs.Checks.{checkOf, rowIs, slotsIn, placeIn, stateIs}
 use Rattle.semantics.specs.Calls.{Called}
 use Rattle.direct.specs.Calls.{Design, Names, callOf, fedOf, cycledOf, Advances}
-use Rattle.direct.specs.declared.Progress.{Progress}
-use Rattle.direct.specs.declared.Progress.the-variants.{Passed, Reached, Refused}
+use Rattle.execution.specs.declared.Progress.{Progress}
+use Rattle.execution.specs.declared.Progress.the-variants.{Passed, Reached, Refused}
 use Rattle.direct.specs.declared.RowCheck.{RowCheck}
 use Rattle.direct.specs.declared.RowCheck.the-variants.{Right, WrongAt}
 use Rattle.direct.specs.declared.Advanced.{Advanced}
-use Rattle.direct.proofs.ResumeLaws.{not-below, not-above}
+use Rattle.execution.proofs.ResumeLaws.{not-below, not-above}
 use Rattle.direct.proofs.CheckLaws.{wrong-values, slots-types}
 
 -- THE DESIGN

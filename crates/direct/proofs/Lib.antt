@@ -1,11 +1,3 @@
-pub mod OperatorLaws
-pub mod StackLaws
-pub mod ExpressionLaws
-pub mod EffectLaws
-pub mod BlockLaws
-pub mod StatementLaws
-pub mod ResumeLaws
 pub mod CheckLaws
-pub mod EntryLaws
 pub mod CallLaws
 pub mod TallyArrays

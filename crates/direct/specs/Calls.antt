@@ -12,7 +12,7 @@ use Rattle.semantics.specs.Rows as R
 use Rattle.semantics.specs.Calls.{Answer, performed, not-performed, Called, Call}
 use Rattle.ir.specs.Entries.{Block}
 use Rattle.ir.specs.Arrays.{typeCode}
-use Rattle.direct.specs.Holding.{HeldIn}
+use Rattle.execution.specs.Holding.{HeldIn}
 use Rattle.direct.specs.declared.Advanced.{Advanced}
 
 -- the arrays hold the body of an accepted text's process, of so many statements: see `design-held`

@@ -13,15 +13,15 @@ ghost use Rattle.semantics.specs.Comparison.{laid};
 ghost use Rattle.semantics.specs.DirectRow.{fitsText, keptOf, cycled, directRow};
 ghost use Rattle.direct.specs.Calls.{Design, Names, callOf, fedOf, cycledOf, Advances};
 use crate::Advanced;
-use crate::Progress;
 use crate::RowCheck;
 use crate::checks::row_check;
 use crate::checks::state_check;
-use crate::cycles::cycle;
-use crate::evaluation::number;
 use answers::Cycled;
 use answers::Refusal;
 use answers::State;
+use execution::Progress;
+use execution::cycles::cycle;
+use operations::evaluation::number;
 
 // A refused cycle: the state as it came.
 fn refused(s: State, r: Refusal) -> Advanced

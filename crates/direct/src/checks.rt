@@ -9,8 +9,8 @@ ghost use Rattle.design.specs.Types.{eqZ};
 ghost use Rattle.signed.specs.Signed.{inTypeByte};
 ghost use Rattle.direct.specs.Checks.{checkOf, wrongIn, rowIs, slotsIn, placeIn, stateIs};
 use crate::RowCheck;
-use crate::blocks::entry;
 use answers::State;
+use execution::blocks::entry;
 use signed::equal;
 use signed::in_type;
 

@@ -34,7 +34,13 @@ pub struct FreshState {
 }
 
 // A cycle on an image that was opened before, by the sections that `open` answered: for callers that run many rows on one image and check it once.
-pub fn cycle_opened(image: &[u8], at: Sections, s: State, inputs: &[i32], row: &mut [i32]) -> Advanced
+pub fn cycle_opened(
+    image: &[u8],
+    at: Sections,
+    s: State,
+    inputs: &[i32],
+    row: &mut [i32],
+) -> Advanced
     requires { ⌜ Image at ≡ openedAs (now image) (openOf (now image)) ⌝ }
     ensures { λ a. ⌜ Advances (cycleOf (now (image .entry)) s (now (inputs .entry)) (now (row .entry))) a (now (row .exit)) ⌝ }
 {

@@ -1,0 +1,5 @@
+pub mod EffectLaws
+pub mod BlockLaws
+pub mod StatementLaws
+pub mod ResumeLaws
+pub mod EntryLaws

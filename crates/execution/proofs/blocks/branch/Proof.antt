@@ -1,0 +1,22 @@
+-- `execution::blocks::branch` meets its contract: the test is that of the definition. Assumes nothing.
+use mir.Facts.{toZ-ofZ}
+use Rattle.semantics.specs.Evaluation.{isOne}
+use Rattle.execution.proofs.StatementLaws.{branch-true, branch-false}
+use borrow.Author.Needs.{needs}
+use Rattle.execution.proofs.blocks.branch.Statement.{statement}
+use Rattle.execution.proofs.blocks.branch.Tie as tie
+
+is-one-requires : tie.Need-is-one-requires
+is-one-requires c κs = search needs
+
+add-first : tie.Need-add-first
+add-first c = search needs
+
+returns : tie.Need-returns
+returns c = branch-true (c .before .is-one .result) (isOne (c .before .before .args .v)) (c .before .before .args .at) (c .before .before .args .other) (c .before .before .args .end) (rw (toZ-ofZ (c .before .before .fits .v)) at (c .before .is-one .ensures)) (c .if1 .taken)
+
+returns-2 : tie.Need-returns-2
+returns-2 c = branch-false (c .before .is-one .result) (isOne (c .before .before .args .v)) (c .before .before .args .at) (c .before .before .args .other) (c .before .before .args .end) (rw (toZ-ofZ (c .before .before .fits .v)) at (c .before .is-one .ensures)) (c .if1 .left)
+
+pub branch-spec : {M : Type 1} → statement M
+branch-spec = tie.close (tie.spec add-first is-one-requires returns returns-2)

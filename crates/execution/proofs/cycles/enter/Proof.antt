@@ -1,0 +1,55 @@
+-- `execution::cycles::enter` meets its contract: 512 is the beginning, any other place a wait of the body. Assumes nothing.
+use mathlib.Core.Path.{refl}
+use mathlib.Core.Option.{some}
+use mathlib.Core.List.{[]}
+use native.Mathlib.Omega.{arith}
+use Rattle.execution.specs.Standing.{run}
+use Rattle.execution.proofs.EntryLaws.{enter-starts, enter-resumes, place-wait}
+use borrow.Author.Needs.{needs}
+use Rattle.execution.proofs.cycles.enter.Statement.{statement}
+use Rattle.execution.proofs.cycles.enter.Tie as tie
+
+start-requires : tie.Need-start-requires
+start-requires c κs = search needs
+
+same-length : tie.Need-same-length
+same-length c = search needs
+
+same-length-2 : tie.Need-same-length-2
+same-length-2 c = search needs
+
+returns : tie.Need-returns
+returns c =
+    let u = c .before .before .start .ensures .0 in (
+      omega arith,
+      (λ s h b x. enter-starts s (c .before .before .before .before .before .before .before .before .args .place) (c .before .before .before .before .before .before .before .before .args .inputs .now) (run [] (c .before .before .before .before .before .before .before .before .args .outputs .now) (c .before .before .before .before .before .before .before .before .args .variables .now)) (c .before .before .start .result) _ _ (c .before .before .before .before .before .if1 .taken) (c .before .before .start .ensures .1 (some s) [] (h, b) refl)),
+    )
+
+resume-requires : tie.Need-resume-requires
+resume-requires c κs = search needs
+
+same-length-3 : tie.Need-same-length-3
+same-length-3 c = search needs
+
+same-length-4 : tie.Need-same-length-4
+same-length-4 c = search needs
+
+returns-2 : tie.Need-returns-2
+returns-2 c =
+    let u = c .before .before .resume .ensures .0 in (
+      omega arith,
+      (λ s h b x. enter-resumes s (c .before .before .before .before .before .before .before .before .args .place) (c .before .before .before .before .before .before .before .before .args .inputs .now) (run [] (c .before .before .before .before .before .before .before .before .args .outputs .now) (c .before .before .before .before .before .before .before .before .args .variables .now)) (c .before .before .resume .result) _ _ (c .before .before .before .before .before .if1 .left) (c .before .before .resume .ensures .1 s [] h b (place-wait s (c .before .before .before .before .before .before .before .before .args .place) (c .before .before .before .before .before .if1 .left) x) refl)),
+    )
+
+pub enter-spec : {M : Type 1} → statement M
+enter-spec =
+    tie.close
+    (tie.spec
+    start-requires
+    same-length
+    same-length-2
+    returns
+    resume-requires
+    same-length-3
+    same-length-4
+    returns-2)

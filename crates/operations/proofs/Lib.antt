@@ -1,0 +1,3 @@
+pub mod OperatorLaws
+pub mod StackLaws
+pub mod ExpressionLaws

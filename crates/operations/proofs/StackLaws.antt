@@ -1,0 +1,170 @@
+-- A stack in an array: one number more, one or two fewer, and what a turn of the evaluator's loop keeps. By induction on the depth. Assumes nothing.
+use Prim.Native.Nat.{ℕ, zero, suc, _+_, _-_, _≤_, _<_}
+use mathlib.Core.Path.{_≡_, refl, sym, ap, _∙_}
+use mathlib.Core.List.{List, _∷_}
+use native.Mathlib.Numerals.{add-one}
+use native.Mathlib.Omega.{arith}
+use borrow.Author.Tests.{lt-ltb, le-ltb, ne-eqb}
+use lib.ListN.{length, getD, set, length-set}
+use lib.Seq.{getD-set-same, getD-set-other}
+use lib.IntN.{ℤ, pos}
+use mir.Syntax.{w32}
+use mir.Val.{SFits, toZ, ofZ}
+use mir.Facts.{toZ-ofZ}
+use Rattle.design.specs.Expression.{Out, fine, fault, bind}
+use Rattle.semantics.specs.Twos.{unsigned32}
+use Rattle.signed.specs.Signed.{checkedOf}
+use Rattle.signed.specs.declared.Checked.{Checked}
+use Rattle.signed.specs.declared.Checked.the-variants.{Value, Refused}
+use Rattle.ir.specs.Operations.{op}
+use Rattle.ir.specs.Arrays.{opsFrom}
+use Rattle.operations.specs.Machine.{unaryFor, unaryOf, binaryFor, binaryOf, pushed, pushedWithin, unaryNext, binaryNext, stepOf, runOps, topOf, valueIn}
+use Rattle.operations.specs.Stack.{stackOf, outcomeOf, Room, Says}
+use Rattle.operations.specs.declared.Transition.{Transition}
+use Rattle.operations.specs.declared.Transition.the-variants.{Go, Stop}
+
+pub stack-length : (a : List ℤ) (n : ℕ) → length (stackOf a n) ≡ n
+unfolding stackOf
+stack-length a zero = refl
+stack-length a (suc n) = ap suc (stack-length a n)
+
+-- what is written above leaves the numbers below
+stack-above : (a : List ℤ) (n : ℕ) (v : ℤ) (m : ℕ) → m ≤ n → stackOf (set a n v) m ≡ stackOf a m
+unfolding stackOf
+stack-above a n v zero h = refl
+stack-above a n v (suc m) h = rw (getD-set-other a n m v (pos 0) (λ q. omega arith), stack-above a n v m (omega arith))
+
+stack-push : (a : List ℤ) (n : ℕ) (v : ℤ) → n < length a → stackOf (set a n v) (n + 1) ≡ v ∷ stackOf a n
+unfolding stackOf
+stack-push a n v h = rw (add-one, stack-above a n v n (omega arith), getD-set-same a n v (pos 0) h)
+
+outcome-checked : (o : Out ℤ) → outcomeOf (checkedOf o) ≡ o
+outcome-checked (fine x) = refl
+outcome-checked (fault q) = refl
+
+-- a transition that says one thing says what equals it
+pub saying : {a : List ℤ} {r : Transition} {m n : Out (List ℤ)} → n ≡ m → Says a r m → Says a r n
+saying e s = rw e s
+
+-- an answer for an outcome, put on the stack
+pub put : {a : List ℤ} {r : Transition} {n : Out (List ℤ)} (o : Out ℤ) (e : Checked) (st : List ℤ)
+    → n ≡ pushed o st → e ≡ checkedOf o → Says a r (pushed (outcomeOf e) st) → Says a r n
+put o e st h q s = saying (h ∙ ap (λ (x : Out ℤ). pushed x st) (sym (ap (λ (y : Checked). outcomeOf y) q ∙ outcome-checked o))) s
+
+-- an answer put at element i, the number through a local
+pub kept : (a : List ℤ) (i : ℕ) (v : ℤ) (e : Checked) → e ≡ Value v → SFits w32 v → Room a (i + 1)
+    → Says (set a i (toZ w32 (ofZ w32 v))) (Go (i + 1)) (pushed (outcomeOf e) (stackOf a i))
+kept a i v e q f m =
+    record {
+      room = record { numbers = length-set a i _ ∙ m .numbers; depth = m .depth };
+      says = rw (q, toZ-ofZ f, stack-push a i v (omega (arith, m .numbers, m .depth)));
+    }
+
+-- a stop changes nothing
+pub stopped : (a : List ℤ) (n q : ℕ) {o : Out (List ℤ)} → Room a n → fault q ≡ o → Says a (Stop q) o
+stopped a n q m e = record { room = record { numbers = m .numbers; depth = omega arith }; says = e }
+
+pub push-full : (a : List ℤ) (n : ℕ) (z : ℤ) → 64 ≤ n → fault 13 ≡ pushedWithin 64 z (stackOf a n)
+push-full a n z h = rw (stack-length a n, le-ltb n 64 h)
+
+pub push-room : (a : List ℤ) (n : ℕ) (z : ℤ) → n < 64 → pushedWithin 64 z (stackOf a n) ≡ pushed (fine z) (stackOf a n)
+push-room a n z h = rw (stack-length a n, lt-ltb n 64 h)
+
+-- operators on too few numbers, and on enough
+pub unary-short : (a : List ℤ) (n k : ℕ) → n < 1 → fault 13 ≡ unaryNext k (stackOf a n)
+unfolding stackOf
+unary-short a zero k h = refl
+unary-short a (suc n) k h = absurd (omega arith)
+
+pub binary-short : (a : List ℤ) (n k : ℕ) → n < 2 → fault 13 ≡ binaryNext k (stackOf a n)
+unfolding stackOf
+binary-short a zero k h = refl
+binary-short a (suc zero) k h = refl
+binary-short a (suc (suc n)) k h = absurd (omega arith)
+
+pub unary-more : (a : List ℤ) (n k : ℕ) → 1 ≤ n → unaryNext k (stackOf a n) ≡ pushed (unaryOf (unaryFor k) (getD a (n - 1) (pos 0))) (stackOf a (n - 1))
+unfolding stackOf
+unary-more a zero k h = absurd (omega arith)
+unary-more a (suc n) k h = let e : suc n - 1 ≡ n = omega arith in rw e
+
+pub binary-more : (a : List ℤ) (n k : ℕ) → 2 ≤ n
+    → binaryNext k (stackOf a n) ≡ pushed (binaryOf (binaryFor k) (getD a (n - 2) (pos 0)) (getD a (n - 1) (pos 0))) (stackOf a (n - 2))
+unfolding stackOf
+binary-more a zero k h = absurd (omega arith)
+binary-more a (suc zero) k h = absurd (omega arith)
+binary-more a (suc (suc n)) k h =
+    let e : suc (suc n) - 1 ≡ suc n = omega arith in
+    let d : suc (suc n) - 2 ≡ n = omega arith in
+    rw (e, d)
+
+-- the number on top
+pub top-none : (a : List ℤ) (n : ℕ) → n < 1 → Refused 13 ≡ checkedOf (topOf (stackOf a n))
+unfolding stackOf
+top-none a zero h = refl
+top-none a (suc n) h = absurd (omega arith)
+
+pub top-some : (a : List ℤ) (n : ℕ) → 1 ≤ n → Value (getD a (n - 1) (pos 0)) ≡ checkedOf (topOf (stackOf a n))
+unfolding stackOf
+top-some a zero h = absurd (omega arith)
+top-some a (suc n) h = let e : suc n - 1 ≡ n = omega arith in rw e
+
+-- an operation by the tests of its code
+module _ (i v : List ℤ) (k : ℕ) (z : ℤ) (st : List ℤ) where
+  pub step-literal : k < 3 → stepOf i v (op k z) st ≡ pushedWithin 64 z st
+  unfolding stepOf
+  step-literal h = rw (lt-ltb k 3 h)
+
+  pub step-input : k ≡ 3 → stepOf i v (op k z) st ≡ pushedWithin 64 (getD i (unsigned32 z) (pos 0)) st
+  unfolding stepOf
+  step-input h = rw h
+
+  pub step-variable : k ≡ 4 → stepOf i v (op k z) st ≡ pushedWithin 64 (getD v (unsigned32 z) (pos 0)) st
+  unfolding stepOf
+  step-variable h = rw h
+
+  pub step-unary : 3 ≤ k → (k ≡ 3 → ⊥) → (k ≡ 4 → ⊥) → k < 18 → stepOf i v (op k z) st ≡ unaryNext k st
+  unfolding stepOf
+  step-unary a b c d = rw (le-ltb k 3 a, ne-eqb k 3 b, ne-eqb k 4 c, lt-ltb k 18 d)
+
+  pub step-binary : 3 ≤ k → (k ≡ 3 → ⊥) → (k ≡ 4 → ⊥) → 18 ≤ k → stepOf i v (op k z) st ≡ binaryNext k st
+  unfolding stepOf
+  step-binary a b c d = rw (le-ltb k 3 a, ne-eqb k 3 b, ne-eqb k 4 c, le-ltb k 18 d)
+
+-- THE LOOP
+module _ (codes : List ℕ) (args : List ℤ) (from to : ℕ) (i v : List ℤ) where
+  -- with n numbers in the array a, at the operation k: the rest leaves what the whole leaves
+  pub record Left (a : List ℤ) (n k : ℕ) : Type 0 where
+    pub room : Room a n
+    pub same : bind (runOps (stepOf i v) (opsFrom codes args k (to - k)) (stackOf a n)) topOf ≡ valueIn codes args from to i v
+
+  pub left-first : (a : List ℤ) → Room a 0 → Left a 0 from
+  unfolding valueIn stackOf
+  left-first a h = record { room = h; same = refl }
+
+  -- the run, an operation at a time
+  turn : (n k : ℕ) (a : List ℤ) (o : Out (List ℤ)) → Left a n k → k < to → o ≡ stepOf i v (op (getD codes k 0) (getD args k (pos 0))) (stackOf a n)
+      → bind (bind o (λ u. runOps (stepOf i v) (opsFrom codes args (k + 1) (to - (k + 1))) u)) topOf ≡ valueIn codes args from to i v
+  unfolding opsFrom runOps
+  turn n k a o p h e =
+      let z : to - k ≡ suc (to - (k + 1)) = omega arith in
+      rw e (rw z at (p .same))
+
+  pub left-again : (n k : ℕ) (a a′ : List ℤ) (r : Transition) (d : ℕ) → Left a n k → k < to
+      → Says a′ r (stepOf i v (op (getD codes k 0) (getD args k (pos 0))) (stackOf a n)) → r ≡ Go d → Left a′ d (k + 1)
+  unfolding bind
+  left-again n k a a′ r d p h q e =
+      let w = rw e at q in
+      record { room = w .room; same = turn n k a (fine (stackOf a′ d)) p h (w .says) }
+
+  pub left-stop : (n k : ℕ) (a a′ : List ℤ) (r : Transition) (x : ℕ) → Left a n k → k < to
+      → Says a′ r (stepOf i v (op (getD codes k 0) (getD args k (pos 0))) (stackOf a n)) → r ≡ Stop x → Refused x ≡ checkedOf (valueIn codes args from to i v)
+  unfolding bind
+  left-stop n k a a′ r x p h q e =
+      let w = rw e at q in
+      ap (λ (y : Out ℤ). checkedOf y) (turn n k a (fault x) p h (w .says))
+
+  pub left-end : (n k : ℕ) (a : List ℤ) (r : Checked) → Left a n k → to ≤ k → r ≡ checkedOf (topOf (stackOf a n)) → r ≡ checkedOf (valueIn codes args from to i v)
+  unfolding bind runOps opsFrom
+  left-end n k a r p h e =
+      let z : to - k ≡ 0 = omega arith in
+      e ∙ ap (λ (y : Out ℤ). checkedOf y) (rw z at (p .same))

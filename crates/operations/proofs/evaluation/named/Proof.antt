@@ -1,0 +1,24 @@
+-- `operations::evaluation::named` meets its contract: a name's index is its operation's argument. Assumes nothing.
+use mir.Syntax.{w32}
+use mir.Val.{SFits}
+use mir.Facts.{toZ-ofZ}
+use borrow.Author.Needs.{needs}
+use Rattle.operations.proofs.evaluation.named.Statement.{statement}
+use Rattle.operations.proofs.evaluation.named.Tie as tie
+
+to-bits-requires : tie.Need-to-bits-requires
+to-bits-requires c κs = search needs
+
+cast-number : tie.Need-cast-number
+cast-number c = search needs
+
+number-requires : tie.Need-number-requires
+number-requires c κs = search needs
+
+returns : tie.Need-returns
+returns c =
+    let fit : SFits w32 (c .number .result) = search needs in
+    rw (toZ-ofZ fit) (rw (toZ-ofZ (c .before .before .fits .arg)) at (rw (c .before .to-bits .ensures) at (c .number .ensures)))
+
+pub named-spec : {M : Type 1} → statement M
+named-spec = tie.close (tie.spec to-bits-requires cast-number number-requires returns)

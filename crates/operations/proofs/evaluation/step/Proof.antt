@@ -1,0 +1,85 @@
+-- `operations::evaluation::step` meets its contract: the tests of the code are those of the definition. Assumes nothing.
+use mathlib.Core.Path.{_≡_}
+use lib.ListN.{getD}
+use lib.IntN.{pos}
+use mir.Syntax.{w32}
+use mir.Val.{SFits}
+use mir.Facts.{toZ-ofZ}
+use Rattle.semantics.specs.Twos.{unsigned32}
+use Rattle.operations.specs.Stack.{stackOf}
+use Rattle.operations.proofs.StackLaws.{saying, step-literal, step-input, step-variable, step-unary, step-binary}
+use borrow.Author.Needs.{needs}
+use Rattle.operations.proofs.evaluation.step.Statement.{statement}
+use Rattle.operations.proofs.evaluation.step.Tie as tie
+
+push-requires : tie.Need-push-requires
+push-requires c κs = search needs
+
+returns : tie.Need-returns
+returns c =
+    let s = c .before .before .before .args in
+    saying (step-literal (s .inputs .now) (s .variables .now) (s .op) (s .arg) (stackOf (s .stack .now) (s .depth)) (c .before .before .if1 .taken))
+    (rw (toZ-ofZ (c .before .before .before .fits .arg)) at (c .push .ensures))
+
+named-requires : tie.Need-named-requires
+named-requires c κs = search needs
+
+push-requires-2 : tie.Need-push-requires-2
+push-requires-2 c κs = search needs
+
+returns-2 : tie.Need-returns-2
+returns-2 c =
+    let s = c .before .before .before .before .before .args in
+    let e : c .before .named .result ≡ getD (s .inputs .now) (unsigned32 (s .arg)) (pos 0) = rw (toZ-ofZ (c .before .before .before .before .before .fits .arg)) at (c .before .named .ensures) in
+    let fit : SFits w32 (c .before .named .result) = search needs in
+    saying (step-input (s .inputs .now) (s .variables .now) (s .op) (s .arg) (stackOf (s .stack .now) (s .depth)) (c .before .before .before .if2 .taken))
+    (rw e at (rw (toZ-ofZ fit) at (c .push2 .ensures)))
+
+named-requires-2 : tie.Need-named-requires-2
+named-requires-2 c κs = search needs
+
+push-requires-3 : tie.Need-push-requires-3
+push-requires-3 c κs = search needs
+
+returns-3 : tie.Need-returns-3
+returns-3 c =
+    let s = c .before .before .before .before .before .before .args in
+    let e : c .before .named2 .result ≡ getD (s .variables .now) (unsigned32 (s .arg)) (pos 0) = rw (toZ-ofZ (c .before .before .before .before .before .before .fits .arg)) at (c .before .named2 .ensures) in
+    let fit : SFits w32 (c .before .named2 .result) = search needs in
+    saying (step-variable (s .inputs .now) (s .variables .now) (s .op) (s .arg) (stackOf (s .stack .now) (s .depth)) (c .before .before .before .if3 .taken))
+    (rw e at (rw (toZ-ofZ fit) at (c .push3 .ensures)))
+
+apply-unary-requires : tie.Need-apply-unary-requires
+apply-unary-requires c κs = search needs
+
+returns-4 : tie.Need-returns-4
+returns-4 c =
+    let s = c .before .before .before .before .before .before .args in
+    saying (step-unary (s .inputs .now) (s .variables .now) (s .op) (s .arg) (stackOf (s .stack .now) (s .depth)) (c .before .before .before .before .before .if1 .left) (c .before .before .before .before .if2 .left) (c .before .before .before .if3 .left) (c .before .before .if4 .taken))
+    (c .apply-unary .ensures)
+
+apply-binary-requires : tie.Need-apply-binary-requires
+apply-binary-requires c κs = search needs
+
+returns-5 : tie.Need-returns-5
+returns-5 c =
+    let s = c .before .before .before .before .before .before .args in
+    saying (step-binary (s .inputs .now) (s .variables .now) (s .op) (s .arg) (stackOf (s .stack .now) (s .depth)) (c .before .before .before .before .before .if1 .left) (c .before .before .before .before .if2 .left) (c .before .before .before .if3 .left) (c .before .before .if4 .left))
+    (c .apply-binary .ensures)
+
+pub step-spec : {M : Type 1} → statement M
+step-spec =
+    tie.close
+    (tie.spec
+    push-requires
+    returns
+    named-requires
+    push-requires-2
+    returns-2
+    named-requires-2
+    push-requires-3
+    returns-3
+    apply-unary-requires
+    returns-4
+    apply-binary-requires
+    returns-5)

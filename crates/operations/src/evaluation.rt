@@ -1,0 +1,181 @@
+// The value of an expression: its operations, one after another, on a stack of 64 numbers.
+ghost use mathlib.Core.Path.{_≡_};
+ghost use Prim.Native.Nat.{_+_, _≤_};
+ghost use lib.ListN.{length, getD};
+ghost use lib.IntN.{pos};
+ghost use Rattle.design.specs.Expression.{Expr, items};
+ghost use Rattle.semantics.specs.Evaluation.{evaluate as evaluateOf};
+ghost use Rattle.semantics.specs.Twos.{unsigned32};
+ghost use Rattle.signed.specs.Signed.{checkedOf};
+ghost use Rattle.ir.specs.Operations.{op as operation, ops};
+ghost use Rattle.ir.specs.Arrays.{opsFrom};
+ghost use Rattle.operations.specs.Machine.{unaryNext, binaryNext, pushed, pushedWithin, stepOf, topOf, valueIn};
+ghost use Rattle.operations.specs.Stack.{stackOf, outcomeOf, Room, Says};
+use crate::Transition;
+use crate::operators;
+use signed::Checked;
+
+// The k-th number of a row; 0 where it has none.
+pub fn number(row: &[i32], k: usize) -> i32
+    ensures { λ r. ⌜ r ≡ getD (now (row .entry)) k (pos 0) ⌝ }
+{
+    if k < row.len() { row[k] } else { 0 }
+}
+
+// The k-th code; 0 where there is none.
+fn code_at(codes: &[u8], k: usize) -> u8
+    ensures { λ r. ⌜ r ≡ getD (now (codes .entry)) k 0 ⌝ }
+{
+    if k < codes.len() { codes[k] } else { 0 }
+}
+
+// The number of a row at the index that an operation has.
+fn named(row: &[i32], arg: i32) -> i32
+    ensures { λ r. ⌜ r ≡ getD (now (row .entry)) (unsigned32 arg) (pos 0) ⌝ }
+{
+    number(row, signed::to_bits(arg) as usize)
+}
+
+// Puts an answer on the stack at element i, the last there.
+fn keep(stack: &mut [i32; 64], i: usize, e: Checked) -> Transition
+    requires { ⌜ Room (now stack) (i + 1) ⌝ }
+    ensures { λ r. ⌜ Says (now (stack .exit)) r (pushed (outcomeOf e) (stackOf (now (stack .entry)) i)) ⌝ }
+{
+    match e {
+        Checked::Value(v) => {
+            stack[i] = v;
+            Transition::Go(i + 1)
+        }
+        Checked::Refused(q) => Transition::Stop(q),
+    }
+}
+
+// Pushes an operand.
+fn push(stack: &mut [i32; 64], depth: usize, v: i32) -> Transition
+    requires { ⌜ Room (now stack) depth ⌝ }
+    ensures { λ r. ⌜ Says (now (stack .exit)) r (pushedWithin 64 v (stackOf (now (stack .entry)) depth)) ⌝ }
+{
+    if 64 <= depth {
+        return Transition::Stop(13);
+    }
+    keep(stack, depth, Checked::Value(v))
+}
+
+// Applies an operator of one operand.
+fn apply_unary(stack: &mut [i32; 64], depth: usize, op: u8) -> Transition
+    requires { ⌜ Room (now stack) depth ⌝ }
+    ensures { λ r. ⌜ Says (now (stack .exit)) r (unaryNext op (stackOf (now (stack .entry)) depth)) ⌝ }
+{
+    if depth < 1 {
+        return Transition::Stop(13);
+    }
+    let i = depth - 1;
+    let e = operators::unary(op, stack[i]);
+    keep(stack, i, e)
+}
+
+// Applies an operator of two operands; the left one lies below the right one.
+fn apply_binary(stack: &mut [i32; 64], depth: usize, op: u8) -> Transition
+    requires { ⌜ Room (now stack) depth ⌝ }
+    ensures { λ r. ⌜ Says (now (stack .exit)) r (binaryNext op (stackOf (now (stack .entry)) depth)) ⌝ }
+{
+    if depth < 2 {
+        return Transition::Stop(13);
+    }
+    let i = depth - 2;
+    let j = depth - 1;
+    let e = operators::binary(op, stack[i], stack[j]);
+    keep(stack, i, e)
+}
+
+// Performs an operation: 1 and 2 are literals, 3 an input, 4 a variable, 16 and 17 take one operand, the others two.
+fn step(
+    op: u8,
+    arg: i32,
+    inputs: &[i32],
+    variables: &[i32],
+    stack: &mut [i32; 64],
+    depth: usize,
+) -> Transition
+    requires { ⌜ Room (now stack) depth ⌝ }
+    ensures { λ r. ⌜ Says (now (stack .exit)) r (stepOf (now (inputs .entry)) (now (variables .entry)) (operation op arg) (stackOf (now (stack .entry)) depth)) ⌝ }
+{
+    if op < 3 {
+        return push(stack, depth, arg);
+    }
+    if op == 3 {
+        return push(stack, depth, named(inputs, arg));
+    }
+    if op == 4 {
+        return push(stack, depth, named(variables, arg));
+    }
+    if op < 18 {
+        return apply_unary(stack, depth, op);
+    }
+    apply_binary(stack, depth, op)
+}
+
+// The number on top of the stack.
+fn top(stack: &[i32; 64], depth: usize) -> Checked
+    requires { ⌜ Room (now stack) depth ⌝ }
+    ensures { λ r. ⌜ r ≡ checkedOf (topOf (stackOf (now (stack .entry)) depth)) ⌝ }
+{
+    if depth < 1 {
+        return Checked::Refused(13);
+    }
+    Checked::Value(stack[depth - 1])
+}
+
+// Runs the operations from .. to over a lent stack.
+fn run(
+    codes: &[u8],
+    args: &[i32],
+    from: usize,
+    to: usize,
+    inputs: &[i32],
+    variables: &[i32],
+    stack: &mut [i32; 64],
+) -> Checked
+    requires { ⌜ Room (now stack) 0 ⌝ }
+    ensures { λ r. ⌜ r ≡ checkedOf (valueIn (now (codes .entry)) (now (args .entry)) from to (now (inputs .entry)) (now (variables .entry))) ⌝ }
+{
+    let mut depth: usize = 0;
+    let mut at = from;
+    while at < to {
+        let next = step(
+            code_at(codes, at),
+            number(args, at),
+            inputs,
+            variables,
+            stack,
+            depth,
+        );
+        match next {
+            Transition::Go(d) => {
+                depth = d;
+                at += 1;
+            }
+            Transition::Stop(q) => {
+                return Checked::Refused(q);
+            }
+        }
+    }
+    top(stack, depth)
+}
+
+// The value of the expression whose operations are from .. to, over the input row and the variables: a number, or the refusal's number.
+pub fn evaluate(
+    codes: &[u8],
+    args: &[i32],
+    from: usize,
+    to: usize,
+    inputs: &[i32],
+    variables: &[i32],
+) -> Checked
+    ensures { λ r. ⌜ r ≡ checkedOf (valueIn (now (codes .entry)) (now (args .entry)) from to (now (inputs .entry)) (now (variables .entry))) ⌝ }
+    ensures { λ r. ⌜ ((e : Expr) → opsFrom (now (codes .entry)) (now (args .entry)) from (length (ops e)) ≡ ops e → to ≡ from + length (ops e) → items e ≤ 64
+        → r ≡ checkedOf (evaluateOf e (now (inputs .entry)) (now (variables .entry)))) ⌝ }
+{
+    let mut stack = [0i32; 64];
+    run(codes, args, from, to, inputs, variables, &mut stack)
+}
