@@ -25,7 +25,7 @@ use Rattle.ir.specs.Operations.{Op, op, leafOp, unaryCode, binaryCode, ops}
 use Rattle.ir.specs.Arrays.{opsFrom}
 use Rattle.ir.proofs.Laid.{unaryOp, binaryOp, ops-laid}
 use Rattle.encoder.specs.Emitted.{opBytes, opWidth, codeFrom, widthFrom}
-use Rattle.encoder.proofs.Sets.{sets-append}
+use Rattle.links.proofs.Sets.{sets-append}
 
 -- bytes stored behind others
 pub put-after : (l : List ℕ) {m n : List ℕ} (at : ℕ) (us vs : List ℕ) → m ≡ sets l at us → n ≡ sets m (at + length us) vs → n ≡ sets l at (us ++ vs)

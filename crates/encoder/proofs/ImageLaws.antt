@@ -22,7 +22,7 @@ use Rattle.ir.specs.Operations.{Op, ops}
 use Rattle.ir.specs.Entries.{entries, entryOps}
 use Rattle.ir.specs.Arrays.{Row, rowIn, At}
 use Rattle.ir.proofs.Held.{Own, at-first, at-rest, at-output, at-variable, at-null, at-wait, at-if, at-while, at-else, entry-ops-append}
-use Rattle.encoder.specs.Followers.{Links, otherOf}
+use Rattle.links.specs.Followers.{Links, otherOf}
 use Rattle.encoder.specs.Emitted.{widthFrom, runWidth, kindByte, lineAt, linesFrom}
 use Rattle.encoder.proofs.EmittedLaws.{flatBytes, flat-append, code-flat, width-code, named-below, code-is}
 

@@ -1,6 +1,3 @@
-mod Sets
-mod FollowersLaws
-mod ReachesLaws
 mod EmittedLaws
 mod SectionsLaws
 mod ImageLaws

@@ -10,9 +10,9 @@ use Rattle.format.specs.Words.{bytes2, bytes4}
 use Rattle.semantics.specs.Twos.{unsigned32}
 use Rattle.format.specs.Image.{raw, rawBytes, rawsBytes}
 use Rattle.ir.specs.Arrays.{rowIn}
-use Rattle.encoder.specs.Followers.{links}
+use Rattle.links.specs.Followers.{links}
 use Rattle.encoder.specs.Emitted.{opBytes, opWidth, codeFrom, widthFrom, runWidth, kindByte, lineAt, linesFrom, typesFrom, cellsFrom, signatureFrom, headerOf}
-use Rattle.encoder.proofs.Sets.{sets-append}
+use Rattle.links.proofs.Sets.{sets-append}
 use Rattle.encoder.proofs.EmittedLaws.{put-after, width-op}
 
 -- one part more stored, the rest is left

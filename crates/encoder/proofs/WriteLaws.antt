@@ -23,12 +23,12 @@ use Rattle.simulation.proofs.Reaches.{reachesOf-length}
 use Rattle.ir.specs.Arrays.{typeCode, BodyIn, NamesIn}
 use Rattle.ir.proofs.Held.{entries-size, at-whole}
 use Rattle.encoder.specs.declared.Encoded.the-variants.{Written, TooShort}
-use Rattle.encoder.specs.Followers.{Links, stored, Followed}
-use Rattle.encoder.specs.Reaches.{Reached}
+use Rattle.links.specs.Followers.{Links, stored, Followed}
+use Rattle.links.specs.Reaches.{Reached}
 use Rattle.encoder.specs.Emitted.{codeFrom, widthFrom, runWidth, linesFrom, typesFrom, cellsFrom, signatureFrom, headerOf}
 use Rattle.encoder.specs.Outcome.{answerFor, bufferFor, LinesStored, Encodes}
-use Rattle.encoder.proofs.Sets.{getD-sets-in}
-use Rattle.encoder.proofs.ReachesLaws.{link-next-is, link-other-is}
+use Rattle.links.proofs.Sets.{getD-sets-in}
+use Rattle.links.proofs.ReachesLaws.{link-next-is, link-other-is}
 use Rattle.encoder.proofs.EmittedLaws.{put-after, code-flat, width-code, flatBytes}
 use Rattle.encoder.proofs.SectionsLaws.{types-length, cells-length}
 use Rattle.encoder.proofs.ImageLaws.{RowFits, each-row, lines-code, raws-from}

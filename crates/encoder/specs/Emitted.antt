@@ -9,7 +9,7 @@ use Rattle.ir.specs.Arrays.{Row, rowIn}
 use Rattle.format.specs.Words.{bytes2, bytes4}
 use Rattle.semantics.specs.Twos.{unsigned32}
 use Rattle.format.specs.Image.{RawLine, raw}
-use Rattle.encoder.specs.Followers.{Links}
+use Rattle.links.specs.Followers.{Links}
 
 -- the bytes of an operation: "1 integer (4 bytes), 2 std_logic (1 byte), 3 input, 4 variable (1-byte index)", and the operators
 unfoldable pub opBytes : ℕ → ℤ → List ℕ

@@ -1,4 +1,2 @@
-pub mod Followers
-pub mod Reaches
 pub mod Emitted
 pub mod Outcome

@@ -6,8 +6,6 @@ ghost use Rattle.encoder.specs.declared.Encoded.the-variants.{TooShort};
 ghost use Rattle.encoder.specs.Outcome.{LinesStored, Encodes, countsOk};
 
 mod bytes;
-mod followers;
-mod reaches;
 mod sections;
 
 // The bytes written, or the bytes needed of a buffer that is too short.
@@ -24,8 +22,7 @@ fn put_body(image: &mut [u8], at: usize, codes: &[u8; 16384], rows: &[u16; 3072]
     let mut next = [0u16; 512];
     let mut other = [0u16; 512];
     let mut reach = [0u16; 512];
-    followers::followers(rows, n, &mut next, &mut other);
-    reaches::reaches(rows, n, &next, &other, &mut reach);
+    links::find(rows, n, &mut next, &mut other, &mut reach);
     sections::put_lines(image, at, codes, rows, n, &next, &other, &reach);
 }
 

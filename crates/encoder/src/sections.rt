@@ -6,7 +6,7 @@ ghost use lib.ListN.{getD};
 ghost use lib.Seq.{sets};
 ghost use Rattle.ir.specs.Arrays.{rowIn};
 ghost use Rattle.format.specs.Image.{rawBytes, rawsBytes};
-ghost use Rattle.encoder.specs.Followers.{links};
+ghost use Rattle.links.specs.Followers.{links};
 ghost use Rattle.encoder.specs.Emitted.{codeFrom, runWidth, kindByte, lineAt, linesFrom, typesFrom, cellsFrom, signatureFrom, headerOf};
 use crate::bytes::op_width;
 use crate::bytes::put;
@@ -15,9 +15,7 @@ use crate::bytes::put_line;
 use crate::bytes::put_op;
 use crate::bytes::put2;
 use crate::bytes::put4;
-use crate::followers::field;
-use crate::followers::kind;
-use crate::followers::number;
+use links::number;
 
 // The value at an index, or 0 past the end.
 fn value(s: &[i32], i: usize) -> i32
@@ -135,8 +133,8 @@ fn put_row(
     requires { ⌜ (at < 900000) × (j < 512) × (offset < 50000000) × (size < 100000) ⌝ }
     ensures { λ _. ⌜ now (image .exit) ≡ sets (now (image .entry)) at (rawBytes (lineAt (rowIn (now (rows .entry)) j) offset size next other reach)) ⌝ }
 {
-    let kind = kind_byte(kind(rows, j));
-    let target = (field(rows, j, 1) % 256) as u8;
+    let kind = kind_byte(number(rows, 6 * j));
+    let target = (number(rows, 6 * j + 1) % 256) as u8;
     put_line(
         image,
         at,
@@ -169,8 +167,8 @@ pub(crate) fn put_lines(
     while j < n {
         let size = run_width(
             codes,
-            field(rows, j, 2) as usize,
-            field(rows, j, 3) as usize,
+            number(rows, 6 * j + 2) as usize,
+            number(rows, 6 * j + 3) as usize,
         );
         put_row(
             image,

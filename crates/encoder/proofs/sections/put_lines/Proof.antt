@@ -5,7 +5,7 @@ use mathlib.Core.Path.{_≡_, refl, _∙_}
 use lib.ListN.{length}
 use lib.Seq.{sets}
 use Rattle.format.specs.Image.{rawsBytes}
-use Rattle.encoder.specs.Followers.{links}
+use Rattle.links.specs.Followers.{links}
 use Rattle.encoder.specs.Emitted.{linesFrom}
 use Rattle.encoder.proofs.SectionsLaws.{lines-again, lines-done}
 use borrow.Author.Needs.{needs}
@@ -21,14 +21,26 @@ abbrev μ-loop : tie.MeasureT-loop
 loop-holds : tie.Need-loop-holds Inv-loop μ-loop
 loop-holds c = (omega arith, (omega arith, (refl, refl)))
 
-field-requires : tie.Need-field-requires Inv-loop μ-loop
-field-requires c κs = (omega arith, omega arith)
+mul-number : tie.Need-mul-number Inv-loop μ-loop
+mul-number c = omega arith
+
+add-number : tie.Need-add-number Inv-loop μ-loop
+add-number c = omega arith
+
+number-requires : tie.Need-number-requires Inv-loop μ-loop
+number-requires c κs = search needs
 
 cast-run-width : tie.Need-cast-run-width Inv-loop μ-loop
 cast-run-width c = search needs
 
-field-requires-2 : tie.Need-field-requires-2 Inv-loop μ-loop
-field-requires-2 c κs = (omega arith, omega arith)
+mul-number-2 : tie.Need-mul-number-2 Inv-loop μ-loop
+mul-number-2 c = omega arith
+
+add-number-2 : tie.Need-add-number-2 Inv-loop μ-loop
+add-number-2 c = omega arith
+
+number-requires-2 : tie.Need-number-requires-2 Inv-loop μ-loop
+number-requires-2 c κs = search needs
 
 cast-run-width-2 : tie.Need-cast-run-width-2 Inv-loop μ-loop
 cast-run-width-2 c = search needs
@@ -42,14 +54,14 @@ mul-put-row c = omega arith
 add-put-row : tie.Need-add-put-row Inv-loop μ-loop
 add-put-row c = omega arith
 
-number-requires : tie.Need-number-requires Inv-loop μ-loop
-number-requires c κs = search needs
-
-number-requires-2 : tie.Need-number-requires-2 Inv-loop μ-loop
-number-requires-2 c κs = search needs
-
 number-requires-3 : tie.Need-number-requires-3 Inv-loop μ-loop
 number-requires-3 c κs = search needs
+
+number-requires-4 : tie.Need-number-requires-4 Inv-loop μ-loop
+number-requires-4 c κs = search needs
+
+number-requires-5 : tie.Need-number-requires-5 Inv-loop μ-loop
+number-requires-5 c κs = search needs
 
 put-row-requires : tie.Need-put-row-requires Inv-loop μ-loop
 put-row-requires c κs = (omega arith, omega arith, omega arith, omega (arith, c .before .before .before .before .run-width .ensures .1))
@@ -64,7 +76,10 @@ loop-less : tie.Need-loop-less Inv-loop μ-loop
 loop-less c = omega arith
 
 loop-again : tie.Need-loop-again Inv-loop μ-loop
-loop-again c = (omega arith, (omega (arith, c .before .before .before .before .before .before .before .run-width .ensures .1), (search needs, lines-again (c .before .before .before .before .before .before .before .before .before .before .before .before .before .before .before .before .args .codes .now) (c .before .before .before .before .before .before .before .before .before .before .before .before .before .before .before .before .args .rows .now) (c .before .before .before .before .before .before .before .before .before .before .before .before .before .before .before .before .args .next .now) (c .before .before .before .before .before .before .before .before .before .before .before .before .before .before .before .before .args .other .now) (c .before .before .before .before .before .before .before .before .before .before .before .before .before .before .before .before .args .reaches .now) (c .before .before .before .before .before .before .before .before .before .before .before .loop .image) (c .before .before .before .before .before .before .before .before .before .before .before .before .before .before .before .before .args .at) (c .before .before .before .before .before .before .before .before .before .before .before .loop .j) (c .before .before .before .before .before .before .before .before .before .before .before .before .before .before .before .before .args .n) (c .before .before .before .before .before .before .before .before .before .before .before .loop .p) (c .before .before .before .before .before .before .before .before .before .before .loop-test .taken) (c .before .before .before .before .before .before .before .before .before .field .ensures) (c .before .before .before .before .before .before .before .before .field2 .ensures) (c .before .before .before .before .before .before .before .run-width .ensures .0) (c .before .before .before .before .before .number .ensures) (c .before .before .before .before .number2 .ensures) (c .before .before .before .number3 .ensures) (c .before .before .put-row .ensures) ∙ c .before .before .before .before .before .before .before .before .before .before .before .loop .inv .1 .1 .1)))
+loop-again c =
+    let a = c .before .before .before .before .before .before .before .before .before .before .before .before .before .before .before .before .before .before .args in
+    let l = c .before .before .before .before .before .before .before .before .before .before .before .before .before .loop in
+    (omega arith, (omega (arith, c .before .before .before .before .before .before .before .run-width .ensures .1), (search needs, lines-again (a .codes .now) (a .rows .now) (a .next .now) (a .other .now) (a .reaches .now) (l .image) (a .at) (l .j) (a .n) (l .p) (c .before .before .before .before .before .before .before .before .before .before .before .before .loop-test .taken) (c .before .before .before .before .before .before .before .before .before .before .number .ensures) (c .before .before .before .before .before .before .before .before .number2 .ensures) (c .before .before .before .before .before .before .before .run-width .ensures .0) (c .before .before .before .before .before .number3 .ensures) (c .before .before .before .before .number4 .ensures) (c .before .before .before .number5 .ensures) (c .before .before .put-row .ensures) ∙ l .inv .1 .1 .1)))
 
 same-length : tie.Need-same-length Inv-loop μ-loop
 same-length c = search needs
@@ -79,16 +94,20 @@ put-lines-spec =
     Inv-loop
     μ-loop
     loop-holds
-    field-requires
+    mul-number
+    add-number
+    number-requires
     cast-run-width
-    field-requires-2
+    mul-number-2
+    add-number-2
+    number-requires-2
     cast-run-width-2
     run-width-requires
     mul-put-row
     add-put-row
-    number-requires
-    number-requires-2
     number-requires-3
+    number-requires-4
+    number-requires-5
     put-row-requires
     add-p
     add-j

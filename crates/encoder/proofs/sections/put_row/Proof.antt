@@ -4,14 +4,23 @@ use borrow.Author.Needs.{needs}
 use Rattle.encoder.proofs.sections.put_row.Statement.{statement}
 use Rattle.encoder.proofs.sections.put_row.Tie as tie
 
-kind-requires : tie.Need-kind-requires
-kind-requires c κs = search needs
+mul-number : tie.Need-mul-number
+mul-number c = search needs
+
+number-requires : tie.Need-number-requires
+number-requires c κs = search needs
 
 kind-byte-requires : tie.Need-kind-byte-requires
 kind-byte-requires c κs = search needs
 
-field-requires : tie.Need-field-requires
-field-requires c κs = search needs
+mul-number-2 : tie.Need-mul-number-2
+mul-number-2 c = search needs
+
+add-number : tie.Need-add-number
+add-number c = search needs
+
+number-requires-2 : tie.Need-number-requires-2
+number-requires-2 c κs = search needs
 
 cast-target : tie.Need-cast-target
 cast-target c = search needs
@@ -29,15 +38,20 @@ same-length : tie.Need-same-length
 same-length c = search needs
 
 returns : tie.Need-returns
-returns c = row-made (c .before .before .before .before .before .before .before .before .args .rows .now) (c .before .before .before .before .before .before .before .before .args .image .now) (c .before .before .before .before .before .before .before .before .args .at) (c .before .before .before .before .before .before .before .before .args .j) (c .before .before .before .before .before .before .before .before .args .offset) (c .before .before .before .before .before .before .before .before .args .size) (c .before .before .before .before .before .before .before .before .args .next) (c .before .before .before .before .before .before .before .before .args .other) (c .before .before .before .before .before .before .before .before .args .reach) (c .before .before .before .before .before .before .kind .ensures) (c .before .before .before .before .before .kind-byte .ensures) (c .before .before .before .before .field .ensures) (c .before .before .put-line .ensures)
+returns c =
+    let a = c .before .before .before .before .before .before .before .before .before .before .args in
+    row-made (a .rows .now) (a .image .now) (a .at) (a .j) (a .offset) (a .size) (a .next) (a .other) (a .reach) (c .before .before .before .before .before .before .before .number .ensures) (c .before .before .before .before .before .before .kind-byte .ensures) (c .before .before .before .before .number2 .ensures) (c .before .before .put-line .ensures)
 
 pub put-row-spec : {M : Type 1} → statement M
 put-row-spec =
     tie.close
     (tie.spec
-    kind-requires
+    mul-number
+    number-requires
     kind-byte-requires
-    field-requires
+    mul-number-2
+    add-number
+    number-requires-2
     cast-target
     cast-put-line
     cast-put-line-2

@@ -1,0 +1,3 @@
+pub mod Sets
+pub mod FollowersLaws
+pub mod ReachesLaws

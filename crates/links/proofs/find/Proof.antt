@@ -1,0 +1,29 @@
+-- `links::find` meets its contract: followers, then reaches; nothing is said of more than 512 statements. Assumes nothing.
+use native.Mathlib.Omega.{arith}
+use borrow.Author.Needs.{needs}
+use Rattle.links.proofs.find.Statement.{statement}
+use Rattle.links.proofs.find.Tie as tie
+
+returns : tie.Need-returns
+returns c = λ few. absurd (omega arith)
+
+followers-requires : tie.Need-followers-requires
+followers-requires c κs = search needs
+
+reaches-requires : tie.Need-reaches-requires
+reaches-requires c κs = search needs
+
+same-length : tie.Need-same-length
+same-length c = search needs
+
+same-length-2 : tie.Need-same-length-2
+same-length-2 c = search needs
+
+same-length-3 : tie.Need-same-length-3
+same-length-3 c = search needs
+
+returns-2 : tie.Need-returns-2
+returns-2 c = search needs
+
+pub find-spec : {M : Type 1} → statement M
+find-spec = tie.close (tie.spec returns followers-requires reaches-requires same-length same-length-2 same-length-3 returns-2)
