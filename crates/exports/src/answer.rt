@@ -1,4 +1,4 @@
-// The three numbers of an answer: the refusal's number or 0, its place or 0, a count. Callers show that place and count have 32 bits, by the theorem `fits`
+// The three numbers of an answer: the refusal's number or 0, its place or 0, a count. Callers show that place and count have 32 bits, by the theorem `places-fit`
 // of the crate theorems; so the casts lose nothing.
 ghost use mathlib.Core.Path.{_≡_};
 ghost use Prim.Native.Nat.{_<_, _^_};

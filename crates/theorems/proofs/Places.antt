@@ -37,7 +37,7 @@ use Rattle.images.proofs.Processes.{process-good}
 use Rattle.behaviour.specs.Direct.{unlessRefused, directOf, directFresh}
 use Rattle.theorems.specs.Compile.{written, not-compiled, compileOf}
 use Rattle.theorems.specs.Promises as P
-use Rattle.theorems.specs.Places.{Fits}
+use Rattle.theorems.specs.Places.{PlacesFit}
 use Rattle.theorems.proofs.TokensOf.{tokens-of}
 use Rattle.theorems.proofs.LexedPlaces.{By, lexed-places, stopped-place, token-place}
 use Rattle.theorems.proofs.OffencePlaces.{offence-place}
@@ -186,8 +186,8 @@ pub direct-fresh-place : (text : List ℕ) (q k : ℕ) → directFresh text ≡ 
 direct-fresh-place text q k e = refuses-place text q k (D1.direct-fresh-refused text q k .0 e)
 
 -- THE THEOREM
-pub fits : (text buffer image : List ℕ) → Bytes image → (s : State) (c : Call) → Fits text buffer image s c
-fits text buffer image h s c =
+pub places-fit : (text buffer image : List ℕ) → Bytes image → (s : State) (c : Call) → PlacesFit text buffer image s c
+places-fit text buffer image h s c =
     record {
       text-offset = λ q k e. refuses-offset text q k (J.refuses text q k .0 e);
       text-place = λ q k e. refuses-place text q k (J.refuses text q k .0 e);

@@ -14,7 +14,7 @@ use Rattle.format.specs.Cycle.{cycleOf}
 use Rattle.behaviour.specs.Direct.{directOf, directFresh}
 use Rattle.theorems.specs.Compile.{written, not-compiled, compileOf}
 
-pub record Fits (text buffer image : List ℕ) (s : State) (c : Call) : Type 0 where
+pub record PlacesFit (text buffer image : List ℕ) (s : State) (c : Call) : Type 0 where
   -- "Places in 1 to 9 are byte offsets": of the text, or its length
   pub text-offset : (q k : ℕ) → verdict text ≡ refused q k → k ≤ length text
   -- "At most 16,384 bytes"; 1, "text too long", is at 0
