@@ -1,6 +1,6 @@
 -- Decimals, one byte more; the integers of their numbers; the parts of a line, one part more. Assumes nothing.
 use mathlib.Core.Path.{_≡_, refl, sym, _∙_, ap}
-use mathlib.Core.Bool.{true, false, cond}
+use mathlib.Core.Bool.{Bool, true, false, cond}
 use mathlib.Core.Option.{Option, none, some}
 use mathlib.Core.List.{List, [], _∷_}
 use Prim.Native.Nat.{ℕ, zero, suc, _+_, _*_, _-_, min, _≤_, _<_}
@@ -10,7 +10,7 @@ use lib.IntN.{ℤ, pos, negℤ}
 use lib.Dec.{leb}
 use lib.ListN.{length, getD, drop, drop-of-length-le}
 use lib.Seq.{drop-cons}
-use borrow.Author.Tests.{lt-ltb, le-ltb, le-leb, lt-leb, eq-eqb, ne-eqb}
+use borrow.Author.Tests.{lt-ltb, le-ltb, le-leb, lt-leb, leb-true, leb-false, eq-eqb, ne-eqb}
 use Rattle.semantics.specs.Twos.{signed32}
 use Rattle.language.specs.Bytes.{between}
 use Rattle.tracing.specs.Rows.{digits, magnitude, upward, downward, decimalOf}
@@ -25,6 +25,21 @@ other-not c b h = rw (ne-eqb b c h)
 pub other-is : (c b : ℕ) → b ≡ c → other c b ≡ false
 unfolding other
 other-is c b h = rw (eq-eqb b c h)
+
+-- numbers that are cut to the same are so with one digit more
+cut-more : (a b d : ℕ) → min a 2147483649 ≡ min b 2147483649 → min (a * 10 + d) 2147483649 ≡ min (b * 10 + d) 2147483649
+cut-more a b d e = omega arith
+
+-- whether the number so far is cut or not, the number of all digits is cut to the same
+cut-same : (l : List ℕ) (a b : ℕ) → min a 2147483649 ≡ min b 2147483649 → orAbove (digits a l) ≡ orAbove (digits b l)
+unfolding digits
+cut-same [] a b e = e
+cut-same (c ∷ l) a b e = go (between 48 57 c) (cut-same l (a * 10 + (c - 48)) (b * 10 + (c - 48)) (cut-more a b (c - 48) e))
+  where
+    go : (q : Bool) → orAbove (digits (a * 10 + (c - 48)) l) ≡ orAbove (digits (b * 10 + (c - 48)) l)
+        → orAbove (cond q (digits (a * 10 + (c - 48)) l) none) ≡ orAbove (cond q (digits (b * 10 + (c - 48)) l) none)
+    go true h = h
+    go false h = refl
 
 -- the number of the digits from an index on
 module _ (w : List ℕ) (i v : ℕ) where
@@ -43,11 +58,13 @@ module _ (w : List ℕ) (i v : ℕ) where
   pub number-again : (r : ℕ) → i < length w → between 48 57 (getD w i 0) ≡ true → r ≡ min (v * 10 + (getD w i 0 - 48)) 2147483649
       → orAbove (digits r (drop (i + 1) w)) ≡ orAbove (digits v (drop i w))
   unfolding digits
-  number-again r h e q = rw (drop-cons w i 0 h, add-one i, e, q)
+  number-again r h e q =
+      let z : min r 2147483649 ≡ min (v * 10 + (getD w i 0 - 48)) 2147483649 = omega arith in
+      rw (drop-cons w i 0 h, add-one i, e) (cut-same (drop (suc i) w) r (v * 10 + (getD w i 0 - 48)) z)
 
-  pub number-end : length w ≤ i → v ≡ orAbove (digits v (drop i w))
+  pub number-end : length w ≤ i → v ≤ 2147483649 → v ≡ orAbove (digits v (drop i w))
   unfolding digits
-  number-end h = rw (drop-of-length-le w h)
+  number-end h l = rw (drop-of-length-le w h) (omega arith)
 
 -- the integers of a number
 pub up-none : (m : ℕ) → 2147483647 < m → Unreadable ≡ readAs (cond (leb m 2147483647) (some (pos m)) none)
@@ -71,11 +88,31 @@ down-value (suc k) z h n e =
 -- a number outside integer is no integer, as where there is no number
 pub up-all : (x : Option ℕ) → readAs (cond (leb (orAbove x) 2147483647) (some (pos (orAbove x))) none) ≡ readAs (upward x)
 up-all none = refl
-up-all (some m) = refl
+up-all (some m) = go (leb m 2147483647) refl
+  where
+    go : (q : Bool) → leb m 2147483647 ≡ q
+        → readAs (cond (leb (min m 2147483649) 2147483647) (some (pos (min m 2147483649))) none) ≡ readAs (cond q (some (pos m)) none)
+    go true e =
+        let l = leb-true m 2147483647 e in
+        let z : min m 2147483649 ≡ m = omega arith in
+        rw (z, e)
+    go false e =
+        let l = leb-false m 2147483647 e in
+        rw (lt-leb (min m 2147483649) 2147483647 (omega arith))
 
 pub down-all : (x : Option ℕ) → readAs (cond (leb (orAbove x) 2147483648) (some (negℤ (pos (orAbove x)))) none) ≡ readAs (downward x)
 down-all none = refl
-down-all (some m) = refl
+down-all (some m) = go (leb m 2147483648) refl
+  where
+    go : (q : Bool) → leb m 2147483648 ≡ q
+        → readAs (cond (leb (min m 2147483649) 2147483648) (some (negℤ (pos (min m 2147483649)))) none) ≡ readAs (cond q (some (negℤ (pos m))) none)
+    go true e =
+        let l = leb-true m 2147483648 e in
+        let z : min m 2147483649 ≡ m = omega arith in
+        rw (z, e)
+    go false e =
+        let l = leb-false m 2147483648 e in
+        rw (lt-leb (min m 2147483649) 2147483648 (omega arith))
 
 -- the integer of a decimal
 pub decimal-empty : (w : List ℕ) → length w ≡ 0 → Unreadable ≡ readAs (decimalOf w)

@@ -3,7 +3,7 @@ use mathlib.Core.Path.{_≡_}
 use mathlib.Core.Bool.{Bool, not, cond}
 use mathlib.Core.Option.{Option, none, some}
 use mathlib.Core.List.{List, [], _++_}
-use Prim.Native.Nat.{ℕ, _+_, _≤_}
+use Prim.Native.Nat.{ℕ, _+_, _≤_, min}
 use lib.ListN.{length, drop}
 use lib.Seq.{sets}
 use lib.IntN.{ℤ}
@@ -25,10 +25,10 @@ other c b = not (eqb b c)
 abbrev pub partEnd : ℕ → List ℕ → ℕ → ℕ
 partEnd c s at = runEnd (other c) s at
 
--- a number, or one outside integer where there is none
+-- a number cut at 2147483649, which is outside integer with either sign; the same where there is none
 abbrev pub orAbove : Option ℕ → ℕ
 orAbove none = 2147483649
-orAbove (some m) = m
+orAbove (some m) = min m 2147483649
 
 abbrev pub readAs : Option ℤ → Decimal
 readAs none = D.Unreadable

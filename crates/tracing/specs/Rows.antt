@@ -2,7 +2,7 @@
 use mathlib.Core.Bool.{cond}
 use mathlib.Core.Option.{Option, none, some}
 use mathlib.Core.List.{List, [], _∷_}
-use Prim.Native.Nat.{ℕ, _+_, _*_, _-_, min}
+use Prim.Native.Nat.{ℕ, _+_, _*_, _-_}
 use lib.IntN.{ℤ, pos, negℤ}
 use lib.Dec.{eqb, leb}
 use Rattle.language.specs.Bytes.{between}
@@ -25,10 +25,10 @@ rowsIn s = split 10 [] s
 abbrev pub parted : List ℕ → List (List ℕ)
 parted s = split 32 ([] ∷ []) s
 
--- the number of digits, v standing before them, or 2147483649 where it is above that; none where a byte is no digit
+-- the number of digits, v standing before them, however large; none where a byte is no digit
 unfoldable pub digits : ℕ → List ℕ → Option ℕ
 digits v [] = some v
-digits v (b ∷ l) = cond (between 48 57 b) (digits (min (v * 10 + (b - 48)) 2147483649) l) none
+digits v (b ∷ l) = cond (between 48 57 b) (digits (v * 10 + (b - 48)) l) none
 
 -- "digits": at least one
 unfoldable pub magnitude : List ℕ → Option ℕ

@@ -47,7 +47,7 @@ loop-again : tie.Need-loop-again Inv-loop μ-loop
 loop-again c = (search needs, number-again _ _ _ _ (c .before .before .before .before .before .loop-test .taken) (sym (c .before .before .before .is-digit .ensures) ∙ not-false _ (c .before .before .if2 .left)) (c .next-number .ensures) ∙ c .before .before .before .before .before .before .loop .inv .1)
 
 returns-3 : tie.Need-returns-3 Inv-loop μ-loop
-returns-3 c = number-end (c .before .before .before .before .args .w .now) _ _ (c .loop-test .left) ∙ c .before .loop .inv .1
+returns-3 c = number-end (c .before .before .before .before .args .w .now) _ _ (c .loop-test .left) (c .before .loop .inv .0) ∙ c .before .loop .inv .1
 
 pub number-spec : {M : Type 1} → statement M
 number-spec =
