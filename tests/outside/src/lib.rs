@@ -19,6 +19,7 @@ pub mod generate;
 pub mod lexer;
 pub mod limits;
 pub mod loader;
+pub mod loops;
 pub mod names;
 pub mod parser;
 #[cfg(proved)]

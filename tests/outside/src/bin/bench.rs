@@ -1,24 +1,26 @@
 //! Times of the proved crates as ratios against the Rust implementation of this project: same
 //! inputs, same machine, one run, the two taking turns. `cargo run --release --bin bench`.
 
-#[cfg(not(proved))]
+#[cfg(not(all(proved, benched)))]
 fn main() {
-    eprintln!("rt staticlib exports comes first");
+    eprintln!("rt staticlib exports and rt staticlib bench come first");
     std::process::exit(1);
 }
 
-#[cfg(proved)]
+#[cfg(all(proved, benched))]
 fn main() {
     proved::main();
 }
 
-#[cfg(proved)]
+#[cfg(all(proved, benched))]
 mod proved {
     use reference::board::{Board, REFERENCE};
     use reference::compare::compiled;
+    use reference::generate::random::{Random, SEED};
+    use reference::loops::{self, Loop};
     use reference::proved::PLAIN;
     use std::hint::black_box;
-    use std::time::{Duration, Instant};
+    use std::time::Instant;
 
     /// How often the two take turns; the middle of the ratios is printed.
     const TURNS: usize = 21;
@@ -60,57 +62,112 @@ mod proved {
         text.into_bytes()
     }
 
-    fn time(times: usize, mut call: impl FnMut()) -> Duration {
+    /// Rows of one small number: sums that pass 10 after some rows, for tally.
+    fn small_rows(count: usize, random: &mut Random) -> Vec<i32> {
+        (0..count).map(|_| random.between(0, 15) as i32 - 3).collect()
+    }
+
+    /// Rows for GCD: multiples of two neighbours of the Fibonacci numbers, on which its differences
+    /// come to 0 after some waits; now and then no start.
+    fn gcd_rows(count: usize, random: &mut Random) -> Vec<i32> {
+        const NEIGHBOURS: [(i32, i32); 6] = [(2, 1), (3, 2), (5, 3), (8, 5), (13, 8), (21, 13)];
+        let row = |_| {
+            let (a, b) = *random.pick(&NEIGHBOURS);
+            let factor = random.between(1, 1000) as i32;
+            let start = i32::from(random.chance(60));
+            match random.chance(50) {
+                true => [a * factor, b * factor, start],
+                false => [b * factor, a * factor, start],
+            }
+        };
+        (0..count).flat_map(row).collect()
+    }
+
+    /// The seconds that a call takes, the middle of some.
+    fn middle(mut times: Vec<f64>) -> f64 {
+        times.sort_by(f64::total_cmp);
+        times[times.len() / 2]
+    }
+
+    fn seconds(times: usize, mut call: impl FnMut()) -> f64 {
         let start = Instant::now();
         for _ in 0..times {
             call();
         }
-        start.elapsed()
+        start.elapsed().as_secs_f64()
     }
 
-    /// Both take turns; the middle ratio, and the middle time of one call of each.
-    fn compare(label: &str, times: usize, mut call: impl FnMut(&Board)) {
-        let mut ratios = Vec::new();
-        let mut ours = Vec::new();
-        let mut theirs = Vec::new();
+    /// Both take turns, each calling so many times; the middle ratio, and the middle time of one of
+    /// the `units` of work of each.
+    fn compare(label: &str, times: usize, units: usize, mut ours: impl FnMut(), mut theirs: impl FnMut()) {
+        let (mut ratios, mut proved, mut other) = (Vec::new(), Vec::new(), Vec::new());
         for _ in 0..TURNS {
-            let proved = time(times, || call(&PLAIN)).as_secs_f64();
-            let other = time(times, || call(&REFERENCE)).as_secs_f64();
-            ratios.push(proved / other);
-            ours.push(proved / times as f64 * 1e6);
-            theirs.push(other / times as f64 * 1e6);
+            let first = seconds(times, &mut ours);
+            let second = seconds(times, &mut theirs);
+            ratios.push(first / second);
+            proved.push(first / (times * units) as f64 * 1e6);
+            other.push(second / (times * units) as f64 * 1e6);
         }
-        for list in [&mut ratios, &mut ours, &mut theirs] {
-            list.sort_by(f64::total_cmp);
-        }
-        let [ratio, ours, theirs] = [ratios[TURNS / 2], ours[TURNS / 2], theirs[TURNS / 2]];
-        println!("{label:<44} {ratio:>6.2}   {ours:>10.2} us {theirs:>10.2} us");
+        let (ratio, proved, other) = (middle(ratios), middle(proved), middle(other));
+        println!("{label:<44} {ratio:>6.2}   {proved:>10.3} us {other:>10.3} us");
     }
 
     fn compile(label: &str, text: &[u8], times: usize) {
-        let mut image = vec![0; 65_535];
-        compare(label, times, |board| {
-            black_box((board.compile)(black_box(text), &mut image));
-        });
+        let call = |board: &Board, image: &mut [u8]| {
+            black_box((board.compile)(black_box(text), image));
+        };
+        let (mut image, mut other) = (vec![0; 65_535], vec![0; 65_535]);
+        let ours = || call(&PLAIN, &mut image);
+        compare(label, times, 1, ours, || call(&REFERENCE, &mut other));
     }
 
-    fn rows(label: &str, text: &[u8], inputs: &[i32], outputs: usize, times: usize) {
+    fn open(label: &str, image: &[u8], times: usize) {
+        let call = |board: &Board| {
+            black_box((board.open)(black_box(image)));
+        };
+        compare(label, times, 1, || call(&PLAIN), || call(&REFERENCE));
+    }
+
+    /// All rows by one loop of each; both leave the same before anything is timed.
+    fn rows(label: &str, times: usize, [ours, theirs]: [Loop; 2], bytes: &[u8], of: &Rows) {
+        let call = |run: Loop| {
+            let mut row = vec![0; of.outputs];
+            let lines = black_box(run(black_box(bytes), &of.values, of.width, &mut row));
+            (lines, row)
+        };
+        let before = call(ours);
+        assert_eq!(before, call(theirs), "{label}: the two do not agree");
+        assert!(before.0 >= of.count(), "{label}: rows are refused");
+        let turn = |run: Loop| {
+            black_box(call(run));
+        };
+        compare(label, times, of.count(), || turn(ours), || turn(theirs));
+    }
+
+    /// The rows of a text.
+    struct Rows {
+        values: Vec<i32>,
+        width: usize,
+        outputs: usize,
+    }
+
+    impl Rows {
+        fn count(&self) -> usize {
+            self.values.len() / self.width
+        }
+    }
+
+    /// The cycle on a checked image, the cycle with the check, the direct run.
+    fn cycles(label: &str, text: &[u8], of: &Rows, times: usize) {
         let image = compiled(&REFERENCE, text);
-        let mut row = vec![0; outputs];
-        let mut state = [0; 49];
-        let mut start = [0; 49];
-        (REFERENCE.fresh)(&image, &mut start);
-        compare(&format!("cycle with the check, {label}"), times, |board| {
-            state = start;
-            black_box((board.cycle)(black_box(&image), &mut state, inputs, &mut row));
-        });
-        compare(&format!("direct run, {label}"), times / 20 + 1, |board| {
-            state = start;
-            black_box((board.direct)(black_box(text), &mut state, inputs, &mut row));
-        });
-        compare(&format!("open, {label}"), times, |board| {
-            black_box((board.open)(black_box(&image)));
-        });
+        let (ours, theirs) = (loops::PROVED, loops::REFERENCE);
+        let both = [ours.opened, theirs.opened];
+        rows(&format!("cycle on a checked image, {label}"), times, both, &image, of);
+        let both = [ours.checked, theirs.checked];
+        rows(&format!("cycle with the check, {label}"), times, both, &image, of);
+        let both = [ours.direct, theirs.direct];
+        rows(&format!("direct run, {label}"), times / 20 + 1, both, text, of);
+        open(&format!("open, {label}"), &image, 20 * times);
     }
 
     /// How the time of a compile grows with the text.
@@ -119,35 +176,34 @@ mod proved {
         for bytes in [4096, 8192, 16384] {
             let text = long_text(bytes);
             let mut image = vec![0; 65_535];
-            let mut times: Vec<f64> = (0..TURNS)
-                .map(|_| {
-                    let call = || {
-                        black_box((PLAIN.compile)(black_box(&text), &mut image));
-                    };
-                    time(20, call).as_secs_f64() / 20.0 * 1e6
-                })
-                .collect();
-            times.sort_by(f64::total_cmp);
-            let middle = times[TURNS / 2];
+            let mut call = || {
+                black_box((PLAIN.compile)(black_box(&text), &mut image));
+            };
+            let now = middle((0..TURNS).map(|_| seconds(20, &mut call)).collect());
             if last > 0.0 {
-                println!("growth to {bytes} bytes: {:.2}", middle / last);
+                println!("growth to {bytes} bytes: {:.2}", now / last);
             }
-            last = middle;
+            last = now;
         }
     }
 
     pub fn main() {
         let tally = include_bytes!("../../../../examples/tally/process.vhd");
         let gcd = include_bytes!("../../../../examples/gcd/process.vhd");
-        let long = long_text(16_384);
         let many = many_statements();
         println!("{:<44} {:>6}   {:>13} {:>13}", "", "ratio", "proved", "Rust");
         compile("compile tally", tally, 400);
-        compile("compile 16,384 bytes", &long, 20);
+        compile("compile 16,384 bytes", &long_text(16_384), 20);
         compile("compile 512 statements", &many, 40);
         growth();
-        rows("tally", tally, &[7], 1, 2000);
-        rows("gcd", gcd, &[6, 4, 1], 2, 2000);
-        rows("512 lines", &many, &[1], 1, 200);
+        let mut random = Random::new(SEED);
+        let of = |values, width, outputs| Rows {
+            values,
+            width,
+            outputs,
+        };
+        cycles("tally", tally, &of(small_rows(400, &mut random), 1, 1), 40);
+        cycles("gcd", gcd, &of(gcd_rows(400, &mut random), 3, 2), 20);
+        cycles("512 lines", &many, &of(small_rows(40, &mut random), 1, 1), 20);
     }
 }
