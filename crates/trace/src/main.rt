@@ -4,7 +4,7 @@ ghost use Prim.Native.Nat.{_≤_};
 ghost use lib.ListN.{length};
 use libc::STDOUT_FILENO;
 use tracing::Begun;
-use tracing::Line;
+use tracing::Filled;
 use tracing::Progress;
 
 // The bytes of the file that a path names, at most as many as there is room for; none where it cannot be opened.
@@ -34,24 +34,24 @@ fn print_header(text: &[u8]) {
     io::write_all(STDOUT_FILENO, first_bytes(&bytes, line.size));
 }
 
-// Prints the line of the next row, if there is one.
-fn print_row(image: &[u8], rows: &[u8], p: Progress) -> Line {
-    let mut line = [0u8; 512];
-    let l = tracing::next(image, rows, p, &mut line);
-    io::write_all(STDOUT_FILENO, first_bytes(&line, l.size));
-    l
+// Prints the lines of the next rows, as many as 32,768 bytes have room for.
+fn print_fill(image: &[u8], rows: &[u8], p: Progress) -> Filled {
+    let mut lines = [0u8; 32768];
+    let filled = tracing::fill(image, rows, p, &mut lines);
+    io::write_all(STDOUT_FILENO, first_bytes(&lines, filled.size));
+    filled
 }
 
-// Prints the lines of the rows: there are at most 65,536.
+// Prints the lines of the rows: there are at most 65,536, and each fill but the last puts at least one.
 fn print_rows(image: &[u8], rows: &[u8]) {
     let mut p = tracing::first(image);
     let mut count: usize = 0;
     while count < 65537 {
-        let l = print_row(image, rows, p);
-        if l.size == 0 {
+        let filled = print_fill(image, rows, p);
+        if filled.size == 0 {
             return;
         }
-        p = l.progress;
+        p = filled.progress;
         count += 1;
     }
 }

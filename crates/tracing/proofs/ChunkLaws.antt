@@ -1,7 +1,7 @@
 -- The chunks of a trace: where it begins, the line of the next row. Assumes nothing.
 use mathlib.Core.Path.{_≡_, refl, sym, _∙_, ap, subst}
 use mathlib.Core.Bool.{Bool, true, false, _&&_}
-use mathlib.Core.List.{List, []}
+use mathlib.Core.List.{List}
 use Prim.Native.Nat.{ℕ, _+_, _-_, _≤_, _<_, min}
 use native.Mathlib.Omega.{arith}
 use lib.Dec.{leb, ltb}
@@ -53,44 +53,34 @@ pub first-is : (b : List ℕ) (s : State) → s ≡ startOf (freshOf b) → reco
 first-is b s e = ap (λ (t : State). record { state = t; number = 0; at = 0 }) e
 
 -- a part of the rows is no longer than they are
-pub line-fits : (rows w : List ℕ) (n a k : ℕ) (g : Bool) → g ≡ goesOn (length rows) n a → g ≡ true → w ≡ part rows a k → length w ≤ 65536
-line-fits rows w n a k g e h d =
-    let f = goes-facts (length rows) n a (sym e ∙ h) in
+pub line-fits : (rows w : List ℕ) (n a k : ℕ) → goesOn (length rows) n a ≡ true → w ≡ part rows a k → length w ≤ 65536
+line-fits rows w n a k g d =
+    let f = goes-facts (length rows) n a g in
     let x : length w ≡ length (part rows a k) = ap length d in
     let y = length-take k (drop a rows) in
     let z = length-drop a rows in
     omega (arith, f .0)
 
-pub number-fits : (l n a : ℕ) (g : Bool) → g ≡ goesOn l n a → g ≡ true → n < 65536
-number-fits l n a g e h = goes-facts l n a (sym e ∙ h) .2
-
 stored : (o l u : List ℕ) (r : ℕ) → Puts o 0 l u r → (r ≡ min (length l) (length o)) × (u ≡ sets o 0 l)
 stored o l u r p = let q = p .puts (omega arith) in (omega (arith, q .1), q .0)
 
--- the next row
-module _ (b rows : List ℕ) (p : Progress) (o : List ℕ) (g : Bool) (e : g ≡ goesOn (length rows) (p .number) (p .at)) where
-  pub next-none : g ≡ false → (p ≡ nextOf b rows p .1) × (0 ≡ min (length (nextOf b rows p .0)) (length o)) × (o ≡ sets o 0 (nextOf b rows p .0))
+-- the next row, where there is one
+module _ (b rows : List ℕ) (p : Progress) (g : goesOn (length rows) (p .number) (p .at) ≡ true) where
+  pub next-there : nextOf b rows p ≡ onward true b rows p
   unfolding nextOf
-  next-none h =
-      let z : nextOf b rows p ≡ ([], p) = ap (λ (q : Bool). onward q b rows p) (sym e ∙ h) in
-      (sym (ap (λ (x : List ℕ × Progress). x .1) z), rw z (omega arith), rw z refl)
+  next-there = ap (λ (q : Bool). onward q b rows p) g
 
-  pub next-some : (end : ℕ) (w : List ℕ) (t : State) (u : List ℕ) (r a : ℕ) → g ≡ true → end ≡ partEnd 10 rows (p .at) → w ≡ part rows (p .at) (end - p .at)
+  pub next-some : (o : List ℕ) (end : ℕ) (w : List ℕ) (t : State) (u : List ℕ) (r a : ℕ) → end ≡ partEnd 10 rows (p .at) → w ≡ part rows (p .at) (end - p .at)
       → Shows b (p .state) (p .number) (short (decimals w)) o t u r → a ≡ min (end + 1) (length rows)
-      → (record { state = t; number = p .number + 1; at = a } ≡ nextOf b rows p .1) × (r ≡ min (length (nextOf b rows p .0)) (length o))
-      × (u ≡ sets o 0 (nextOf b rows p .0))
-  unfolding nextOf
-  next-some end w t u r a h d f s k =
-      let z : nextOf b rows p ≡ onward true b rows p = ap (λ (q : Bool). onward q b rows p) (sym e ∙ h) in
+      → (record { state = t; number = p .number + 1; at = a } ≡ nextOf b rows p .1) × Puts o 0 (nextOf b rows p .0) u r
+  next-some o end w t u r a d f s k =
       let v : w ≡ part rows (p .at) (partEnd 10 rows (p .at) - p .at) = f ∙ ap (λ (m : ℕ). part rows (p .at) (m - p .at)) d in
       let y : Shows b (p .state) (p .number) (rowAt rows (p .at)) o t u r = subst (λ (l : List ℕ). Shows b (p .state) (p .number) (short (decimals l)) o t u r) v s in
-      let q = stored o (rowShown b (p .state) (p .number) (rowAt rows (p .at)) .0) u r (y .line) in
       let c : a ≡ min (partEnd 10 rows (p .at) + 1) (length rows) = k ∙ ap (λ (m : ℕ). min (m + 1) (length rows)) d in
       let n : record { state = t; number = p .number + 1; at = a } ≡ passed rows p (rowShown b (p .state) (p .number) (rowAt rows (p .at)) .1) =
       ap (λ (m : ℕ). record { state = t; number = p .number + 1; at = m }) c ∙ ap (λ (m : State). passed rows p m) (y .state) in (
-        n ∙ sym (ap (λ (x : List ℕ × Progress). x .1) z),
-        q .0 ∙ sym (ap (λ (x : List ℕ × Progress). min (length (x .0)) (length o)) z),
-        q .1 ∙ sym (ap (λ (x : List ℕ × Progress). sets o 0 (x .0)) z),
+        n ∙ sym (ap (λ (x : List ℕ × Progress). x .1) next-there),
+        subst (λ (x : List ℕ × Progress). Puts o 0 (x .0) u r) (sym next-there) (y .line),
       )
 
 -- the beginning

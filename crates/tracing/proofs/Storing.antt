@@ -1,9 +1,9 @@
 -- Stores into a list from a place on: one run behind another, runs that begin behind the end. Assumes nothing.
-use mathlib.Core.Path.{_≡_, refl, _∙_, ap}
+use mathlib.Core.Path.{_≡_, refl, sym, _∙_, ap}
 use mathlib.Core.List.{List, [], _∷_, _++_}
-use Prim.Native.Nat.{ℕ, suc, _+_, _≤_}
+use Prim.Native.Nat.{ℕ, zero, suc, _+_, _≤_}
 use native.Mathlib.Omega.{arith}
-use lib.ListN.{length, set, take}
+use lib.ListN.{length, set, take, drop}
 use lib.Seq.{sets, set-out, sets-eq, take-append-seam}
 
 module _ {A : Type 0} where
@@ -24,3 +24,14 @@ module _ {A : Type 0} where
   -- what was stored from the beginning on
   pub take-sets : (l : List A) (vs : List A) → length vs ≤ length l → take (length vs) (sets l 0 vs) ≡ vs
   take-sets l vs h = ap (take (length vs)) (sets-eq vs l 0 (omega arith)) ∙ take-append-seam vs _
+
+  -- a run that begins behind the first element leaves it
+  sets-cons : (h : A) (t : List A) (j : ℕ) (vs : List A) → sets (h ∷ t) (suc j) vs ≡ h ∷ sets t j vs
+  sets-cons h t j [] = refl
+  sets-cons h t j (v ∷ vs) = sets-cons h (set t j v) (suc j) vs
+
+  -- a run from the index j on is a run at the beginning of what stands there
+  pub sets-part : (l : List A) (j : ℕ) (vs : List A) → sets l j vs ≡ take j l ++ sets (drop j l) 0 vs
+  sets-part l zero vs = refl
+  sets-part [] (suc j) vs = sets-out [] (suc j) vs (omega arith) ∙ sym (sets-out [] 0 vs (omega arith))
+  sets-part (h ∷ t) (suc j) vs = sets-cons h t j vs ∙ ap (λ (r : List A). h ∷ r) (sets-part t j vs)

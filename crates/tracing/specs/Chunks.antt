@@ -15,20 +15,29 @@ use Rattle.answers.specs.declared.Cycled.{Cycled}
 use Rattle.answers.specs.declared.Cycled.the-variants.{Performed, NotPerformed}
 use Rattle.answers.specs.declared.Compiled.{Compiled}
 use Rattle.answers.specs.declared.Compiled.the-variants.{Written, NotCompiled}
+use Rattle.answers.specs.declared.Sections.{Sections}
+use Rattle.answers.specs.declared.Opened.the-variants as answered
+use Rattle.format.specs.Opening.{Opened, opened, not-opened, openOf}
 use Rattle.format.specs.State.{freshOf}
 use Rattle.format.specs.Cycle.{cycleOf}
 use Rattle.semantics.specs.Calls.{Called}
 use Rattle.runtime.specs.Calls.{startOf}
 use Rattle.cycle.specs.Advances.{cycledOf}
+use Rattle.loader.specs.Open.{openedAs}
 use Rattle.lexer.specs.Places.{part}
 use Rattle.tracing.specs.Rows.{decimals, rowsIn}
 use Rattle.tracing.specs.Reading.{partEnd, short}
 use Rattle.tracing.specs.Printing.{performedLine, refusedLine, refusedText}
 use Rattle.tracing.specs.Trace.{rowValues}
 use Rattle.tracing.specs.declared.Progress.{Progress}
+use Rattle.tracing.specs.declared.Filled.{Filled}
 use Rattle.tracing.specs.declared.Begun.{Begun}
 use Rattle.tracing.specs.declared.Begun.the-variants.{Only, Image}
 use Rattle.tracing.specs.Stored.{Puts}
+
+-- the opener accepts the image b, and its sections stand at these places
+abbrev pub OpenedAt : List ℕ → Sections → Type 0
+OpenedAt b at = answered.Image at ≡ openedAs b (openOf b)
 
 -- the line of the row n for a cycle's answer, the place after it and its output row
 abbrev pub lineOf : ℕ → Cycled → ℕ → List ℤ → List ℕ
@@ -77,6 +86,35 @@ onward false b rows p = ([], p)
 unfoldable pub nextOf : List ℕ → List ℕ → Progress → List ℕ × Progress
 nextOf b rows p = onward (goesOn (length rows) (p .number) (p .at)) b rows p
 
+-- a line more is put: 512 bytes of room are left, which every line fits into, and there is a row
+unfoldable pub hasMore : ℕ → ℕ → Progress → Bool
+hasMore free length p = leb 512 free && goesOn length (p .number) (p .at)
+
+-- the bytes l, then those of the rest
+abbrev pub ahead : List ℕ → List ℕ × Progress → List ℕ × Progress
+ahead l r = (l ++ r .0, r .1)
+
+-- at most f lines, one behind another, while there is more to put, and where the trace stands behind them
+unfoldable pub fillBy : ℕ → List ℕ → List ℕ → Progress → ℕ → List ℕ × Progress
+fillBy zero b rows p free = ([], p)
+fillBy (suc f) b rows p free =
+    let r = nextOf b rows p in cond (hasMore free (length rows) p) (ahead (r .0) (fillBy f b rows (r .1) (free - length (r .0)))) ([], p)
+
+-- the lines of an image that opens: there are no more than the rows have bytes; a refused image has none
+abbrev pub fillOn : Opened → List ℕ → List ℕ → Progress → ℕ → List ℕ × Progress
+fillOn (opened t) b rows p free = fillBy (length rows) b rows p free
+fillOn (not-opened number place) b rows p free = ([], p)
+
+-- the lines that a buffer of so many bytes has room for, from where the trace stands at p on, and where it stands behind them
+unfoldable pub fillOf : List ℕ → List ℕ → Progress → ℕ → List ℕ × Progress
+fillOf b rows p free = fillOn (openOf b) b rows p free
+
+-- the answer r is the progress and the number of the bytes of x, and the bytes stand in the buffer, o before and u after, from its beginning on
+pub record Fills (x : List ℕ × Progress) (o : List ℕ) (r : Filled) (u : List ℕ) : Type 0 where
+  pub progress : r .progress ≡ x .1
+  pub size : r .size ≡ length (x .0)
+  pub buffer : u ≡ sets o 0 (x .0)
+
 -- "A refused text prints only `refused`, number, place"; "with above 65,536 bytes of rows it prints only `refused 14 0`"; else there is no only line
 abbrev pub onlyLine : Compiled → ℕ → Option (List ℕ)
 onlyLine (Written n) rows = cond (leb rows 65536) none (some (refusedText 14 0))
@@ -104,7 +142,12 @@ imageLines b s n (v ∷ vs) = let r = rowShown b s n v in r .0 ++ imageLines b (
 abbrev pub pending : List ℕ → List ℕ → Progress → List ℕ
 pending b rows p = imageLines b (p .state) (p .number) (shorts (rowValues (rowsIn (drop (p .at) rows))))
 
--- the lines of f calls of `next`, the first one where the trace stands at p, joined
-unfoldable pub chunks : ℕ → List ℕ → List ℕ → Progress → List ℕ
-chunks zero b rows p = []
-chunks (suc f) b rows p = let r = nextOf b rows p in r .0 ++ chunks f b rows (r .1)
+-- the bytes l, then the rest; where there are none, nothing
+abbrev pub unlessNone : List ℕ → List ℕ → List ℕ
+unlessNone [] rest = []
+unlessNone (b ∷ l) rest = b ∷ (l ++ rest)
+
+-- what is put by calls of `fill` with a buffer of so many bytes, the first one where the trace stands at p: until one puts no bytes, and at most f calls
+unfoldable pub fills : ℕ → List ℕ → List ℕ → Progress → ℕ → List ℕ
+fills zero b rows p free = []
+fills (suc f) b rows p free = let r = fillOf b rows p free in unlessNone (r .0) (fills f b rows (r .1) free)

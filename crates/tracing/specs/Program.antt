@@ -9,17 +9,17 @@ use Rattle.language.specs.Verdict.{verdict}
 use Rattle.theorems.specs.Compile.{compileOf}
 use Rattle.compiler.specs.Compiles.{compiledOf}
 use Rattle.labels.specs.Header.{headerFor}
-use Rattle.tracing.specs.Chunks.{onlyLine, firstOf, chunks}
+use Rattle.tracing.specs.Chunks.{onlyLine, firstOf, fills}
 
--- the only line, where there is one; else the header and the lines of 65,537 calls of `next`, which the program makes at most
-abbrev pub printedBy : Option (List ℕ) → List ℕ → List ℕ → List ℕ → List ℕ
-printedBy none header image rows = header ++ chunks 65537 image rows (firstOf image)
-printedBy (some l) header image rows = l
+-- the only line, where there is one; else the header, then what at most 65,537 calls of `fill` put into a buffer of so many bytes, until one puts no bytes
+abbrev pub printedBy : Option (List ℕ) → List ℕ → List ℕ → List ℕ → ℕ → List ℕ
+printedBy none header image rows free = header ++ fills 65537 image rows (firstOf image) free
+printedBy (some l) header image rows free = l
 
 -- the same after a compile that answered c and left the buffer b
-abbrev pub printedAfter : List ℕ → List ℕ → declared.Compiled → List ℕ → List ℕ
-printedAfter text rows c b = printedBy (onlyLine c (length rows)) (headerFor (verdict text)) (take (bytesOf c) b) rows
+abbrev pub printedAfter : List ℕ → List ℕ → declared.Compiled → List ℕ → ℕ → List ℕ
+printedAfter text rows c b free = printedBy (onlyLine c (length rows)) (headerFor (verdict text)) (take (bytesOf c) b) rows free
 
--- what is printed for a text and rows, where the image is compiled into the buffer b
-unfoldable pub printedOf : List ℕ → List ℕ → List ℕ → List ℕ
-printedOf text rows b = printedAfter text rows (compiledOf (compileOf text b .answer)) (compileOf text b .buffer)
+-- what is printed for a text and rows, where the image is compiled into the buffer b and lines are put into a buffer of so many bytes
+unfoldable pub printedOf : List ℕ → List ℕ → List ℕ → ℕ → List ℕ
+printedOf text rows b free = printedAfter text rows (compiledOf (compileOf text b .answer)) (compileOf text b .buffer) free

@@ -1,6 +1,8 @@
-// The trace in chunks: `start` compiles the text once, `first` is where the trace stands before the first row, and each call of `next` puts the line of
-// one row into a lent buffer. What is printed for a whole text is a refusal of `start` alone, or a header and then the lines.
+// The trace in chunks: `start` compiles the text once, `first` is where the trace stands before the first row, and each call of `fill` checks the image
+// once and puts the lines of as many rows into a lent buffer as it has room for. What is printed for a whole text is a refusal of `start` alone, or a
+// header and then the lines.
 ghost use mathlib.Core.Path.{_≡_};
+ghost use mathlib.Core.Bool.{true};
 ghost use Prim.Native.Nat.{_≤_, _+_, min};
 ghost use lib.ListN.{length, take};
 ghost use mathlib.Core.Option.{some};
@@ -8,8 +10,7 @@ ghost use Rattle.format.specs.Cycle.{cycleOf};
 ghost use Rattle.tracing.specs.Rows.{decimals};
 ghost use Rattle.tracing.specs.Reading.{short};
 ghost use Rattle.tracing.specs.Stored.{Puts};
-ghost use Rattle.tracing.specs.Chunks.{lineOf, shown, room, Shows, goesOn, firstOf, nextOf, begunOf};
-ghost use lib.Seq.{sets};
+ghost use Rattle.tracing.specs.Chunks.{OpenedAt, lineOf, shown, room, Shows, goesOn, firstOf, nextOf, hasMore, fillBy, fillOf, Fills, begunOf};
 ghost use Rattle.answers.specs.declared.Compiled.the-variants.{Written};
 ghost use Rattle.theorems.specs.Compile.{compileOf};
 ghost use Rattle.compiler.specs.Compiles.{compiledOf};
@@ -19,6 +20,8 @@ mod rows;
 
 use answers::Compiled;
 use answers::Cycled;
+use answers::Opened;
+use answers::Sections;
 use answers::State;
 use lexer::parts::part_of;
 use rows::Row;
@@ -36,8 +39,9 @@ pub struct Progress {
     pub at: usize,
 }
 
-// The line of a row: how many bytes of it stand in the buffer, and where the trace stands after it. No bytes: there is no row any more.
-pub struct Line {
+// Lines of rows: where the trace stands after them, and how many bytes of the buffer they fill. No bytes: there is no row any more, the buffer has no
+// room for a line, or the image is refused.
+pub struct Filled {
     pub progress: Progress,
     pub size: usize,
 }
@@ -59,11 +63,20 @@ fn show(answer: Cycled, place: u16, n: usize, row: &[i32], out: &mut [u8]) -> us
 }
 
 // The line of a row of these inputs; the lent output row is as long as the outputs are many.
-fn run_row(image: &[u8], s: State, n: usize, inputs: &[i32], row: &mut [i32], out: &mut [u8]) -> Ran
+fn run_row(
+    image: &[u8],
+    at: Sections,
+    s: State,
+    n: usize,
+    inputs: &[i32],
+    row: &mut [i32],
+    out: &mut [u8],
+) -> Ran
+    requires { ⌜ OpenedAt (now image) at ⌝ }
     ensures { λ r. ⌜ (r .state ≡ cycleOf (now (image .entry)) s (now (inputs .entry)) (now (row .entry)) .state)
         × Puts (now (out .entry)) 0 (shown n (cycleOf (now (image .entry)) s (now (inputs .entry)) (now (row .entry)))) (now (out .exit)) (r .size) ⌝ }
 {
-    let a = runtime::cycle(image, s, inputs, row);
+    let a = runtime::cycle_opened(image, at, s, inputs, row);
     let state = a.state;
     let answer = a.answer;
     let size = show(answer, state.place, n, row, out);
@@ -92,22 +105,23 @@ fn first_values<'a>(values: &'a [i32], n: usize) -> &'a [i32]
 }
 
 // The line of a row of these inputs, with an output row of its own.
-fn call_row(image: &[u8], s: State, n: usize, inputs: &[i32], out: &mut [u8]) -> Ran
+fn call_row(image: &[u8], at: Sections, s: State, n: usize, inputs: &[i32], out: &mut [u8]) -> Ran
+    requires { ⌜ OpenedAt (now image) at ⌝ }
     ensures { λ r. ⌜ Shows (now (image .entry)) s n (some (now (inputs .entry))) (now (out .entry)) (r .state) (now (out .exit)) (r .size) ⌝ }
 {
     let mut row = [0i32; 16];
     let m = outputs_of(image);
-    run_row(image, s, n, inputs, &mut row[0..m], out)
+    run_row(image, at, s, n, inputs, &mut row[0..m], out)
 }
 
 // The line of the row that these bytes are.
-fn row_line(image: &[u8], s: State, n: usize, line: &[u8], out: &mut [u8]) -> Ran
-    requires { ⌜ length (now line) ≤ 65536 ⌝ }
+fn row_line(image: &[u8], at: Sections, s: State, n: usize, line: &[u8], out: &mut [u8]) -> Ran
+    requires { ⌜ OpenedAt (now image) at × (length (now line) ≤ 65536) ⌝ }
     ensures { λ r. ⌜ Shows (now (image .entry)) s n (short (decimals (now (line .entry)))) (now (out .entry)) (r .state) (now (out .exit)) (r .size) ⌝ }
 {
     let mut values = [0i32; 16];
     match rows::read_row(line, &mut values) {
-        Row::Values(k) => call_row(image, s, n, first_values(&values, k), out),
+        Row::Values(k) => call_row(image, at, s, n, first_values(&values, k), out),
         Row::Unreadable => {
             let size = printing::refused_line(out, n, 14);
             Ran {
@@ -151,32 +165,97 @@ pub fn first(image: &[u8]) -> Progress
     }
 }
 
-// The line of the next row, or no bytes where there is none.
-pub fn next(image: &[u8], rows: &[u8], p: Progress, out: &mut [u8]) -> Line
+// The line of the next row, which is there.
+fn next(image: &[u8], at: Sections, rows: &[u8], p: Progress, out: &mut [u8]) -> Filled
+    requires { ⌜ OpenedAt (now image) at × (goesOn (length (now rows)) (p .number) (p .at) ≡ true) ⌝ }
     ensures { λ r. ⌜ (r .progress ≡ nextOf (now (image .entry)) (now (rows .entry)) p .1)
-        × (r .size ≡ min (length (nextOf (now (image .entry)) (now (rows .entry)) p .0)) (length (now (out .entry))))
-        × (now (out .exit) ≡ sets (now (out .entry)) 0 (nextOf (now (image .entry)) (now (rows .entry)) p .0)) ⌝ }
+        × Puts (now (out .entry)) 0 (nextOf (now (image .entry)) (now (rows .entry)) p .0) (now (out .exit)) (r .size) ⌝ }
 {
     let state = p.state;
     let number = p.number;
-    let at = p.at;
-    if !goes_on(rows.len(), number, at) {
-        return Line {
-            progress: p,
-            size: 0,
-        };
-    }
-    let end = rows::part_end(rows, at, 10);
-    let ran = row_line(image, state, number, part_of(rows, at, end - at), out);
+    let from = p.at;
+    let end = rows::part_end(rows, from, 10);
+    let ran = row_line(
+        image,
+        at,
+        state,
+        number,
+        part_of(rows, from, end - from),
+        out,
+    );
     let after = ran.state;
     let progress = Progress {
         state: after,
         number: number + 1,
         at: behind(end, rows.len()),
     };
-    Line {
+    Filled {
         progress: progress,
         size: ran.size,
+    }
+}
+
+// The line of the next row, put behind the first `size` bytes of the buffer.
+fn append(
+    image: &[u8],
+    at: Sections,
+    rows: &[u8],
+    p: Progress,
+    size: usize,
+    out: &mut [u8],
+) -> Filled
+    requires { ⌜ OpenedAt (now image) at × (goesOn (length (now rows)) (p .number) (p .at) ≡ true) × (size ≤ length (now out)) ⌝ }
+    ensures { λ r. ⌜ (r .progress ≡ nextOf (now (image .entry)) (now (rows .entry)) p .1)
+        × Puts (now (out .entry)) size (nextOf (now (image .entry)) (now (rows .entry)) p .0) (now (out .exit)) (r .size) ⌝ }
+{
+    let line = next(image, at, rows, p, &mut out[size..]);
+    let progress = line.progress;
+    Filled {
+        progress: progress,
+        size: size + line.size,
+    }
+}
+
+// Whether a line more is put: there is room for any line, and there is a row.
+fn has_more(free: usize, length: usize, p: Progress) -> bool
+    ensures { λ r. ⌜ r ≡ hasMore free length p ⌝ }
+{
+    if free < 512 {
+        return false;
+    }
+    goes_on(length, p.number, p.at)
+}
+
+// The lines of rows, from where the trace stands at p on, as many as there is room for.
+fn fill_opened(image: &[u8], at: Sections, rows: &[u8], p: Progress, out: &mut [u8]) -> Filled
+    requires { ⌜ OpenedAt (now image) at ⌝ }
+    ensures { λ r. ⌜ Fills (fillBy (length (now (rows .entry))) (now (image .entry)) (now (rows .entry)) p (length (now (out .entry))))
+        (now (out .entry)) r (now (out .exit)) ⌝ }
+{
+    let mut q = p;
+    let mut size: usize = 0;
+    while has_more(out.len() - size, rows.len(), q) {
+        let line = append(image, at, rows, q, size, out);
+        q = line.progress;
+        size = line.size;
+    }
+    Filled {
+        progress: q,
+        size: size,
+    }
+}
+
+// The lines of rows on an image that is checked once: as many as the buffer has room for, from where the trace stands at p on. A refused image has none.
+pub fn fill(image: &[u8], rows: &[u8], p: Progress, out: &mut [u8]) -> Filled
+    ensures { λ r. ⌜ Fills (fillOf (now (image .entry)) (now (rows .entry)) p (length (now (out .entry)))) (now (out .entry)) r (now (out .exit)) ⌝ }
+{
+    let opened = loader::open(image);
+    match opened {
+        Opened::Image(at) => fill_opened(image, at, rows, p, out),
+        Opened::NotOpened(_) => Filled {
+            progress: p,
+            size: 0,
+        },
     }
 }
 

@@ -16,8 +16,8 @@ first-requires c κs = search needs
 loop-holds : tie.Need-loop-holds Inv-loop μ-loop
 loop-holds c = search needs
 
-print-row-requires : tie.Need-print-row-requires Inv-loop μ-loop
-print-row-requires c κs = search needs
+print-fill-requires : tie.Need-print-fill-requires Inv-loop μ-loop
+print-fill-requires c κs = search needs
 
 returns : tie.Need-returns Inv-loop μ-loop
 returns c = search needs
@@ -42,7 +42,7 @@ print-rows-spec =
     μ-loop
     first-requires
     loop-holds
-    print-row-requires
+    print-fill-requires
     returns
     add-count
     loop-less

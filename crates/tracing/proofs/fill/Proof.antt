@@ -1,0 +1,39 @@
+-- `tracing::fill` meets its contract: the opener accepts the image, and lines are put, or it refuses the image. Assumes nothing.
+use mathlib.Core.Path.{sym, _∙_}
+use Rattle.tracing.proofs.FillLaws.{fill-opened, fill-refused}
+use borrow.Author.Needs.{needs}
+use Rattle.tracing.proofs.fill.Statement.{statement}
+use Rattle.tracing.proofs.fill.Tie as tie
+
+open-requires : tie.Need-open-requires
+open-requires c κs = search needs
+
+enum-known-opened : tie.Need-enum-known-opened
+enum-known-opened c = search needs
+
+fill-opened-requires : tie.Need-fill-opened-requires
+fill-opened-requires c κs = sym (c .before .before .opened .given .1) ∙ c .before .before .before .before .«open» .ensures
+
+enum-told : tie.Need-enum-told
+enum-told c = search needs
+
+same-length : tie.Need-same-length
+same-length c = search needs
+
+returns : tie.Need-returns
+returns c = fill-opened _ _ _ _ _ _ _ (sym (c .before .before .before .before .before .opened .given .1) ∙ c .before .before .before .before .before .before .before .«open» .ensures) (c .before .before .fill-opened .ensures)
+
+returns-2 : tie.Need-returns-2
+returns-2 c = fill-refused _ _ _ _ _ (sym (c .enum-told .given .1) ∙ c .before .before .«open» .ensures)
+
+pub fill-spec : {M : Type 1} → statement M
+fill-spec =
+    tie.close
+    (tie.spec
+    open-requires
+    enum-known-opened
+    fill-opened-requires
+    enum-told
+    same-length
+    returns
+    returns-2)
