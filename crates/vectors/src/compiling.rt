@@ -40,7 +40,7 @@ fn same(a: &[u8], b: &[u8]) -> bool {
     true
 }
 
-fn print_same(a: &[u8], b: &[u8]) {
+pub(crate) fn print_same(a: &[u8], b: &[u8]) {
     if same(a, b) {
         print::words(b" same");
         return;

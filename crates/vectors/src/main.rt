@@ -1,4 +1,5 @@
-// Texts compiled, and their rows run by the table and directly from the text. Each argument names a file of cases, one behind another. A case is:
+// Texts compiled, and their rows run by the table and directly from the text. An argument that ends in a slash names a folder of examples/, whose trace is
+// held to its file trace.txt. Any other names a file of cases, one behind another. A case is:
 //   0, 1      how many bytes the text has
 //   2, 3      how many bytes its rows have
 //   then the text, then the rows; a row is
@@ -10,11 +11,13 @@
 // text gave all of this too; where it did not, its own answer follows. Buffers hold 165 before a call; `untouched` says that they still do.
 use answers::Compiled;
 use answers::Refusal;
+use words::byte;
 use words::word2;
 
 mod compiling;
 mod print;
 mod rows;
+mod traces;
 
 // A text that is refused: the buffer, and the direct run from place 512 with 0 in every slot.
 fn refused(text: &[u8], buffer: &[u8], r: Refusal) {
@@ -66,19 +69,37 @@ fn report_cases(name: &[u8], cases: &[u8]) {
     }
 }
 
-// The file that an argument names.
-fn report_argument(i: usize) {
-    let mut path = io::buffer();
-    let length = os::arg(i, &mut path);
-    let fd = os::open_read(&path[..length]);
+// The file of cases that a path names.
+fn report_file(path: &[u8]) {
+    let fd = os::open_read(path);
     if fd < 0 {
-        os::fail(&path[..length]);
+        os::fail(path);
         return;
     }
     let mut cases = io::large_buffer();
     let n = io::read_full(fd, &mut cases);
     libc::close(fd);
-    report_cases(&path[..length], &cases[..n]);
+    report_cases(path, &cases[..n]);
+}
+
+// Whether a path ends in a slash.
+fn is_folder(path: &[u8]) -> bool {
+    let n = path.len();
+    if n == 0 {
+        return false;
+    }
+    byte(path, n - 1) == b'/'
+}
+
+// The file or the folder that an argument names.
+fn report_argument(i: usize) {
+    let mut path = io::buffer();
+    let length = os::arg(i, &mut path);
+    if is_folder(&path[..length]) {
+        traces::report(&path[..length]);
+        return;
+    }
+    report_file(&path[..length]);
 }
 
 fn main() {

@@ -2,10 +2,13 @@
 //! implementation answers on them, in the program's own words.
 
 use std::fmt::Write;
+use std::path::Path;
+use std::{fs, io};
 
 use crate::answer::Answer;
 use crate::board::REFERENCE;
 use crate::state::{State, BEGINNING, OUTPUTS, VARIABLES};
+use crate::trace::trace;
 
 /// What buffers and output rows hold before a call.
 const BYTE: u8 = 165;
@@ -26,6 +29,28 @@ pub struct Row {
 pub struct Case {
     pub text: Vec<u8>,
     pub rows: Vec<Row>,
+}
+
+/// The folders of examples in the program's data, by the names that it is given.
+pub fn folders(data: &Path) -> io::Result<Vec<String>> {
+    let mut names = Vec::new();
+    for folder in fs::read_dir(data.join("examples"))? {
+        let name = folder?.file_name();
+        names.push(format!("examples/{}/", name.to_string_lossy()));
+    }
+    names.sort();
+    Ok(names)
+}
+
+/// What the program prints of a folder: the length of its trace, and whether it is the stored one.
+pub fn folder_answer(data: &Path, name: &str) -> io::Result<String> {
+    let read = |file: &str| fs::read(data.join(name).join(file));
+    let printed = trace(&read("process.vhd")?, &read("rows.txt")?);
+    let same = match printed.as_bytes() == read("trace.txt")? {
+        true => "same",
+        false => "differs",
+    };
+    Ok(format!("{name}: trace {} {same}\n", printed.len()))
 }
 
 /// The bytes of cases: two bytes for the length of the text, two for that of the rows, the text, the

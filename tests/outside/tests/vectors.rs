@@ -3,7 +3,7 @@
 //! answers on them.
 
 use reference::generate;
-use reference::vectors::{answers, cases};
+use reference::vectors::{answers, cases, folder_answer, folders};
 use std::path::PathBuf;
 
 #[test]
@@ -14,8 +14,11 @@ fn the_program_prints_what_document_01_says() {
     let stored = String::from_utf8(read("stdout")).expect("text");
     let mut stored = stored.lines();
     for name in arguments.lines() {
-        let bytes = read(&format!("data/{name}"));
-        for expected in answers(name, &cases(&bytes)).lines() {
+        let expected = match name.ends_with('/') {
+            true => folder_answer(&folder.join("data"), name).expect("a folder of examples"),
+            false => answers(name, &cases(&read(&format!("data/{name}")))),
+        };
+        for expected in expected.lines() {
             assert_eq!(stored.next(), Some(expected), "{name}");
         }
     }
@@ -29,6 +32,9 @@ fn the_cases_are_those_of_the_generator() {
     for (name, bytes) in generate::vectors::files() {
         let stored = std::fs::read(folder.join("data").join(&name)).expect("a file of cases");
         assert!(stored == bytes, "{name}");
+        names += &format!("{name}\n");
+    }
+    for name in folders(&folder.join("data")).expect("the folders of examples") {
         names += &format!("{name}\n");
     }
     assert_eq!(

@@ -1,8 +1,9 @@
 //! Writes the cases of the test program `vectors` and the output that they must give into the folder
-//! of its crate: the names of the files into `args`, the cases into `data`, the output into `stdout`.
+//! of its crate: the names of the files and folders into `args`, the cases into `data`, the output
+//! into `stdout`. The folders of examples stand in `data` already.
 
 use reference::generate;
-use reference::vectors::{answers, cases};
+use reference::vectors::{answers, cases, folder_answer, folders};
 use std::path::Path;
 use std::{env, fs, io, process};
 
@@ -21,10 +22,14 @@ fn main() {
 fn write(folder: &Path) -> io::Result<()> {
     let mut names = String::new();
     let mut output = String::new();
-    fs::create_dir_all(folder.join("data"))?;
+    let data = folder.join("data");
     for (name, bytes) in generate::vectors::files() {
         output += &answers(&name, &cases(&bytes));
-        fs::write(folder.join("data").join(&name), bytes)?;
+        fs::write(data.join(&name), bytes)?;
+        names += &format!("{name}\n");
+    }
+    for name in folders(&data)? {
+        output += &folder_answer(&data, &name)?;
         names += &format!("{name}\n");
     }
     fs::write(folder.join("args"), names)?;
