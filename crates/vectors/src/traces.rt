@@ -22,14 +22,25 @@ fn copy(bytes: &[u8], to: &mut [u8]) -> usize
     k
 }
 
-// The header into the buffer, then the lines of rows behind it: as many as the buffer has room for.
-fn put_rows(text: &[u8], image: &[u8], rows: &[u8], out: &mut [u8]) -> usize {
-    let line = labels::header(text);
-    let bytes = line.bytes;
-    let k = copy(part_of(&bytes, 0, line.size), out);
+// The lines of rows behind the first k bytes of the buffer: as many as it has room for.
+fn put_rows(image: &[u8], rows: &[u8], out: &mut [u8], k: usize) -> usize {
+    if out.len() < k {
+        return k;
+    }
     let p = tracing::first(image);
     let filled = tracing::fill(image, rows, p, &mut out[k..]);
-    k + filled.size
+    let size = filled.size;
+    if out.len() - k < size {
+        return k;
+    }
+    k + size
+}
+
+// The header into the buffer.
+fn put_header(text: &[u8], out: &mut [u8]) -> usize {
+    let line = labels::header(text);
+    let bytes = line.bytes;
+    copy(part_of(&bytes, 0, line.size), out)
 }
 
 // The trace of a text over rows into a buffer.
@@ -37,16 +48,27 @@ fn put_trace(text: &[u8], rows: &[u8], out: &mut [u8]) -> usize {
     let mut image = [0u8; 65535];
     match tracing::start(text, rows, &mut image, out) {
         Begun::Only(size) => size,
-        Begun::Image(n) => put_rows(text, part_of(&image, 0, n), rows, out),
+        Begun::Image(n) => {
+            let k = put_header(text, out);
+            put_rows(part_of(&image, 0, n), rows, out, k)
+        }
     }
+}
+
+// Opens a file of a folder; its path is put into a buffer.
+fn open(folder: &[u8], name: &[u8], path: &mut [u8]) -> i32 {
+    let k = copy(folder, path);
+    let n = copy(name, &mut path[k..]);
+    if path.len() - k < n {
+        return -1;
+    }
+    os::open_read(part_of(path, 0, k + n))
 }
 
 // A file of a folder; no bytes where it cannot be opened.
 fn read(folder: &[u8], name: &[u8], bytes: &mut [u8]) -> usize {
     let mut path = io::buffer();
-    let k = copy(folder, &mut path);
-    let end = k + copy(name, &mut path[k..]);
-    let fd = os::open_read(part_of(&path, 0, end));
+    let fd = open(folder, name, &mut path);
     if fd < 0 {
         return 0;
     }
