@@ -52,9 +52,10 @@ mod proved {
 
     /// 512 statements: a way of 512 lines, the wait at its end included.
     fn many_statements() -> Vec<u8> {
-        let mut text = "entity many is port(clk:in std_logic;d:in integer;q:out integer:=0);end many;\
+        let mut text =
+            "entity many is port(clk:in std_logic;d:in integer;q:out integer:=0);end many;\
                         architecture a of many is begin process variable s:integer:=0;begin "
-            .to_string();
+                .to_string();
         for k in 0..511 {
             text += if k % 3 == 0 { "s:=s+d;" } else { "q<=s-d;" };
         }
@@ -64,7 +65,9 @@ mod proved {
 
     /// Rows of one small number: sums that pass 10 after some rows, for tally.
     fn small_rows(count: usize, random: &mut Random) -> Vec<i32> {
-        (0..count).map(|_| random.between(0, 15) as i32 - 3).collect()
+        (0..count)
+            .map(|_| random.between(0, 15) as i32 - 3)
+            .collect()
     }
 
     /// Rows for GCD: multiples of two neighbours of the Fibonacci numbers, on which its differences
@@ -83,12 +86,13 @@ mod proved {
         (0..count).flat_map(row).collect()
     }
 
-    /// The seconds that a call takes, the middle of some.
-    fn middle(mut times: Vec<f64>) -> f64 {
-        times.sort_by(f64::total_cmp);
-        times[times.len() / 2]
+    /// The middle of some numbers.
+    fn middle(mut numbers: Vec<f64>) -> f64 {
+        numbers.sort_by(f64::total_cmp);
+        numbers[numbers.len() / 2]
     }
 
+    /// The seconds that so many calls take.
     fn seconds(times: usize, mut call: impl FnMut()) -> f64 {
         let start = Instant::now();
         for _ in 0..times {
@@ -99,7 +103,13 @@ mod proved {
 
     /// Both take turns, each calling so many times; the middle ratio, and the middle time of one of
     /// the `units` of work of each.
-    fn compare(label: &str, times: usize, units: usize, mut ours: impl FnMut(), mut theirs: impl FnMut()) {
+    fn compare(
+        label: &str,
+        times: usize,
+        units: usize,
+        mut ours: impl FnMut(),
+        mut theirs: impl FnMut(),
+    ) {
         let (mut ratios, mut proved, mut other) = (Vec::new(), Vec::new(), Vec::new());
         for _ in 0..TURNS {
             let first = seconds(times, &mut ours);
@@ -137,7 +147,7 @@ mod proved {
         };
         let before = call(ours);
         assert_eq!(before, call(theirs), "{label}: the two do not agree");
-        assert!(before.0 >= of.count(), "{label}: rows are refused");
+        assert!(before.0 >= of.count(), "{label}: fewer lines than rows");
         let turn = |run: Loop| {
             black_box(call(run));
         };
@@ -158,16 +168,17 @@ mod proved {
     }
 
     /// The cycle on a checked image, the cycle with the check, the direct run.
-    fn cycles(label: &str, text: &[u8], of: &Rows, times: usize) {
+    fn cycles(name: &str, text: &[u8], of: &Rows, times: usize) {
         let image = compiled(&REFERENCE, text);
         let (ours, theirs) = (loops::PROVED, loops::REFERENCE);
-        let both = [ours.opened, theirs.opened];
-        rows(&format!("cycle on a checked image, {label}"), times, both, &image, of);
-        let both = [ours.checked, theirs.checked];
-        rows(&format!("cycle with the check, {label}"), times, both, &image, of);
-        let both = [ours.direct, theirs.direct];
-        rows(&format!("direct run, {label}"), times / 20 + 1, both, text, of);
-        open(&format!("open, {label}"), &image, 20 * times);
+        let label = format!("cycle on a checked image, {name}");
+        rows(&label, times, [ours.opened, theirs.opened], &image, of);
+        let label = format!("cycle with the check, {name}");
+        rows(&label, times, [ours.checked, theirs.checked], &image, of);
+        let label = format!("direct run, {name}");
+        let fewer = times / 20 + 1;
+        rows(&label, fewer, [ours.direct, theirs.direct], text, of);
+        open(&format!("open, {name}"), &image, 20 * times);
     }
 
     /// How the time of a compile grows with the text.
@@ -191,7 +202,10 @@ mod proved {
         let tally = include_bytes!("../../../../examples/tally/process.vhd");
         let gcd = include_bytes!("../../../../examples/gcd/process.vhd");
         let many = many_statements();
-        println!("{:<44} {:>6}   {:>13} {:>13}", "", "ratio", "proved", "Rust");
+        println!(
+            "{:<44} {:>6}   {:>13} {:>13}",
+            "", "ratio", "proved", "Rust"
+        );
         compile("compile tally", tally, 400);
         compile("compile 16,384 bytes", &long_text(16_384), 20);
         compile("compile 512 statements", &many, 40);
@@ -204,6 +218,11 @@ mod proved {
         };
         cycles("tally", tally, &of(small_rows(400, &mut random), 1, 1), 40);
         cycles("gcd", gcd, &of(gcd_rows(400, &mut random), 3, 2), 20);
-        cycles("512 lines", &many, &of(small_rows(40, &mut random), 1, 1), 20);
+        cycles(
+            "512 lines",
+            &many,
+            &of(small_rows(40, &mut random), 1, 1),
+            20,
+        );
     }
 }
