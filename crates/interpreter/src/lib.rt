@@ -28,9 +28,9 @@ pub struct FreshState {
 
 // One call on the design of an accepted text.
 fn run_design(
-    ops: [u8; 16384],
-    args: [i32; 16384],
-    lines: [u16; 3072],
+    ops: &[u8; 16384],
+    args: &[i32; 16384],
+    lines: &[u16; 3072],
     is: [u8; 32],
     os: [u8; 32],
     vs: [u8; 32],
@@ -40,16 +40,16 @@ fn run_design(
     row: &mut [i32],
 ) -> Advanced
     requires { ⌜ (c .inputs ≤ 16) × (c .outputs ≤ 16) × (c .variables ≤ 32) ⌝ }
-    ensures { λ a. ⌜ ((p : Process) (ps qs : List ℤ) → Holds p ops args lines is os vs ps qs c → WellFormed p
+    ensures { λ a. ⌜ ((p : Process) (ps qs : List ℤ) → Holds p (now (ops .entry)) (now (args .entry)) (now (lines .entry)) is os vs ps qs c → WellFormed p
         → Advances (directRow p s (callOf (now (inputs .entry)) (now (row .entry)))) a (now (row .exit))) ⌝ }
 {
     let i = c.inputs;
     let o = c.outputs;
     let v = c.variables;
     direct::calls::advance(
-        &ops,
-        &args,
-        &lines,
+        ops,
+        args,
+        lines,
         c.statements,
         &is[0..i],
         &os[0..o],
@@ -86,7 +86,7 @@ pub fn run(text: &[u8], s: State, inputs: &[i32], row: &mut [i32]) -> Advanced
         &mut variable_values,
     );
     match front {
-        Front::Accepted(c) => run_design(ops, args, lines, is, os, vs, c, s, inputs, row),
+        Front::Accepted(c) => run_design(&ops, &args, &lines, is, os, vs, c, s, inputs, row),
         Front::Refused(r) => Advanced {
             state: s,
             answer: Cycled::NotPerformed(r),

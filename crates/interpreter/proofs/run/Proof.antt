@@ -13,7 +13,7 @@ enum-known-front : tie.Need-enum-known-front
 enum-known-front c = search needs
 
 run-design-requires : tie.Need-run-design-requires
-run-design-requires c κs = bounds (design-of _ _ _ _ _ _ _ _ _ _ (c .before .before .before .before .accept .ensures (record { ops-size = refl; args-size = refl; lines-size = refl; inputs-size = refl; outputs-size = refl; variables-size = refl; at-outputs-size = refl; at-variables-size = refl })) (c .before .before .front .given .1))
+run-design-requires c κs = bounds (design-of _ _ _ _ _ _ _ _ _ _ (c .before .before .before .before .before .before .before .accept .ensures (record { ops-size = refl; args-size = refl; lines-size = refl; inputs-size = refl; outputs-size = refl; variables-size = refl; at-outputs-size = refl; at-variables-size = refl })) (c .before .before .before .before .before .front .given .1))
 
 enum-known-front-2 : tie.Need-enum-known-front-2
 enum-known-front-2 c = search needs
@@ -22,7 +22,7 @@ same-length : tie.Need-same-length
 same-length c = search needs
 
 returns : tie.Need-returns
-returns c = let d = design-of _ _ _ _ _ _ _ _ _ _ (c .before .before .before .before .before .before .accept .ensures (record { ops-size = refl; args-size = refl; lines-size = refl; inputs-size = refl; outputs-size = refl; variables-size = refl; at-outputs-size = refl; at-variables-size = refl })) (c .before .before .before .before .front .given .1) in run-accepted _ (c .before .before .before .before .before .before .before .before .before .before .before .before .before .before .before .before .args .s) (callOf (c .before .before .before .before .before .before .before .before .before .before .before .before .before .before .before .before .args .inputs .now) (c .before .before .before .before .before .before .before .before .before .before .before .before .before .before .before .before .args .row .now)) (d .process) (d .is-verdict) _ _ (c .before .run-design .ensures (d .process) _ _ (d .holds) (d .formed))
+returns c = let d = design-of _ _ _ _ _ _ _ _ _ _ (c .before .before .before .before .before .before .before .before .before .accept .ensures (record { ops-size = refl; args-size = refl; lines-size = refl; inputs-size = refl; outputs-size = refl; variables-size = refl; at-outputs-size = refl; at-variables-size = refl })) (c .before .before .before .before .before .before .before .front .given .1) in run-accepted _ (c .before .before .before .before .before .before .before .before .before .before .before .before .before .before .before .before .before .before .before .args .s) (callOf (c .before .before .before .before .before .before .before .before .before .before .before .before .before .before .before .before .before .before .before .args .inputs .now) (c .before .before .before .before .before .before .before .before .before .before .before .before .before .before .before .before .before .before .before .args .row .now)) (d .process) (d .is-verdict) _ _ (c .before .run-design .ensures (d .process) _ _ (d .holds) (d .formed))
 
 returns-2 : tie.Need-returns-2
 returns-2 c = run-refused _ (c .before .before .before .before .before .before .before .before .before .before .before .before .before .args .s) (callOf (c .before .before .before .before .before .before .before .before .before .before .before .before .before .args .inputs .now) (c .before .before .before .before .before .before .before .before .before .before .before .before .before .args .row .now)) _ (turned-of _ _ _ (c .before .before .before .accept .ensures (record { ops-size = refl; args-size = refl; lines-size = refl; inputs-size = refl; outputs-size = refl; variables-size = refl; at-outputs-size = refl; at-variables-size = refl })) (c .before .front2 .given .1))

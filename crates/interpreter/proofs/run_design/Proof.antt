@@ -5,15 +5,6 @@ use borrow.Author.Needs.{needs}
 use Rattle.interpreter.proofs.run_design.Statement.{statement}
 use Rattle.interpreter.proofs.run_design.Tie as tie
 
-slice-aggregate-advance : tie.Need-slice-aggregate-advance
-slice-aggregate-advance c = search needs
-
-slice-aggregate-advance-2 : tie.Need-slice-aggregate-advance-2
-slice-aggregate-advance-2 c = search needs
-
-slice-aggregate-advance-3 : tie.Need-slice-aggregate-advance-3
-slice-aggregate-advance-3 c = search needs
-
 sub-advance : tie.Need-sub-advance
 sub-advance c = search needs
 
@@ -57,9 +48,6 @@ pub run-design-spec : {M : Type 1} → statement M
 run-design-spec =
     tie.close
     (tie.spec
-    slice-aggregate-advance
-    slice-aggregate-advance-2
-    slice-aggregate-advance-3
     sub-advance
     part-advance-start
     part-advance-end
