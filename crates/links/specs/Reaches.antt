@@ -2,7 +2,7 @@
 use mathlib.Core.Path.{_≡_}
 use mathlib.Core.Bool.{Bool, false, cond, _||_}
 use mathlib.Core.List.{List}
-use Prim.Native.Nat.{ℕ, zero, suc, _+_, _*_, _≤_, max}
+use Prim.Native.Nat.{ℕ, zero, suc, _+_, _*_, _≤_, _<_, max}
 use lib.IntN.{ℤ}
 use lib.ListN.{length, getD, set}
 use lib.Seq.{sets}
@@ -50,7 +50,9 @@ pub record Swept (rows : List ℕ) (x : Links) (n : ℕ) (before after : List �
   pub are : after ≡ sweep rows x n before
   pub still : changed ≡ false → after ≡ before
 
--- followers, then reaches of n statements: x and r are the arrays before, y and q behind
+-- followers, then reaches of n statements: x and r are the arrays before, y and q behind. No body has more than 512 statements; for a higher n they are
+-- left as they were
 pub record Found (rows : List ℕ) (n : ℕ) (x y : Links) (r q : List ℕ) : Type 0 where
-  pub followed : Followed rows n x y
-  pub reached : Reached rows n y r q
+  pub followed : n ≤ 512 → Followed rows n x y
+  pub reached : n ≤ 512 → Reached rows n y r q
+  pub kept : 512 < n → (y ≡ x) × (q ≡ r)
