@@ -87,7 +87,7 @@ fn is_mark(b: u8) -> bool
     false
 }
 
-// The kind of a byte: the one place where the code decides on it.
+// The kind of a byte: the one place where the code decides on it, but for `is_underscore`.
 pub(crate) fn kind_of(b: u8) -> u8
     ensures { λ r. ⌜ r ≡ kindCode (byteKind b) ⌝ }
 {
@@ -128,10 +128,11 @@ pub(crate) fn is_digit(b: u8) -> bool
     kind_of(b) == DIGIT
 }
 
+// Told by the byte itself: it is asked of every byte of a word, whose kind was asked before.
 pub(crate) fn is_underscore(b: u8) -> bool
     ensures { λ r. ⌜ r ≡ isUnder b ⌝ }
 {
-    kind_of(b) == UNDERSCORE
+    b == b'_'
 }
 
 // A capital as its small letter.

@@ -1,15 +1,10 @@
--- `lexer::bytes::is_underscore` meets its contract, by the kind's number. Assumes nothing.
-use Rattle.language.specs.Bytes.{underscore}
-use Rattle.lexer.proofs.ByteKinds.{kind-is}
-use borrow.Author.Needs.{needs}
+-- `lexer::bytes::is_underscore` meets its contract: the underscore is one byte. Assumes nothing.
+use Rattle.lexer.proofs.ByteKinds.{under-is}
 use Rattle.lexer.proofs.bytes.is_underscore.Statement.{statement}
 use Rattle.lexer.proofs.bytes.is_underscore.Tie as tie
 
-kind-of-requires : tie.Need-kind-of-requires
-kind-of-requires c κs = search needs
-
 returns : tie.Need-returns
-returns c = kind-is underscore (c .before .args .b) (c .kind-of .result) (c .kind-of .ensures)
+returns c = under-is (c .args .b)
 
 pub is-underscore-spec : {M : Type 1} → statement M
-is-underscore-spec = tie.close (tie.spec kind-of-requires returns)
+is-underscore-spec = tie.close (tie.spec returns)
