@@ -1,6 +1,8 @@
 //! Many rows in one call, from the fresh state: what the benchmark times, so that the border
 //! between the languages is passed once and not for every row.
 
+use crate::answer::Outcome;
+use crate::state::State;
 use crate::{direct, loader, table};
 
 /// Image or text; rows one after another; values in a row, at least 1; output row. Answers the
@@ -21,34 +23,36 @@ pub struct Loops {
 /// The implementation of this library.
 pub const REFERENCE: Loops = Loops {
     opened: |image, inputs, width, row| {
-        let (Ok(mut state), Ok(image)) = (table::fresh(image), loader::open(image)) else {
+        let Ok(opened) = loader::open(image) else {
             return 0;
         };
-        let rows = inputs.chunks_exact(width);
-        rows.map(|values| lines(table::cycle_opened(&image, &mut state, values, row, |_| {})))
-            .sum()
+        total(table::fresh(image), inputs, width, |state, values| {
+            table::cycle_opened(&opened, state, values, row, |_| {})
+        })
     },
     checked: |image, inputs, width, row| {
-        let Ok(mut state) = table::fresh(image) else {
-            return 0;
-        };
-        let rows = inputs.chunks_exact(width);
-        rows.map(|values| lines(table::cycle(image, &mut state, values, row)))
-            .sum()
+        let cycle = |state: &mut State, values: &[i32]| table::cycle(image, state, values, row);
+        total(table::fresh(image), inputs, width, cycle)
     },
     direct: |text, inputs, width, row| {
-        let Ok(mut state) = direct::direct_fresh(text) else {
-            return 0;
-        };
-        let rows = inputs.chunks_exact(width);
-        rows.map(|values| lines(direct::direct(text, &mut state, values, row)))
-            .sum()
+        let cycle = |state: &mut State, values: &[i32]| direct::direct(text, state, values, row);
+        total(direct::direct_fresh(text), inputs, width, cycle)
     },
 };
 
-/// "A refused cycle answers 0 lines."
-fn lines(outcome: crate::answer::Outcome<u32>) -> usize {
-    outcome.map_or(0, |lines| lines as usize)
+/// The lines of all rows from a fresh state; "A refused cycle answers 0 lines."
+fn total(
+    fresh: Outcome<State>,
+    inputs: &[i32],
+    width: usize,
+    mut cycle: impl FnMut(&mut State, &[i32]) -> Outcome<u32>,
+) -> usize {
+    let Ok(mut state) = fresh else {
+        return 0;
+    };
+    let rows = inputs.chunks_exact(width);
+    rows.map(|values| cycle(&mut state, values).map_or(0, |lines| lines as usize))
+        .sum()
 }
 
 /// The proved crates (crates/bench).

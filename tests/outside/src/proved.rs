@@ -67,7 +67,13 @@ pub const PLAIN: Board = Board {
     ..PROVED
 };
 
-fn plainly(run: Run, bytes: &[u8], state: &mut State, inputs: &[i32], outputs: &mut [i32]) -> Answer {
+fn plainly(
+    run: Run,
+    bytes: &[u8],
+    state: &mut State,
+    inputs: &[i32],
+    outputs: &mut [i32],
+) -> Answer {
     let mut answer = [0; 3];
     let (n, ni, no) = (bytes.len(), inputs.len(), outputs.len());
     let (from, at) = (bytes.as_ptr(), state.as_mut_ptr());
@@ -114,7 +120,10 @@ impl<T: Copy + PartialEq + std::fmt::Debug> Guarded<T> {
     }
 
     fn check_guards(&self) {
-        let (head, tail) = (&self.elements[..GUARD], &self.elements[GUARD + self.len()..]);
+        let (head, tail) = (
+            &self.elements[..GUARD],
+            &self.elements[GUARD + self.len()..],
+        );
         let guards = head.iter().chain(tail);
         assert!(guards.into_iter().all(|guard| *guard == self.guard));
     }
@@ -181,16 +190,8 @@ fn direct_fresh(text: &[u8], state: &mut State) -> Answer {
     started(rabtishu_direct_fresh, text, state)
 }
 
-type Run = unsafe extern "C" fn(
-    *const u8,
-    usize,
-    *mut i32,
-    *const i32,
-    usize,
-    *mut i32,
-    usize,
-    *mut u32,
-);
+type Run =
+    unsafe extern "C" fn(*const u8, usize, *mut i32, *const i32, usize, *mut i32, usize, *mut u32);
 
 fn ran(run: Run, bytes: &[u8], state: &mut State, inputs: &[i32], outputs: &mut [i32]) -> Answer {
     let mut source = Guarded::new(bytes, BYTE);

@@ -10,7 +10,10 @@ use reference::proved::PROVED;
 #[test]
 fn the_archive_is_there_if_it_must_be() {
     let required = std::env::var_os("RABTISHU_REQUIRED").is_some();
-    assert!(cfg!(proved) || !required, "rt staticlib exports comes first");
+    assert!(
+        cfg!(proved) || !required,
+        "rt staticlib exports comes first"
+    );
 }
 
 #[cfg(proved)]
@@ -42,7 +45,15 @@ fn random_inputs() {
 fn places_beyond_16_bits() {
     let text = include_bytes!("../../../examples/tally/process.vhd");
     let image = reference::compare::compiled(&REFERENCE, text);
-    for place in [-1, 65_535, 65_536, 65_536 + 512, 131_072 + 2, i32::MIN, i32::MAX] {
+    for place in [
+        -1,
+        65_535,
+        65_536,
+        65_536 + 512,
+        131_072 + 2,
+        i32::MIN,
+        i32::MAX,
+    ] {
         let mut state = [0; 49];
         state[0] = place;
         let before = state;

@@ -179,8 +179,14 @@ fn examples() -> Vec<Case> {
             include_str!("../../../../examples/factorial/process.vhd"),
             &factorial,
         ),
-        case(include_str!("../../../../examples/immediate/process.vhd"), empty),
-        case(include_str!("../../../../examples/cell_behavior/process.vhd"), bits),
+        case(
+            include_str!("../../../../examples/immediate/process.vhd"),
+            empty,
+        ),
+        case(
+            include_str!("../../../../examples/cell_behavior/process.vhd"),
+            bits,
+        ),
         case(
             include_str!("../../../../examples/cell_implementation/process.vhd"),
             bits,
@@ -193,8 +199,14 @@ fn examples() -> Vec<Case> {
             include_str!("../../../../examples/parity_implementation/process.vhd"),
             bits,
         ),
-        case(include_str!("../../../../examples/marking/process.vhd"), marking),
-        case(include_str!("../../../../examples/time_counter/process.vhd"), time),
+        case(
+            include_str!("../../../../examples/marking/process.vhd"),
+            marking,
+        ),
+        case(
+            include_str!("../../../../examples/time_counter/process.vhd"),
+            time,
+        ),
     ]
 }
 
