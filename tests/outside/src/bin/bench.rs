@@ -25,18 +25,19 @@ mod proved {
     /// How often the two take turns; the middle of the ratios is printed.
     const TURNS: usize = 21;
 
-    /// A text of about this many bytes: assignments of sums, some tests and loops, one wait each.
+    /// A text of this many bytes: assignments of sums, some tests and loops, one wait each. Its
+    /// statements are long enough that 16,384 bytes have fewer than 512 of them.
     fn long_text(bytes: usize) -> Vec<u8> {
         let head = "entity long is port ( clk : in std_logic; d : in integer; q : out integer := 0 ); \
                     end long;\narchitecture a of long is begin process\n  variable s, u : integer := 0;\n\
                     begin\n";
         let tail = "  wait until clk = '1';\nend process; end a;\n";
         let parts = [
-            "  s := s + d - 7;\n",
-            "  if (s > 100) or (u /= s) then u := d + 1; else s := u - 12; end if;\n",
-            "  q <= s - u + (d - 3) + 2147483;\n",
-            "  while s > 1000 loop s := s - 100; wait until clk = '1'; end loop;\n",
-            "  null; -- a line with a comment, as writers put them\n",
+            "  s := s + d - 7 + (u - 3) - (d + 12) + 100;\n",
+            "  if (s > 100) or (u /= s) or (d - u > 12) then u := d + 1 - (s - u) + 7; else s := u - 12 + (d - s); end if;\n",
+            "  q <= s - u + (d - 3) + 2147483 - (u + 17) + (s - d) - 4096;\n",
+            "  while s > 1000 loop s := s - 100 + (d - u) - (u - 8); wait until clk = '1'; end loop;\n",
+            "  null; -- a line with a comment, as writers put them, up to the end of the line\n",
         ];
         let mut text = head.to_string();
         for part in parts.iter().cycle() {
@@ -122,11 +123,20 @@ mod proved {
         println!("{label:<44} {ratio:>6.2}   {proved:>10.3} us {other:>10.3} us");
     }
 
+    /// A refused text would be timed up to its refusal only.
+    fn accepted(label: &str, text: &[u8]) {
+        for board in [&PLAIN, &REFERENCE] {
+            let answer = (board.compile)(text, &mut [0; 65_535]);
+            assert_eq!(answer[0], 0, "{label}: refused at {}", answer[1]);
+        }
+    }
+
     fn compile(label: &str, text: &[u8], times: usize) {
         let call = |board: &Board, image: &mut [u8]| {
             black_box((board.compile)(black_box(text), image));
         };
         let (mut image, mut other) = (vec![0; 65_535], vec![0; 65_535]);
+        accepted(label, text);
         let ours = || call(&PLAIN, &mut image);
         compare(label, times, 1, ours, || call(&REFERENCE, &mut other));
     }
@@ -181,20 +191,24 @@ mod proved {
         open(&format!("open, {name}"), &image, 20 * times);
     }
 
-    /// How the time of a compile grows with the text.
+    /// How the time of a compile grows with the text: the two lengths take turns, since the
+    /// machine's own speed changes from one second to the next.
     fn growth() {
-        let mut last = 0.0;
-        for bytes in [4096, 8192, 16384] {
-            let text = long_text(bytes);
+        for bytes in [8192, 16384] {
+            let texts = [long_text(bytes / 2), long_text(bytes)];
             let mut image = vec![0; 65_535];
-            let mut call = || {
-                black_box((PLAIN.compile)(black_box(&text), &mut image));
+            let mut time = |text: &[u8]| {
+                accepted("growth", text);
+                seconds(20, || {
+                    black_box((PLAIN.compile)(black_box(text), &mut image));
+                })
             };
-            let now = middle((0..TURNS).map(|_| seconds(20, &mut call)).collect());
-            if last > 0.0 {
-                println!("growth to {bytes} bytes: {:.2}", now / last);
-            }
-            last = now;
+            let ratio = |_| {
+                let half = time(&texts[0]);
+                time(&texts[1]) / half
+            };
+            let ratios = (0..TURNS).map(ratio).collect();
+            println!("growth to {bytes} bytes: {:.2}", middle(ratios));
         }
     }
 
