@@ -1,6 +1,6 @@
 -- What a piece at a place says of the rest of the text: lexing goes on behind a gap or a token, and stops where no token begins. Assumes nothing.
 use mathlib.Core.Path.{_≡_, refl, sym, _∙_, ap, subst}
-use mathlib.Core.Bool.{cond}
+use mathlib.Core.Bool.{true, cond}
 use mathlib.Core.List.{List, [], _∷_, _++_}
 use Prim.Native.Nat.{ℕ, zero, suc, pred, _+_, _-_, _≤_, _<_}
 use native.Mathlib.Omega.{arith}
@@ -14,11 +14,14 @@ use Rattle.language.specs.Lexer.{Start, lexeme, unknown, startOf, tokens, _▸_
 use Rattle.language.specs.Lexer as L
 use Rattle.language.proofs.Lexing.{Here, gap, token, bad, none, starts}
 use Rattle.language.proofs.LexExact.{gap-something, token-something, piece-some}
+use Rattle.language.specs.Bytes.{kindCode, elem}
 use Rattle.lexer.specs.declared.pieces.Piece.{Piece}
 use Rattle.lexer.specs.declared.pieces.Piece.the-variants as P
 use Rattle.lexer.specs.Places.{part}
 use Rattle.lexer.specs.Pieces.{placed, pieceFrom, pieceAt}
 use Rattle.lexer.specs.Tokens.{foundFrom}
+use Rattle.lexer.proofs.ByteKinds.{blank-is}
+use Rattle.lexer.proofs.PieceLaws.{piece-blank}
 
 -- a piece has a byte, and is no longer than the text
 abbrev Sized : ℕ → Start → Type 0
@@ -159,3 +162,7 @@ module _ (text : List ℕ) (i : ℕ) (r : Piece) (h : i < length text) (e : r �
 
   pub stopped : r ≡ P.Nothing → Stopped text i
   stopped f = subst (Advance text i) (sym e ∙ f) (advance text i h)
+
+-- a blank is a gap of one byte
+pub blank-gapped : (text : List ℕ) (i : ℕ) → i < length text → elem (getD text i 0) (32 ∷ 9 ∷ 10 ∷ 13 ∷ []) ≡ true → Gapped text i (i + 1)
+blank-gapped text i h e = gapped text i (P.Gap (i + 1)) h (piece-blank text i 3 h (ap kindCode (sym (blank-is (getD text i 0) e))) refl) (i + 1) refl

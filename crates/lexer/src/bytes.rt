@@ -1,5 +1,6 @@
 // Bytes of a text: their kinds, and lower case.
 ghost use mathlib.Core.Path.{_≡_};
+ghost use mathlib.Core.Bool.{_||_};
 ghost use mathlib.Core.List.{[], _∷_};
 ghost use lib.ListN.{getD};
 ghost use Rattle.language.specs.Bytes.{bytes, between, elem, byteKind, kindCode, inWord, isDigit, isUnder, lower};
@@ -28,8 +29,18 @@ fn is_between(low: u8, high: u8, b: u8) -> bool
     b <= high
 }
 
+// An ASCII letter, of either case.
+fn is_letter(b: u8) -> bool
+    ensures { λ r. ⌜ r ≡ (between 97 122 b || between 65 90 b) ⌝ }
+{
+    if is_between(b'a', b'z', b) {
+        return true;
+    }
+    is_between(b'A', b'Z', b)
+}
+
 // "Blanks are space, tab, LF, CR".
-fn is_blank(b: u8) -> bool
+pub(crate) fn is_blank(b: u8) -> bool
     ensures { λ r. ⌜ r ≡ elem b (32 ∷ 9 ∷ 10 ∷ 13 ∷ []) ⌝ }
 {
     if b == b' ' {
@@ -87,14 +98,11 @@ fn is_mark(b: u8) -> bool
     false
 }
 
-// The kind of a byte: the one place where the code decides on it, but for `is_underscore`.
+// The kind of a byte, by the tests in the definition's order.
 pub(crate) fn kind_of(b: u8) -> u8
     ensures { λ r. ⌜ r ≡ kindCode (byteKind b) ⌝ }
 {
-    if is_between(b'a', b'z', b) {
-        return LETTER;
-    }
-    if is_between(b'A', b'Z', b) {
+    if is_letter(b) {
         return LETTER;
     }
     if is_between(b'0', b'9', b) {
@@ -115,11 +123,17 @@ pub(crate) fn kind_of(b: u8) -> u8
     NONE
 }
 
-// "letters, digits and underscores", the first three kinds.
+// "letters, digits and underscores". Told by the byte itself, since it is asked of every byte of a word.
 pub(crate) fn in_word(b: u8) -> bool
     ensures { λ r. ⌜ r ≡ inWord b ⌝ }
 {
-    kind_of(b) <= UNDERSCORE
+    if is_letter(b) {
+        return true;
+    }
+    if is_between(b'0', b'9', b) {
+        return true;
+    }
+    b == b'_'
 }
 
 pub(crate) fn is_digit(b: u8) -> bool
@@ -128,7 +142,7 @@ pub(crate) fn is_digit(b: u8) -> bool
     kind_of(b) == DIGIT
 }
 
-// Told by the byte itself: it is asked of every byte of a word, whose kind was asked before.
+// Told by the byte itself, as in_word is.
 pub(crate) fn is_underscore(b: u8) -> bool
     ensures { λ r. ⌜ r ≡ isUnder b ⌝ }
 {

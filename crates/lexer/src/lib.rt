@@ -24,7 +24,8 @@ pub enum Lexed {
     NotLexed(Refusal),
 }
 
-// Writes the kind, the place and the size of each token, in order. Each turn of the loop passes a gap or a token.
+// Writes the kind, the place and the size of each token, in order. Each turn of the loop passes a blank, another gap or a token; blanks are passed here,
+// since there are as many of them as of tokens.
 pub fn lex(
     text: &[u8],
     kinds: &mut [u8; 16384],
@@ -40,19 +41,23 @@ pub fn lex(
     let mut i = 0;
     let mut n = 0;
     while i < text.len() {
-        match pieces::piece_at(text, i) {
-            Piece::Gap(end) => {
-                i = end;
-            }
-            Piece::Token(kind, end) => {
-                kinds[n] = kind;
-                starts[n] = i as u16;
-                sizes[n] = (end - i) as u16;
-                n += 1;
-                i = end;
-            }
-            Piece::Nothing => {
-                return Lexed::NotLexed(Refusal::NoToken(i));
+        if bytes::is_blank(text[i]) {
+            i += 1;
+        } else {
+            match pieces::piece_at(text, i) {
+                Piece::Gap(end) => {
+                    i = end;
+                }
+                Piece::Token(kind, end) => {
+                    kinds[n] = kind;
+                    starts[n] = i as u16;
+                    sizes[n] = (end - i) as u16;
+                    n += 1;
+                    i = end;
+                }
+                Piece::Nothing => {
+                    return Lexed::NotLexed(Refusal::NoToken(i));
+                }
             }
         }
     }

@@ -3,8 +3,9 @@
 use Prim.Native.Nat.{_-_}
 use native.Mathlib.Omega.{arith}
 use lib.ListN.{length}
-use Rattle.lexer.proofs.Advance.{gapped, tokened, stopped}
+use Rattle.lexer.proofs.Advance.{gapped, blank-gapped, tokened, stopped}
 use Rattle.lexer.proofs.Filling.{Filled, fill-first, fill-gap, fill-token, fill-end, fill-stop, too-long}
+use Rattle.lexer.proofs.ByteKinds.{flag}
 use borrow.Author.Needs.{needs}
 use Rattle.lexer.proofs.lex.Statement.{statement}
 use Rattle.lexer.proofs.lex.Tie as tie
@@ -21,19 +22,35 @@ returns c = too-long _ _ _ _ (c .if1 .taken)
 loop-holds : tie.Need-loop-holds Inv-loop μ-loop
 loop-holds c = fill-first _ _ _ _
 
+shared-slice-read-is-blank : tie.Need-shared-slice-read-is-blank Inv-loop μ-loop
+shared-slice-read-is-blank c = search needs
+
+is-blank-requires : tie.Need-is-blank-requires Inv-loop μ-loop
+is-blank-requires c κs = search needs
+
+add-i : tie.Need-add-i Inv-loop μ-loop
+add-i c = search needs
+
+loop-less : tie.Need-loop-less Inv-loop μ-loop
+loop-less c = search needs
+
+loop-again : tie.Need-loop-again Inv-loop μ-loop
+loop-again c = fill-gap _ _ _ _ _ _ _ _ _ (c .before .before .before .before .loop .inv) _
+    (blank-gapped _ _ (c .before .before .before .loop-test .taken) (flag (c .before .is-blank .ensures) (c .if2 .taken)))
+
 piece-at-requires : tie.Need-piece-at-requires Inv-loop μ-loop
 piece-at-requires c κs = search needs
 
 enum-known-end : tie.Need-enum-known-end Inv-loop μ-loop
 enum-known-end c = search needs
 
-loop-less : tie.Need-loop-less Inv-loop μ-loop
-loop-less c = let g = gapped _ _ _ (c .before .before .before .before .loop-test .taken) (c .before .before .before .piece-at .ensures) _
+loop-less-2 : tie.Need-loop-less-2 Inv-loop μ-loop
+loop-less-2 c = let g = gapped _ _ _ (c .before .before .before .before .before .before .before .loop-test .taken) (c .before .before .before .piece-at .ensures) _
     (c .before .end .given .1) in omega arith
 
-loop-again : tie.Need-loop-again Inv-loop μ-loop
-loop-again c = fill-gap _ _ _ _ _ _ _ _ _ (c .before .before .before .before .before .loop .inv) _
-    (gapped _ _ _ (c .before .before .before .before .loop-test .taken) (c .before .before .before .piece-at .ensures) _ (c .before .end .given .1))
+loop-again-2 : tie.Need-loop-again-2 Inv-loop μ-loop
+loop-again-2 c = fill-gap _ _ _ _ _ _ _ _ _ (c .before .before .before .before .before .before .before .before .loop .inv) _
+    (gapped _ _ _ (c .before .before .before .before .before .before .before .loop-test .taken) (c .before .before .before .piece-at .ensures) _ (c .before .end .given .1))
 
 enum-known-kind : tie.Need-enum-known-kind Inv-loop μ-loop
 enum-known-kind c = search needs
@@ -51,11 +68,11 @@ element-write-starts : tie.Need-element-write-starts Inv-loop μ-loop
 element-write-starts c = search needs
 
 sub-sizes : tie.Need-sub-sizes Inv-loop μ-loop
-sub-sizes c = let g = tokened _ _ _ (c .before .before .before .before .loop-test .taken) (c .before .before .before .piece-at .ensures) _ _
+sub-sizes c = let g = tokened _ _ _ (c .before .before .before .before .before .before .before .loop-test .taken) (c .before .before .before .piece-at .ensures) _ _
     (c .before .kind .given .1) in omega arith
 
 cast-sizes : tie.Need-cast-sizes Inv-loop μ-loop
-cast-sizes c = let g = tokened _ _ _ (c .before .before .before .before .loop-test .taken) (c .before .before .before .piece-at .ensures) _ _
+cast-sizes c = let g = tokened _ _ _ (c .before .before .before .before .before .before .before .loop-test .taken) (c .before .before .before .piece-at .ensures) _ _
     (c .before .kind .given .1) in omega arith
 
 mul-sizes : tie.Need-mul-sizes Inv-loop μ-loop
@@ -67,21 +84,21 @@ element-write-sizes c = search needs
 add-n : tie.Need-add-n Inv-loop μ-loop
 add-n c = search needs
 
-loop-less-2 : tie.Need-loop-less-2 Inv-loop μ-loop
-loop-less-2 c = let g = tokened _ _ _ (c .before .before .before .before .loop-test .taken) (c .before .before .before .piece-at .ensures) _ _
+loop-less-3 : tie.Need-loop-less-3 Inv-loop μ-loop
+loop-less-3 c = let g = tokened _ _ _ (c .before .before .before .before .before .before .before .loop-test .taken) (c .before .before .before .piece-at .ensures) _ _
     (c .before .kind .given .1) in omega arith
 
-loop-again-2 : tie.Need-loop-again-2 Inv-loop μ-loop
-loop-again-2 c =
-    fill-token _ _ _ _ _ _ _ _ _ (c .before .before .before .before .before .loop .inv) _ _
-    (tokened _ _ _ (c .before .before .before .before .loop-test .taken) (c .before .before .before .piece-at .ensures) _ _ (c .before .kind .given .1))
+loop-again-3 : tie.Need-loop-again-3 Inv-loop μ-loop
+loop-again-3 c =
+    fill-token _ _ _ _ _ _ _ _ _ (c .before .before .before .before .before .before .before .before .loop .inv) _ _
+    (tokened _ _ _ (c .before .before .before .before .before .before .before .loop-test .taken) (c .before .before .before .piece-at .ensures) _ _ (c .before .kind .given .1))
 
 enum-told : tie.Need-enum-told Inv-loop μ-loop
 enum-told c = search needs
 
 returns-2 : tie.Need-returns-2 Inv-loop μ-loop
-returns-2 c = fill-stop _ _ _ _ _ _ _ _ _ (c .before .before .before .before .loop .inv) (c .before .before .before .before .before .if1 .left)
-    (stopped _ _ _ (c .before .before .before .loop-test .taken) (c .before .before .piece-at .ensures) (c .enum-told .given .1))
+returns-2 c = fill-stop _ _ _ _ _ _ _ _ _ (c .before .before .before .before .before .before .before .loop .inv) (c .before .before .before .before .before .before .before .before .if1 .left)
+    (stopped _ _ _ (c .before .before .before .before .before .before .loop-test .taken) (c .before .before .piece-at .ensures) (c .enum-told .given .1))
 
 returns-3 : tie.Need-returns-3 Inv-loop μ-loop
 returns-3 c = fill-end _ _ _ _ _ _ _ _ _ (c .before .loop .inv) (c .before .before .if1 .left) (c .loop-test .left)
@@ -94,10 +111,15 @@ lex-spec =
     μ-loop
     returns
     loop-holds
-    piece-at-requires
-    enum-known-end
+    shared-slice-read-is-blank
+    is-blank-requires
+    add-i
     loop-less
     loop-again
+    piece-at-requires
+    enum-known-end
+    loop-less-2
+    loop-again-2
     enum-known-kind
     element-write-kinds
     cast-starts
@@ -108,8 +130,8 @@ lex-spec =
     mul-sizes
     element-write-sizes
     add-n
-    loop-less-2
-    loop-again-2
+    loop-less-3
+    loop-again-3
     enum-told
     returns-2
     returns-3)
