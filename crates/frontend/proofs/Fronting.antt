@@ -34,7 +34,7 @@ use Rattle.lexer.specs.declared.Lexed.the-variants.{Tokens, NotLexed}
 use Rattle.lexer.specs.Tokens as X
 use Rattle.lexer.specs.Tokens.{counted}
 use Rattle.limits.specs.Flags.{marked}
-use Rattle.limits.proofs.Held.{tokens-held, sizes-held, values-held, flags-held}
+use Rattle.limits.proofs.Held.{marked-size, tokens-held, sizes-held, values-held, flags-held}
 use Rattle.cursor.specs.Tokens.{tokenAt}
 use Rattle.cursor.specs.Tokens as C
 use Rattle.statements.specs.Rows.{output}
@@ -253,12 +253,12 @@ front-not-lexed text x before after u e = go (ltb 16384 (length text)) refl (lex
 -- the text was lexed and its tokens marked: the parser decides
 pub front-lexed : (text kinds₀ kinds starts₀ starts sizes₀ sizes long₀ long : List ℕ) (n : ℕ) {x : Lexed} (r : Front) (before after : DesignArrays) → x ≡ Tokens n
     → X.Lexing text x kinds₀ kinds starts₀ starts sizes₀ sizes → long ≡ marked text kinds starts sizes n long₀ → length kinds₀ ≡ 16384 → length starts₀ ≡ 16384 → length sizes₀ ≡ 16384 → length long₀ ≡ 16384
-    → ((ts : List Token) → TokensIn ts kinds starts n → WordsIn text ts sizes n → C.Holds ts kinds long n → FrontAs (parsed (length text) ts (answer ts)) r before after)
+    → (length long ≡ 16384 → (ts : List Token) → TokensIn ts kinds starts n → WordsIn text ts sizes n → C.Holds ts kinds long n → FrontAs (parsed (length text) ts (answer ts)) r before after)
     → FrontAs (verdict text) r before after
 front-lexed text kinds₀ kinds starts₀ starts sizes₀ sizes long₀ long n r before after e lx m lk ls lz ll f =
     front-tokens text n r before after (l .answer)
     (λ ts t.
-    f ts (tokens-held text kinds₀ kinds starts₀ starts sizes₀ sizes n ts l t lk ls)
+    f (ap length m ∙ (marked-size text kinds starts sizes long₀ n ∙ ll)) ts (tokens-held text kinds₀ kinds starts₀ starts sizes₀ sizes n ts l t lk ls)
     (record { size = sizes-held text kinds₀ kinds starts₀ starts sizes₀ sizes n ts l t lz; valued = values-held text kinds₀ kinds starts₀ starts sizes₀ sizes n ts l t })
     (rw m (flags-held text kinds₀ kinds starts₀ starts sizes₀ sizes n ts l t lk ls lz long₀ ll)))
   where

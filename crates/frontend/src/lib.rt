@@ -53,7 +53,7 @@ fn unread(number: u8, place: usize) -> Refusal
     Refusal::LimitPassed(place)
 }
 
-// The rules 5 to 9 on a parsed text, then its design.
+// The rules 5 to 9 on a parsed text, then its design. The owners of names are written into a lent array, whatever it holds.
 fn ruled_text(
     text: &[u8],
     kinds: &[u8; 16384],
@@ -65,6 +65,7 @@ fn ruled_text(
     indices: &[u16; 16384],
     rows: &[u16; 3072],
     decls: &[u16; 390],
+    owners: &mut [u8; 16384],
     ops: &mut [u8; 16384],
     args: &mut [i32; 16384],
     lines: &mut [u16; 3072],
@@ -75,13 +76,12 @@ fn ruled_text(
     variable_values: &mut [i32; 32],
 ) -> Front
     ensures { λ r. ⌜ (Sized (now (ops .entry)) (now (args .entry)) (now (lines .entry)) (now («input_types» .entry)) (now («output_types» .entry)) (now («variable_types» .entry)) (now («output_values» .entry)) (now («variable_values» .entry))
-        → (ts : List Token) (t : Text) → TreeIn (now (text .entry)) ts t (now (kinds .entry)) (now (starts .entry)) (now (sizes .entry)) n p (now (codes .entry)) (now (indices .entry)) (now (rows .entry)) (now (decls .entry))
+        → length (now (owners .entry)) ≡ 16384 → (ts : List Token) (t : Text) → TreeIn (now (text .entry)) ts t (now (kinds .entry)) (now (starts .entry)) (now (sizes .entry)) n p (now (codes .entry)) (now (indices .entry)) (now (rows .entry)) (now (decls .entry))
         → FrontAs (ruled table t)
         r (designArrays (now (ops .entry)) (now (args .entry)) (now (lines .entry)) (now («input_types» .entry)) (now («output_types» .entry)) (now («variable_types» .entry)) (now («output_values» .entry)) (now («variable_values» .entry)))
         (designArrays (now (ops .exit)) (now (args .exit)) (now (lines .exit)) (now («input_types» .exit)) (now («output_types» .exit)) (now («variable_types» .exit)) (now («output_values» .exit)) (now («variable_values» .exit)))) ⌝ }
 {
-    let mut owners = [0u8; 16384];
-    scope::resolve(text, kinds, starts, sizes, n, decls, p.names, &mut owners);
+    scope::resolve(text, kinds, starts, sizes, n, decls, p.names, owners);
     let ruling = rules::judge(
         text,
         starts,
@@ -92,7 +92,7 @@ fn ruled_text(
         indices,
         rows,
         decls,
-        &owners,
+        owners,
     );
     match ruling {
         Ruling::Free => Front::Accepted(layout::lay_out(
@@ -106,7 +106,7 @@ fn ruled_text(
             indices,
             rows,
             decls,
-            &owners,
+            owners,
             ops,
             args,
             lines,
@@ -120,14 +120,15 @@ fn ruled_text(
     }
 }
 
-// Refusals 3 and 4 on a text of n tokens, then the rules.
+// Refusals 3 and 4 on a text of n tokens, then the rules. The flags of the tokens are not needed after the parser: their array is lent on for the owners of
+// names, since clearing arrays is what a short text's compile spends most of its time on.
 fn parsed_text(
     text: &[u8],
     kinds: &[u8; 16384],
     starts: &[u16; 16384],
     sizes: &[u16; 16384],
     n: usize,
-    long: &[u8; 16384],
+    long: &mut [u8; 16384],
     ops: &mut [u8; 16384],
     args: &mut [i32; 16384],
     lines: &mut [u16; 3072],
@@ -138,7 +139,7 @@ fn parsed_text(
     variable_values: &mut [i32; 32],
 ) -> Front
     ensures { λ r. ⌜ (Sized (now (ops .entry)) (now (args .entry)) (now (lines .entry)) (now («input_types» .entry)) (now («output_types» .entry)) (now («variable_types» .entry)) (now («output_values» .entry)) (now («variable_values» .entry))
-        → (ts : List Token) → TokensIn ts (now (kinds .entry)) (now (starts .entry)) n → WordsIn (now (text .entry)) ts (now (sizes .entry)) n → Holds ts (now (kinds .entry)) (now (long .entry)) n
+        → length (now (long .entry)) ≡ 16384 → (ts : List Token) → TokensIn ts (now (kinds .entry)) (now (starts .entry)) n → WordsIn (now (text .entry)) ts (now (sizes .entry)) n → Holds ts (now (kinds .entry)) (now (long .entry)) n
         → FrontAs (parsedAs (length (now (text .entry))) ts (answer ts))
         r (designArrays (now (ops .entry)) (now (args .entry)) (now (lines .entry)) (now («input_types» .entry)) (now («output_types» .entry)) (now («variable_types» .entry)) (now («output_values» .entry)) (now («variable_values» .entry)))
         (designArrays (now (ops .exit)) (now (args .exit)) (now (lines .exit)) (now («input_types» .exit)) (now («output_types» .exit)) (now («variable_types» .exit)) (now («output_values» .exit)) (now («variable_values» .exit)))) ⌝ }
@@ -168,6 +169,7 @@ fn parsed_text(
             &indices,
             &rows,
             &decls,
+            long,
             ops,
             args,
             lines,
@@ -214,7 +216,7 @@ pub fn accept(
                 &starts,
                 &sizes,
                 n,
-                &long,
+                &mut long,
                 ops,
                 args,
                 lines,

@@ -6,6 +6,7 @@ use Prim.Native.Nat.{ℕ, zero, suc, _+_, _≤_, _<_, min}
 use native.Mathlib.Omega.{arith}
 use lib.Dec.{eqb, ltb}
 use lib.ListN.{length, getD, length-map, List·getD-map}
+use lib.Seq.{length-sets}
 use borrow.Author.Tests.{eqb-true}
 use Rattle.grammar.specs.Token.{Token, NAME, NUMBER}
 use Rattle.grammar.specs.Limits.{Each}
@@ -65,6 +66,11 @@ module _ (text kinds starts sizes : List ℕ) where
   flags-at i zero k l = absurd (omega arith)
   flags-at i (suc c) zero l = let z : i + 0 ≡ i = omega arith in rw z
   flags-at i (suc c) (suc k) l = let z : i + suc k ≡ i + 1 + k = omega arith in rw z (flags-at (i + 1) c k (omega arith))
+
+  -- marking leaves the array as long as it was
+  pub marked-size : (long : List ℕ) (n : ℕ) → length (marked text kinds starts sizes n long) ≡ length long
+  unfolding marked
+  marked-size long n = length-sets long 0 (flagsFrom text kinds starts sizes 0 (min n 16384))
 
   -- the array that marking leaves, read back
   pub marked-at : (long : List ℕ) (n i : ℕ) → length long ≡ 16384 → n ≤ 16384 → i < n → getD (marked text kinds starts sizes n long) i 0 ≡ flagAt text kinds starts sizes i

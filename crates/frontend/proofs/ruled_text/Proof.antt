@@ -21,10 +21,10 @@ enum-known-ruling : tie.Need-enum-known-ruling
 enum-known-ruling c = search needs
 
 returns : tie.Need-returns
-returns c = λ z ts t i. front-free (c .before .before .before .before .before .before .before .before .before .before .before .before .judge .ensures) (c .before .before .before .before .before .before .before .before .before .before .before .before .before .before .resolve .ensures) refl ts t i _ (c .before .before .before .before .before .before .before .before .before .before .enum-told .given .1) (c .lay-out .ensures z)
+returns c = λ z w ts t i. front-free (c .before .before .before .before .before .before .before .before .before .before .before .before .judge .ensures) (c .before .before .before .before .before .before .before .before .before .before .before .before .before .before .resolve .ensures) w ts t i _ (c .before .before .before .before .before .before .before .before .before .before .enum-told .given .1) (c .lay-out .ensures z)
 
 returns-2 : tie.Need-returns-2
-returns-2 c = λ z ts t i. front-offended (c .before .before .before .judge .ensures) (c .before .before .before .before .before .resolve .ensures) refl ts t i _ _ _ refl (c .before .ruling .given .1)
+returns-2 c = λ z w ts t i. front-offended (c .before .before .before .judge .ensures) (c .before .before .before .before .before .resolve .ensures) w ts t i _ _ _ refl (c .before .ruling .given .1)
 
 pub ruled-text-spec : {M : Type 1} → statement M
 ruled-text-spec =
