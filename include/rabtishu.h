@@ -42,7 +42,7 @@
  *    16  result of +, - or sign outside integer                           its line
  * Places of 1 to 9 are byte offsets of the text. Every place and every count is at most 65535 and is told as it is.
  *
- * Stack: rabtishu_compile, rabtishu_direct_fresh and rabtishu_direct keep their arrays on the stack of the caller's thread, about 260,000 bytes; every
+ * Stack: rabtishu_compile, rabtishu_direct_fresh and rabtishu_direct keep their arrays on the stack of the caller's thread, about 245,000 bytes; every
  * call has been run on the largest texts and images in a stack of 1 MiB.
  */
 #ifndef RABTISHU_H
