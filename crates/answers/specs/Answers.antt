@@ -1,5 +1,5 @@
 -- Document 01's number, place and values for each case of an answer. Assumes nothing.
-use mathlib.Core.Bool.{cond}
+use mathlib.Core.Bool.{Bool, true, false, cond}
 use Prim.Native.Nat.{ℕ}
 use lib.Dec.{eqb}
 use Rattle.answers.specs.declared.Refusal.{Refusal}
@@ -8,6 +8,8 @@ use Rattle.answers.specs.declared.Compiled.{Compiled}
 use Rattle.answers.specs.declared.Compiled.the-variants.{Written, NotCompiled}
 use Rattle.answers.specs.declared.Cycled.{Cycled}
 use Rattle.answers.specs.declared.Cycled.the-variants.{Performed, NotPerformed}
+use Rattle.answers.specs.declared.Started.{Started}
+use Rattle.answers.specs.declared.Started.the-variants.{Fresh, NotStarted}
 
 -- the column "No" of the table
 abbrev pub numberOf : Refusal → ℕ
@@ -64,3 +66,13 @@ bytesOf (NotCompiled r) = 0
 abbrev pub linesOf : Cycled → ℕ
 linesOf (Performed n) = n
 linesOf (NotPerformed r) = 0
+
+-- whether a cycle was performed
+abbrev pub isPerformed : Cycled → Bool
+isPerformed (Performed n) = true
+isPerformed (NotPerformed r) = false
+
+-- whether a fresh state is there
+abbrev pub isFresh : Started → Bool
+isFresh Fresh = true
+isFresh (NotStarted r) = false

@@ -1,6 +1,7 @@
 // What the public operations take and answer: the state record, the refusals of document 01's table, and one enum for each kind of answer.
 ghost use mathlib.Core.Path.{_≡_};
-ghost use Rattle.answers.specs.Answers.{numberOf, placeOf};
+ghost use Rattle.answers.specs.Answers.{numberOf, placeOf, isPerformed, isFresh};
+ghost use Rattle.answers.specs.declared.Cycled.the-variants.{NotPerformed};
 
 // "A place (512 for the beginning, else a wait's line), 16 output and 32 variable slots".
 pub struct State {
@@ -60,6 +61,48 @@ pub enum Started {
 pub enum Cycled {
     Performed(usize),
     NotPerformed(Refusal),
+}
+
+// A cycle's answer, and the state after it.
+pub struct Advanced {
+    pub state: State,
+    pub answer: Cycled,
+}
+
+// The answer to a fresh state asked for, and the state.
+pub struct FreshState {
+    pub state: State,
+    pub answer: Started,
+}
+
+// A refused cycle: the state as it came.
+pub fn refused(s: State, r: Refusal) -> Advanced
+    ensures { λ a. ⌜ a ≡ record { state = s; answer = NotPerformed r } ⌝ }
+{
+    Advanced {
+        state: s,
+        answer: Cycled::NotPerformed(r),
+    }
+}
+
+// Whether a cycle was performed.
+pub fn is_performed(c: Cycled) -> bool
+    ensures { λ r. ⌜ r ≡ isPerformed c ⌝ }
+{
+    match c {
+        Cycled::Performed(_) => true,
+        Cycled::NotPerformed(_) => false,
+    }
+}
+
+// Whether a fresh state is there.
+pub fn is_fresh(s: Started) -> bool
+    ensures { λ r. ⌜ r ≡ isFresh s ⌝ }
+{
+    match s {
+        Started::Fresh => true,
+        Started::NotStarted(_) => false,
+    }
 }
 
 // The refusal's number in the table.

@@ -5,16 +5,14 @@ use Prim.Native.Nat.{ℕ}
 use lib.ListN.{take}
 use lib.IntN.{ℤ}
 use Rattle.answers.specs.declared.State.{State}
-use Rattle.semantics.specs.Records.{Started, fresh, not-started}
-use Rattle.semantics.specs.Calls.{Called, Call}
+use Rattle.semantics.specs.Calls.{Called}
+use Rattle.semantics.specs.Advances.{startOf}
 use Rattle.format.specs.State.{freshOf}
 use Rattle.format.specs.Cycle.{cycleOf, callsOf}
 use Rattle.behaviour.specs.Direct.{directFresh, directCalls}
 use Rattle.direct.specs.Calls.{callOf}
 use Rattle.theorems.specs.Compile.{written, compileOf}
 use Rattle.theorems.proofs.Main.{demand3}
-use Rattle.runtime.specs.Calls as R
-use Rattle.interpreter.specs.Answering as I
 use Rattle.bench.specs.Rows.{Cycle, directCycle, calledOn, madeOn}
 
 -- two calls that agree one by one agree over all rows
@@ -24,18 +22,14 @@ unfolding calledOn
 calls-agree f g h s o [] = refl
 calls-agree f g h s o (i ∷ is) = rw (h s i o) (ap (λ (r : List Called). g s i o ∷ r) (calls-agree f g h (g s i o .state) (g s i o .row) is))
 
-starts-agree : (x : Started) → R.startOf x ≡ I.startOf x
-starts-agree (fresh s) = refl
-starts-agree (not-started q k) = refl
-
 -- The rows on the image that a compile wrote, and the rows from the text.
 pub rows-agree : (text buffer : List ℕ) (n : ℕ) → compileOf text buffer .answer ≡ written n → (o : List ℤ) (is : List (List ℤ))
-    → calledOn (cycleOf (take n (compileOf text buffer .buffer))) (R.startOf (freshOf (take n (compileOf text buffer .buffer)))) o is
-    ≡ calledOn (directCycle text) (I.startOf (directFresh text)) o is
+    → calledOn (cycleOf (take n (compileOf text buffer .buffer))) (startOf (freshOf (take n (compileOf text buffer .buffer)))) o is
+    ≡ calledOn (directCycle text) (startOf (directFresh text)) o is
 rows-agree text buffer n e o is =
     let d = demand3 text buffer n e in
-    ap (λ (s : State). calledOn (cycleOf (take n (compileOf text buffer .buffer))) s o is) (ap R.startOf (d .direct-start) ∙ starts-agree (directFresh text))
-    ∙ calls-agree (cycleOf (take n (compileOf text buffer .buffer))) (directCycle text) (λ s i o. d .direct s (callOf i o)) (I.startOf (directFresh text)) o is
+    ap (λ (s : State). calledOn (cycleOf (take n (compileOf text buffer .buffer))) s o is) (ap startOf (d .direct-start))
+    ∙ calls-agree (cycleOf (take n (compileOf text buffer .buffer))) (directCycle text) (λ s i o. d .direct s (callOf i o)) (startOf (directFresh text)) o is
 
 -- The rows are the calls of format's and behaviour's lists: each with the output row that the one before it left.
 pub rows-are-calls : (image : List ℕ) (s : State) (o : List ℤ) (is : List (List ℤ)) → calledOn (cycleOf image) s o is ≡ callsOf image s (madeOn (cycleOf image) s o is)

@@ -1,7 +1,7 @@
 -- Rows run in a loop come to what all of them come to: at every turn, what was told so far and what the rest from here comes to is what the whole comes to.
 -- Assumes nothing.
 use mathlib.Core.Path.{_≡_, refl, sym, ap, subst, _∙_}
-use mathlib.Core.Bool.{Bool, true, false, cond, _&&_}
+use mathlib.Core.Bool.{Bool, true, false, _&&_}
 use mathlib.Core.List.{List, [], _∷_}
 use Prim.Native.Nat.{ℕ, zero, suc, _+_, _-_, _≤_, _<_}
 use native.Mathlib.Omega.{arith}
@@ -15,10 +15,9 @@ use Rattle.answers.specs.declared.State.{State}
 use Rattle.answers.specs.declared.Cycled.{Cycled}
 use Rattle.answers.specs.Answers.{linesOf}
 use Rattle.semantics.specs.Calls.{Answer, performed, not-performed, Called, turnedBack}
+use Rattle.semantics.specs.Advances.{cycledOf}
 use Rattle.format.specs.Opening.{not-opened, openOf}
 use Rattle.format.specs.Cycle.{cycleOf}
-use Rattle.cycle.specs.Advances as C
-use Rattle.direct.specs.Calls as D
 use Rattle.runtime.specs.Calls.{wayOf}
 use Rattle.bench.specs.Rows.{Cycle, rowsOf, calledOn, linesIn, rowAfter, told, Runs, Adds}
 use Rattle.bench.specs.declared.Progress.{Progress}
@@ -140,23 +139,19 @@ module _ (f : Cycle) (l : List ℤ) (w : ℕ) (s₀ : State) (n₀ : ℕ) (o₀ 
 
 -- The lines of one call.
 
-pub table-lines : (a : Answer) → linesOf (C.cycledOf a) ≡ length (wayOf a)
-table-lines (performed way) = refl
-table-lines (not-performed q k) = refl
+cycled-lines : (a : Answer) → linesOf (cycledOf a) ≡ length (wayOf a)
+cycled-lines (performed way) = refl
+cycled-lines (not-performed q k) = refl
 
-pub direct-lines : (a : Answer) → linesOf (D.cycledOf a) ≡ length (wayOf a)
-direct-lines (performed way) = refl
-direct-lines (not-performed q k) = refl
-
--- the call of the part from .. from + w, whose lines n are put to those before it; `named` is the answer as the code has it
-pub adds : (named : Answer → Cycled) → ((x : Answer) → linesOf (named x) ≡ length (wayOf x)) → (f : Cycle) (s : State) (l : List ℤ) (from w : ℕ) (o : List ℤ)
-    → {before n k : ℕ} (a : Cycled) {t : State} {u : List ℤ} → n ≡ linesOf a → a ≡ named (f s (take (from + w - from) (drop from l)) o .answer) → k ≡ told (before + n)
+-- the call of the part from .. from + w, whose lines n are put to those before it
+pub adds : (f : Cycle) (s : State) (l : List ℤ) (from w : ℕ) (o : List ℤ)
+    → {before n k : ℕ} (a : Cycled) {t : State} {u : List ℤ} → n ≡ linesOf a → a ≡ cycledOf (f s (take (from + w - from) (drop from l)) o .answer) → k ≡ told (before + n)
     → t ≡ f s (take (from + w - from) (drop from l)) o .state → u ≡ f s (take (from + w - from) (drop from l)) o .row
     → Adds (f s (take w (drop from l)) o) before (record { lines = k; state = t }) u
-adds named law f s l from w o {before} {n} {k} a {t} {u} e g h i j =
+adds f s l from w o {before} {n} {k} a {t} {u} e g h i j =
     let z : from + w - from ≡ w = omega arith in
     subst (λ (m : ℕ). Adds (f s (take m (drop from l)) o) before (record { lines = k; state = t }) u) z
-    (record { lines = h ∙ ap (λ (x : ℕ). told (before + x)) (e ∙ ap linesOf g ∙ law _); state = i; row = j })
+    (record { lines = h ∙ ap (λ (x : ℕ). told (before + x)) (e ∙ ap linesOf g ∙ cycled-lines (f s (take (from + w - from) (drop from l)) o .answer)); state = i; row = j })
 
 -- rows from a state that is another one's name
 pub runs-from : {f : Cycle} {s t : State} {l : List ℤ} {w n : ℕ} {o : List ℤ} {k : ℕ} {u : List ℤ} → s ≡ t → Runs f s l w n o k u → Runs f t l w n o k u

@@ -10,10 +10,9 @@ ghost use Rattle.answers.specs.declared.Opened.the-variants.{Image};
 ghost use Rattle.format.specs.Opening.{openOf};
 ghost use Rattle.format.specs.State.{freshOf};
 ghost use Rattle.format.specs.Cycle.{cycleOf};
+ghost use Rattle.semantics.specs.Advances.{startOf};
 ghost use Rattle.loader.specs.Open.{openedAs};
-ghost use Rattle.runtime.specs.Calls as R;
 ghost use Rattle.behaviour.specs.Direct.{directFresh};
-ghost use Rattle.interpreter.specs.Answering as I;
 ghost use Rattle.bench.specs.Rows.{directCycle, told, Runs, Adds};
 use answers::Cycled;
 use answers::Opened;
@@ -111,7 +110,7 @@ pub extern "C" fn rabtishu_bench_opened(
     count: usize,
     row: &mut [i32],
 ) -> usize
-    ensures { λ r. ⌜ Runs (cycleOf (now (image .entry))) (R.startOf (freshOf (now (image .entry)))) (now (inputs .entry)) width count (now (row .entry)) r (now (row .exit)) ⌝ }
+    ensures { λ r. ⌜ Runs (cycleOf (now (image .entry))) (startOf (freshOf (now (image .entry)))) (now (inputs .entry)) width count (now (row .entry)) r (now (row .exit)) ⌝ }
 {
     let f = runtime::fresh(image);
     let s = f.state;
@@ -152,7 +151,7 @@ pub extern "C" fn rabtishu_bench_checked(
     count: usize,
     row: &mut [i32],
 ) -> usize
-    ensures { λ r. ⌜ Runs (cycleOf (now (image .entry))) (R.startOf (freshOf (now (image .entry)))) (now (inputs .entry)) width count (now (row .entry)) r (now (row .exit)) ⌝ }
+    ensures { λ r. ⌜ Runs (cycleOf (now (image .entry))) (startOf (freshOf (now (image .entry)))) (now (inputs .entry)) width count (now (row .entry)) r (now (row .exit)) ⌝ }
 {
     let f = runtime::fresh(image);
     let s = f.state;
@@ -197,7 +196,7 @@ pub extern "C" fn rabtishu_bench_direct(
     count: usize,
     row: &mut [i32],
 ) -> usize
-    ensures { λ r. ⌜ Runs (directCycle (now (text .entry))) (I.startOf (directFresh (now (text .entry)))) (now (inputs .entry)) width count (now (row .entry)) r (now (row .exit)) ⌝ }
+    ensures { λ r. ⌜ Runs (directCycle (now (text .entry))) (startOf (directFresh (now (text .entry)))) (now (inputs .entry)) width count (now (row .entry)) r (now (row .exit)) ⌝ }
 {
     let f = interpreter::fresh(text);
     let s = f.state;

@@ -23,11 +23,10 @@ use Rattle.cursor.specs.Tokens.{tokenAt}
 use Rattle.syntax.specs.Arrays.{numberIn}
 use Rattle.syntax.specs.Entries.{stmtEntry}
 use Rattle.syntax.specs.Headings.{modeCode, typeCode}
-use Rattle.syntax.specs.Lowest.{lowestOf, lower}
+use Rattle.syntax.specs.Lowest.{lowestOf, lower, lowestFrom}
 use Rattle.syntax.specs.Lowest as L
 use Rattle.syntax.proofs.Lowest.{lower-none, lowest-append, lowest-unless}
 use Rattle.offences.specs.Laid.{Laid}
-use Rattle.offences.specs.Positions.{lowestFrom}
 use Rattle.offences.proofs.Loops.{each-same}
 use Rattle.offences.proofs.Bodies.{NamedRow, NamedItem, ofNames, ofReads, ofItem, rows-lowest, items-lowest}
 use Rattle.offences.proofs.Found.{modeOf, typeOf, mode-found, type-found, same-owner}

@@ -7,9 +7,9 @@ use lib.Dec.{eqb, ltb}
 use lib.ListN.{getD}
 use Rattle.grammar.specs.Reader.{choose}
 use Rattle.language.specs.Lists.{unless}
-use Rattle.syntax.specs.Lowest.{lowestOf, lower}
+use Rattle.syntax.specs.Lowest.{lowestOf, lower, lowestFrom}
 use Rattle.syntax.specs.Arrays.{numberIn}
-use Rattle.offences.specs.Positions.{lowestFrom, modeIn, typeIn}
+use Rattle.offences.specs.Positions.{modeIn, typeIn}
 
 -- the index of the first wait's name, from row j on, c rows; 16384 for none
 unfoldable pub waitFrom : List ℕ → ℕ → ℕ → ℕ

@@ -1,21 +1,18 @@
 -- What the code's steps come to is the format's call: the state is the layout of a memory, the lines followed from it are the table's cycle, and a row on a
 -- good table is performed or refused by 16 where rows and state are right. Assumes nothing.
-use Prim.Native.Nat.{ℕ, zero, suc, _≤_, _<_}
+use Prim.Native.Nat.{ℕ, _≤_, _<_}
 use native.Mathlib.Omega.{arith}
 use mathlib.Core.Path.{_≡_, refl, sym, ap, subst, _∙_}
 use mathlib.Core.Bool.{true, false}
 use mathlib.Core.Option.{Option, none, some}
-use mathlib.Core.List.{List, [], _∷_, _++_, append-nil}
-use lib.ListN.{length, take, drop, drop-of-length-le}
+use mathlib.Core.List.{List, [], append-nil}
+use lib.ListN.{length, drop-of-length-le}
 use lib.IntN.{ℤ}
 use Rattle.answers.specs.declared.State.{State}
 use Rattle.answers.specs.declared.Cycled.the-variants.{Performed, NotPerformed}
 use Rattle.answers.specs.declared.Refusal.the-variants.{BadRow, BadState, OutOfRange}
-use Rattle.semantics.specs.Equations.{Memory, Run, Result, reached, refused}
-use Rattle.semantics.specs.Values.{Values}
+use Rattle.semantics.specs.Equations.{Memory}
 use Rattle.semantics.proofs.Basic.{none-some, and-left}
-use Rattle.semantics.proofs.Values.{values-length}
-use Rattle.format.specs.Signature.{types}
 use Rattle.format.specs.Walk.{tableCycle}
 use Rattle.format.specs.Image.{Table}
 use Rattle.format.specs.Good.{GoodTable}
@@ -23,30 +20,22 @@ use Rattle.format.specs.State.{placeOk, stateOk, memoryOf}
 use Rattle.semantics.specs.Records.{stateFor, pad}
 use Rattle.format.specs.Cycle.{rowPlace, rowOf}
 use Rattle.semantics.specs.Calls.{Called}
-use Rattle.images.specs.Outcome.{Typed, GoodState, Outcome, row-refused, state-refused, operator-refused, performs}
+use Rattle.images.specs.Outcome.{GoodState, Outcome, row-refused, state-refused, operator-refused, performs}
 use Rattle.images.proofs.InputRows.{row-exactly, row-right}
-use Rattle.images.proofs.States.{state-exactly, memory-back, types-length}
-use Rattle.semantics.proofs.Slots.{pad-length, pad-take}
+use Rattle.images.proofs.States.{state-exactly, memory-back}
+use Rattle.semantics.proofs.Slots.{pad-length, pad-first}
 use Rattle.images.proofs.Outcomes.{row-outcome}
-use Rattle.lines.specs.declared.Followed.{Followed}
 use Rattle.lines.specs.declared.Followed.the-variants.{Reached, Stopped, Spent}
 use Rattle.lines.specs.Follow.{Went}
 use Rattle.lines.proofs.Walks.{Shows}
 use Rattle.table.specs.declared.RowCheck.{RowCheck}
 use Rattle.table.specs.declared.RowCheck.the-variants.{Right, WrongAt}
 use Rattle.table.specs.Answers.{checkOf}
-use Rattle.cycle.specs.declared.Advanced.{Advanced}
+use Rattle.answers.specs.declared.Advanced.{Advanced}
 use Rattle.cycle.specs.Ran.{Checked, went, ranFor}
-use Rattle.cycle.specs.Advances.{cycledOf, rowAfter, Moves, Advances}
+use Rattle.cycle.specs.Moves.{rowAfter, Moves}
+use Rattle.semantics.specs.Advances.{cycledOf, Advances}
 use Rattle.cycle.proofs.Runs.{cycle-ran}
-
-pad-first : (n k : ℕ) (l : List ℤ) → length l ≡ k → k ≤ n → take k (pad n l) ≡ l
-unfolding pad
-pad-first n zero [] e h = refl
-pad-first n zero (z ∷ l) e h = absurd (omega arith)
-pad-first n (suc k) [] e h = absurd (omega arith)
-pad-first zero (suc k) (z ∷ l) e h = absurd (omega arith)
-pad-first (suc n) (suc k) (z ∷ l) e h = ap (λ (m : List ℤ). z ∷ m) (pad-first n k l (omega arith) (omega arith))
 
 module _ (s l c : List ℕ) (t : Table) (h : Checked s l c t) (x : State) (i o : List ℤ)
     (right : rowPlace (t .signature) i (length o) ≡ none) (ok : stateOk t x ≡ true) where

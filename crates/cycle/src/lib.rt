@@ -8,22 +8,20 @@ ghost use lib.IntN.{ℤ};
 ghost use Rattle.format.specs.Image.{Table};
 ghost use mathlib.Core.Bool.{true};
 ghost use Rattle.format.specs.State.{placeOk};
-ghost use Rattle.answers.specs.declared.Cycled.the-variants.{Performed, NotPerformed};
+ghost use Rattle.answers.specs.declared.Cycled.the-variants.{Performed};
 ghost use Rattle.format.specs.Cycle.{rowPlace, rowOf};
 ghost use Rattle.format.specs.State.{stateOk};
-ghost use Rattle.cycle.specs.Advances.{cycledOf, isPerformed, rowAfter, Moves};
+ghost use Rattle.cycle.specs.Moves.{rowAfter, Moves};
+ghost use Rattle.semantics.specs.Advances.{cycledOf};
 ghost use Rattle.cycle.specs.Ran.{Checked, went, ranFor};
+use answers::Advanced;
 use answers::Cycled;
 use answers::Refusal;
 use answers::State;
+use answers::is_performed;
+use answers::refused;
 use lines::Followed;
 use table::RowCheck;
-
-// A cycle's answer, and the state after it.
-pub struct Advanced {
-    pub state: State,
-    pub answer: Cycled,
-}
 
 // The first n bytes.
 fn first<'a>(s: &'a [u8], n: usize) -> &'a [u8]
@@ -63,16 +61,6 @@ pub fn follow_from(
         outputs,
         variables,
     )
-}
-
-// A refused cycle: the state as it came.
-fn refused(s: State, r: Refusal) -> Advanced
-    ensures { λ a. ⌜ a ≡ record { state = s; answer = NotPerformed r } ⌝ }
-{
-    Advanced {
-        state: s,
-        answer: Cycled::NotPerformed(r),
-    }
 }
 
 // A performed cycle: the wait reached, and the slots. No line of an opened image is that high.
@@ -131,16 +119,6 @@ fn judged(signature: &[u8], lines: &[u8], code: &[u8], inputs: &[i32], s: State)
         return run(signature, lines, code, inputs, s);
     }
     refused(s, Refusal::BadState)
-}
-
-// Whether a cycle was performed.
-fn is_performed(c: Cycled) -> bool
-    ensures { λ r. ⌜ r ≡ isPerformed c ⌝ }
-{
-    match c {
-        Cycled::Performed(_) => true,
-        Cycled::NotPerformed(_) => false,
-    }
 }
 
 // The output row of a cycle: it gets the outputs where the cycle was performed.

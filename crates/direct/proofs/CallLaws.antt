@@ -5,12 +5,11 @@ use native.Mathlib.Numerals.{add-one}
 use native.Mathlib.Omega.{arith}
 use native.Mathlib.Decide.{decLt}
 use mathlib.Core.Path.{_≡_, refl, sym, ap, subst, _∙_}
-use mathlib.Core.Bool.{Bool, true, false, cond, _&&_, _||_}
+use mathlib.Core.Bool.{Bool, true, false, _&&_, _||_}
 use mathlib.Core.Option.{Option, none, some}
 use mathlib.Core.List.{List, [], _∷_, _++_}
 use borrow.Author.Tests.{lt-ltb, le-ltb, eq-eqb, ne-eqb, leb-true}
-use lib.ListN.{length, getD, take, drop, set, length-map, length-take}
-use lib.Seq.{take-suc, take-suc-set, take-all}
+use lib.ListN.{length, getD, take, drop, length-map, length-take}
 use lib.IntN.{ℤ, pos}
 use lib.Dec.{eqb, ltb, leb}
 use Rattle.answers.specs.declared.State.{State}
@@ -20,17 +19,16 @@ use Rattle.design.specs.Types.{Ty, ExprTy, boolean}
 use Rattle.design.specs.Expression.{Expr, items, nth, plainly, typeOf}
 use Rattle.design.specs.Statement.{output, variable, null, Stmt, act, wait, if-then, if-else, while, seq, size, has}
 use Rattle.design.specs.Process.{Process, Source, Slot, sourceTypes, slotTypes, initials, WellFormed, fits, isType, typedAct, typed}
-use Rattle.semantics.specs.Equations.{Run, Result, reached, beginning, at, cycle}
+use Rattle.semantics.specs.Equations.{Run, Result, reached, at, cycle}
 use Rattle.semantics.specs.Rows.{rowRefusal, concluded, atFirst}
 use Rattle.semantics.specs.Way.{Ended, at-wait}
-use Rattle.semantics.proofs.Basic.{and-left, and-right, eqb-true, eqb-same}
+use Rattle.semantics.proofs.Basic.{and-left, and-right, eqb-same}
 use Rattle.semantics.proofs.Results.{has-below}
 use Rattle.semantics.specs.InputRow.{Fitting}
 use Rattle.semantics.proofs.Rows.{meets-none}
 use Rattle.semantics.proofs.Ends.{cycle-ends}
-use Rattle.semantics.specs.Records.{slotsOk, pad, stateFor}
-use Rattle.semantics.proofs.Slots.{counted-slots}
-use Rattle.semantics.specs.Records.{number}
+use Rattle.semantics.specs.Records.{pad, stateFor}
+use Rattle.semantics.proofs.Slots.{pad-first}
 use Rattle.semantics.specs.Comparison.{laid}
 use Rattle.semantics.specs.DirectRow.{fitsText, placeFor, keptOf, cycled, directRow}
 use Rattle.ir.specs.Arrays.{Row, At, typeCode, BodyIn, NamesIn}
@@ -39,12 +37,14 @@ use Rattle.execution.specs.Holding.{Short, HeldIn}
 use Rattle.execution.specs.Standing.{run, Stands}
 use Rattle.direct.specs.Checks.{checkOf, rowIs, slotsIn, placeIn, stateIs}
 use Rattle.semantics.specs.Calls.{Called}
-use Rattle.direct.specs.Calls.{Design, Names, callOf, fedOf, cycledOf, Advances}
+use Rattle.semantics.proofs.Described.{used-outputs, used-variables, outputs-long, variables-long, kept-laid}
+use Rattle.direct.specs.Calls.{Design, Names, callOf, fedOf}
+use Rattle.semantics.specs.Advances.{cycledOf, Advances}
 use Rattle.execution.specs.declared.Progress.{Progress}
 use Rattle.execution.specs.declared.Progress.the-variants.{Passed, Reached, Refused}
 use Rattle.direct.specs.declared.RowCheck.{RowCheck}
 use Rattle.direct.specs.declared.RowCheck.the-variants.{Right, WrongAt}
-use Rattle.direct.specs.declared.Advanced.{Advanced}
+use Rattle.answers.specs.declared.Advanced.{Advanced}
 use Rattle.execution.proofs.ResumeLaws.{not-below, not-above}
 use Rattle.direct.proofs.CheckLaws.{wrong-values, slots-types}
 
@@ -192,67 +192,10 @@ pad-part n k l′ l e h f q =
     let t : length (take k l) ≡ length l′ = simp length-take (omega arith) in
     ap (λ (r : List ℤ). l′ ++ drop k r) q ∙ subst (λ (x : ℕ). l′ ++ drop x (pad n (take k l)) ≡ pad n l′) f (pad-behind n l′ (take k l) t (omega arith))
 
-pad-first : (n k : ℕ) (l : List ℤ) → length l ≡ k → k ≤ n → take k (pad n l) ≡ l
-unfolding pad
-pad-first n zero [] e h = refl
-pad-first n zero (z ∷ l) e h = absurd (omega arith)
-pad-first n (suc k) [] e h = absurd (omega arith)
-pad-first zero (suc k) (z ∷ l) e h = absurd (omega arith)
-pad-first (suc n) (suc k) (z ∷ l) e h = ap (λ (m : List ℤ). z ∷ m) (pad-first n k l (omega arith) (omega arith))
-
-number-back : (n : ℕ) → number (placeFor n) ≡ n
-unfolding placeFor
-number-back n = go (eqb n 512) refl
-  where
-    go : (b : Bool) → eqb n 512 ≡ b → number (cond b beginning (at n)) ≡ n
-    go true e = sym (eqb-true n 512 e)
-    go false e = refl
-
 ended-has : {s : Stmt} {p : ℕ} {σ : Run} → Ended s (reached p σ) → has s 0 p ≡ true
 ended-has (at-wait p σ h) = h
 
 module _ (p : Process) (s : State) (f : fitsText p s ≡ true) where
-  abbrev place-fits : Bool
-  place-fits = eqb (s .place) 512 || has (p .body) 0 (s .place)
-
-  abbrev outputs-fit : Bool
-  outputs-fit = eqb (length (s .outputs)) 16 && slotsOk (slotTypes (p .outputs)) (s .outputs)
-
-  abbrev variables-fit : Bool
-  variables-fit = eqb (length (s .variables)) 32 && slotsOk (slotTypes (p .variables)) (s .variables)
-
-  pub placed : (eqb (s .place) 512 || has (p .body) 0 (s .place)) ≡ true
-  unfolding fitsText
-  placed = and-left place-fits (outputs-fit && variables-fit) f
-
-  outputs-parts : outputs-fit ≡ true
-  unfolding fitsText
-  outputs-parts = and-left outputs-fit variables-fit (and-right place-fits (outputs-fit && variables-fit) f)
-
-  variables-parts : variables-fit ≡ true
-  unfolding fitsText
-  variables-parts = and-right outputs-fit variables-fit (and-right place-fits (outputs-fit && variables-fit) f)
-
-  used-outputs : s .outputs ≡ pad 16 (take (length (p .outputs)) (s .outputs))
-  used-outputs = (rw (length-map (p .outputs) (λ (x : Slot). x .type)) at (counted-slots 16 (slotTypes (p .outputs)) (s .outputs) outputs-parts)) .1
-
-  used-variables : s .variables ≡ pad 32 (take (length (p .variables)) (s .variables))
-  used-variables = (rw (length-map (p .variables) (λ (x : Slot). x .type)) at (counted-slots 32 (slotTypes (p .variables)) (s .variables) variables-parts)) .1
-
-  kept-laid : laid (keptOf p s) ≡ s
-  unfolding keptOf stateFor
-  kept-laid =
-      let a = number-back (s .place) in
-      let o = sym used-outputs in
-      let v = sym used-variables in
-      λ i. record { place = a i; outputs = o i; variables = v i }
-
-  outputs-long : length (s .outputs) ≡ 16
-  outputs-long = eqb-true (length (s .outputs)) 16 (and-left (eqb (length (s .outputs)) 16) _ outputs-parts)
-
-  variables-long : length (s .variables) ≡ 32
-  variables-long = eqb-true (length (s .variables)) 32 (and-left (eqb (length (s .variables)) 32) _ variables-parts)
-
   module _ (w : WellFormed p) (i o : List ℤ) (room : length o ≡ length (p .outputs)) where
     -- the cycle from the slots in use
     abbrev Cycle : Result
@@ -265,13 +208,13 @@ module _ (p : Process) (s : State) (f : fitsText p s ≡ true) where
     made : (x : ℕ) (o′ v′ : List ℤ) → length o′ ≡ length (p .outputs) → length v′ ≡ length (p .variables) → Made x o′ v′ ≡ stateFor x (record { outputs = o′; variables = v′ })
     unfolding stateFor
     made x o′ v′ a b =
-        let c = pad-part 16 (length (p .outputs)) o′ (s .outputs) outputs-long (w .outputs) a used-outputs in
-        let d = pad-part 32 (length (p .variables)) v′ (s .variables) variables-long (w .variables) b used-variables in
+        let c = pad-part 16 (length (p .outputs)) o′ (s .outputs) (outputs-long p s f) (w .outputs) a (used-outputs p s f .1) in
+        let d = pad-part 32 (length (p .variables)) v′ (s .variables) (variables-long p s f) (w .variables) b (used-variables p s f .1) in
         λ j. record { place = x; outputs = c j; variables = d j }
 
     made-row : (o′ : List ℤ) → length o′ ≡ length (p .outputs) → take (length o) (o′ ++ drop (length (p .outputs)) (s .outputs)) ≡ o′
     made-row o′ a =
-        rw (room, pad-part 16 (length (p .outputs)) o′ (s .outputs) outputs-long (w .outputs) a used-outputs) (pad-first 16 (length (p .outputs)) o′ a (w .outputs))
+        rw (room, pad-part 16 (length (p .outputs)) o′ (s .outputs) (outputs-long p s f) (w .outputs) a (used-outputs p s f .1)) (pad-first 16 (length (p .outputs)) o′ a (w .outputs))
 
     pub reached-small : (x k : ℕ) (o′ v′ : List ℤ) → Stands Cycle (Reached x k) o′ v′ → x < 65536
     reached-small x k o′ v′ t =
@@ -309,7 +252,7 @@ module _ (p : Process) (s : State) (f : fitsText p s ≡ true) where
         → Advances (cycled p (keptOf p s) (callOf i o)) a o
     unfolding keptOf concluded
     refused-advances x o′ v′ t A e =
-        rw (t .is .1) (record { answer = ap (λ (y : Advanced). y .answer) e; state = ap (λ (y : Advanced). y .state) e ∙ sym kept-laid; row = refl })
+        rw (t .is .1) (record { answer = ap (λ (y : Advanced). y .answer) e; state = ap (λ (y : Advanced). y .state) e ∙ sym (kept-laid p s f); row = refl })
 
 -- THE CYCLE ON COPIES OF THE SLOTS IN USE
 
@@ -405,17 +348,6 @@ module _ (p : Process) (s : State) (i o : List ℤ) where
           absurd (let d : _≡_ {A = ℕ} 0 1 = cc in omega arith)
 
 -- THE OUTPUT ROW
-
--- one more element of a list written to a row
-pub row-more : (row target : List ℤ) (k : ℕ) (v : ℤ) → k < length row → k < length target → take k row ≡ take k target → v ≡ getD target k (pos 0)
-    → take (k + 1) (set row k v) ≡ take (k + 1) target
-row-more row target k v h j e f = rw add-one (take-suc-set row k v h ∙ rw (e, f) (sym (take-suc target k (pos 0) j)))
-
--- all elements written
-pub row-whole : (row target : List ℤ) (n k : ℕ) → length row ≡ n → k ≤ n → length row ≤ k → take k row ≡ take k target → row ≡ take n target
-row-whole row target n k e l m h =
-    let p : k ≡ n = omega arith in
-    sym (take-all k row m) ∙ h ∙ ap (λ j. take j target) p
 
 -- THE TESTS
 pub names-count : (p : Process) (is os vs : List ℕ) → Names p is os vs → (length os ≡ length (p .outputs)) × (length vs ≡ length (p .variables))

@@ -6,32 +6,24 @@ ghost use mathlib.Core.List.{List};
 ghost use Prim.Native.Nat.{ℕ, _≤_, _<_};
 ghost use lib.ListN.{length, take};
 ghost use Rattle.design.specs.Process.{Process, initials};
-ghost use Rattle.answers.specs.declared.Cycled.the-variants.{Performed, NotPerformed};
+ghost use Rattle.answers.specs.declared.Cycled.the-variants.{Performed};
 ghost use Rattle.semantics.specs.Rows.{rowRefusal, atFirst};
 ghost use Rattle.semantics.specs.Records.{pad};
 ghost use Rattle.semantics.specs.Comparison.{laid};
 ghost use Rattle.semantics.specs.DirectRow.{fitsText, keptOf, cycled, directRow};
-ghost use Rattle.direct.specs.Calls.{Design, Names, callOf, fedOf, cycledOf, Advances};
-use crate::Advanced;
+ghost use Rattle.direct.specs.Calls.{Design, Names, callOf, fedOf};
+ghost use Rattle.semantics.specs.Advances.{cycledOf, Advances};
 use crate::RowCheck;
 use crate::checks::row_check;
 use crate::checks::state_check;
+use answers::Advanced;
 use answers::Cycled;
 use answers::Refusal;
 use answers::State;
+use answers::refused;
 use execution::Progress;
 use execution::cycles::cycle;
 use operations::evaluation::number;
-
-// A refused cycle: the state as it came.
-fn refused(s: State, r: Refusal) -> Advanced
-    ensures { λ a. ⌜ a ≡ record { state = s; answer = NotPerformed r } ⌝ }
-{
-    Advanced {
-        state: s,
-        answer: Cycled::NotPerformed(r),
-    }
-}
 
 // The output row of a performed cycle: as many outputs as it has places for.
 fn write_row(outputs: &[i32; 16], row: &mut [i32])

@@ -2,17 +2,8 @@
 pub mod calls;
 mod checks;
 
-use answers::Cycled;
-use answers::State;
-
 // An input row is right, or refused by 14 at a place.
 enum RowCheck {
     Right,
     WrongAt(usize),
-}
-
-// A cycle's answer, and the state after it.
-pub struct Advanced {
-    pub state: State,
-    pub answer: Cycled,
 }

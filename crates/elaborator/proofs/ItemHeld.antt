@@ -1,7 +1,7 @@
 -- The operations by position are those of the items, which are those of the design. Assumes nothing.
 use mathlib.Core.Path.{_≡_, refl, sym, _∙_, ap}
-use mathlib.Core.Bool.{Bool, true, false, cond, not, _&&_}
-use mathlib.Core.Logic.{_⊎_, inl, inr}
+use mathlib.Core.Bool.{Bool, true, false, cond}
+use mathlib.Core.Logic.{inl, inr}
 use mathlib.Core.Option.{Option, none, some}
 use mathlib.Core.List.{List, [], _∷_, map}
 use Prim.Native.Nat.{ℕ, zero, suc, _+_, _≤_, _<_}
@@ -9,33 +9,34 @@ use native.Mathlib.Omega.{arith}
 use lib.Dec.{eqb}
 use lib.ListN.{length, getD}
 use lib.IntN.{pos}
-use borrow.Author.Tests.{lt-ltb, le-leb, eq-eqb, ne-eqb}
+use borrow.Author.Tests.{lt-ltb, le-leb, ne-eqb}
 use Rattle.grammar.specs.Token.{Token, NAME, NUMBER, ZERO, ONE}
 use Rattle.grammar.specs.Tree.{Mode, input, output-port, variable-mode, Text}
 use Rattle.grammar.specs.Reader.{choose}
 use Rattle.grammar.specs.Limits.{Each}
+use Rattle.grammar.proofs.Each.{each-at}
 use Rattle.language.specs.Bytes.{between}
 use Rattle.language.specs.Words.{value}
 use Rattle.language.specs.Lists.{filter}
-use Rattle.language.specs.Declarations.{Decl, Scope, scopeFor, declared, find, isInput, isOutput, isVariable, isClock, isData}
+use Rattle.language.specs.Declarations.{Decl, scopeFor, declared, find, isInput, isOutput, isVariable, isClock, isData}
 use Rattle.language.specs.Elaboration.{position}
 use Rattle.language.proofs.Facts.{find-name}
 use Rattle.lexer.specs.Places.{part}
 use Rattle.lexer.specs.TokenValues.{Valued, tokenValue}
 use Rattle.lexer.proofs.TokenValues.{number-token}
-use Rattle.cursor.specs.Tokens.{tokenAt}
+use Rattle.cursor.specs.Tokens.{tokenAt, noToken}
 use Rattle.expressions.specs.Postfix.{Item, itemOf}
-use Rattle.expressions.specs.Written.{Placed, itemAtIndex}
+use Rattle.expressions.specs.Written.{itemAtIndex}
 use Rattle.syntax.specs.Arrays.{TokensIn, OwnersIn, placedFrom}
 use Rattle.syntax.specs.Headings.{modeCode, headings, DeclsIn}
 use Rattle.syntax.specs.Kinded.{IsBit}
-use Rattle.offences.specs.Positions.{modeIn}
 use Rattle.offences.proofs.Tokens.{kind-inside}
 use Rattle.offences.proofs.Found.{modeOf, mode-found, decls-count}
 use Rattle.ir.specs.Operations.{Op, op, bitArg}
+use Rattle.limits.specs.Words.{WordsIn}
 use Rattle.elaborator.specs.Elaborated.{modeOp, foundOp, opOf}
-use Rattle.elaborator.specs.Positions.{numberAt, slotAt, within, literalAt, nameCode, nameArg, bitAt, codeAt, argAt, opsAt}
-use Rattle.elaborator.specs.Sources.{SourceIn, SlotsIn, Fine}
+use Rattle.elaborator.specs.Positions.{numberAt, slotAt, within, nameCode, nameArg, codeAt, argAt, opsAt}
+use Rattle.elaborator.specs.Sources.{SlotsIn, Fine}
 
 -- an index is no larger than its list
 pub position-within : (l : List Decl) (v : ℕ) → position l v ≤ length l
@@ -88,7 +89,7 @@ bit-op text x k w (inl z) e = let h : x .value ≡ 0 = w .value ∙ rw z in rw (
 bit-op text x k w (inr o) e = let h : x .value ≡ 1 = w .value ∙ rw o in rw (e, o, h)
 
 module _ (text : List ℕ) (ts : List Token) (kinds starts sizes owners decls slots : List ℕ) (n d : ℕ) (t : Text) (c : Option Token)
-    (T : TokensIn ts kinds starts n) (Z : SourceIn text ts sizes n) (O : OwnersIn ts (declared t) owners n) (D : DeclsIn ts (headings t) decls d)
+    (T : TokensIn ts kinds starts n) (Z : WordsIn text ts sizes n) (O : OwnersIn ts (declared t) owners n) (D : DeclsIn ts (headings t) decls d)
     (S : SlotsIn (declared t) (scopeFor (declared t) c) c slots) where
   -- what is read at an index that counts
   read : (l : List ℕ) (i : ℕ) → i < n → numberAt l i ≡ getD l i 0
@@ -112,14 +113,14 @@ module _ (text : List ℕ) (ts : List Token) (kinds starts sizes owners decls sl
       let l : i < n = kind-inside T i NUMBER k (omega arith) in
       let a : numberAt starts i ≡ tokenAt ts i .place = read starts i l ∙ T .place i l in
       let b : numberAt sizes i ≡ tokenAt ts i .size = read sizes i l ∙ Z .size i l in
-      let w : value 0 (part text (tokenAt ts i .place) (tokenAt ts i .size)) ≡ tokenAt ts i .value = sym (number-token text (tokenAt ts i) (Z .valued i l) k) in
+      let w : value 0 (part text (tokenAt ts i .place) (tokenAt ts i .size)) ≡ tokenAt ts i .value = sym (number-token text (tokenAt ts i) (each-at (Valued text) ts noToken (Z .valued) i (let k = T .count in omega arith)) k) in
       rw (a, b, w, within-fits (tokenAt ts i .value) (f .small refl), within-fits (tokenAt ts i .value) (f .small refl))
 
   bit-item : (i : ℕ) → Fine c (itemOf 3 (tokenAt ts i)) → op (codeAt owners decls d 3 i) (pos (within (argAt text starts sizes kinds owners decls d slots 3 i))) ≡ opOf (declared t) (scopeFor (declared t) c) (itemOf 3 (tokenAt ts i))
   unfolding codeAt argAt opOf
   bit-item i f =
       let l : i < n = inside (f .bit refl) in
-      bit-op text (tokenAt ts i) (numberAt kinds i) (Z .valued i l) (f .bit refl) (read kinds i l ∙ T .kind i l)
+      bit-op text (tokenAt ts i) (numberAt kinds i) (each-at (Valued text) ts noToken (Z .valued) i (let k = T .count in omega arith)) (f .bit refl) (read kinds i l ∙ T .kind i l)
     where
       inside : IsBit (tokenAt ts i) → i < n
       inside (inl z) = kind-inside T i ZERO z (omega arith)

@@ -3,7 +3,7 @@ use mathlib.Core.Path.{_≡_, refl, sym, _∙_, ap}
 use mathlib.Core.Bool.{Bool, true, false}
 use mathlib.Core.Logic.{_⊎_, inl, inr}
 use mathlib.Core.List.{List, [], _∷_, _++_, map, append-assoc}
-use Prim.Native.Nat.{ℕ, zero, suc, _+_, _≤_, _<_, min}
+use Prim.Native.Nat.{ℕ, suc, _+_, _≤_, _<_, min}
 use native.Mathlib.Omega.{arith}
 use lib.Dec.{eqb, ltb}
 use lib.ListN.{length, getD, take, drop, length-map, List·getD-eq-default}
@@ -15,6 +15,7 @@ use Rattle.grammar.specs.Tree as T
 use Rattle.grammar.specs.Tree.{input, output-port, variable-mode, Init, without, integer-literal, logic-literal, Group, Text}
 use Rattle.grammar.specs.Limits.{Each, initNumbers, groupNumbers, bodyExprs, exprsNumbers, textNumbers, WithinLimits}
 use Rattle.grammar.specs.Reader.{choose}
+use Rattle.grammar.proofs.Each.{each-at, each-join, each-split}
 use Rattle.design.specs.Types.{Ty, std-logic, integer}
 use Rattle.design.specs.Process.{sourceTypes, slotTypes, initials, WellFormed}
 use Rattle.language.specs.Bytes.{between}
@@ -31,18 +32,14 @@ use Rattle.syntax.specs.Kinded.{IsBit, KindedInit, KindedGroup, Kinded}
 use Rattle.syntax.specs.Headings.{initCode, initToken, valueToken, headings, valueIndex, DeclsIn}
 use Rattle.syntax.specs.Headings as H
 use Rattle.ir.specs.Arrays.{typeCode, NamesIn}
+use Rattle.limits.specs.Words.{WordsIn}
 use Rattle.elaborator.specs.Positions.{numberAt, fieldAt, literalAt, bitAt}
-use Rattle.elaborator.specs.Names.{ofMode, Filled, typeAt, typesOf, initialAt, valuesOf, inMode, Along, ClockIs, Spelled}
+use Rattle.elaborator.specs.Names.{ofMode, Filled, typeAt, typesOf, initialAt, valuesOf, inMode, Along, ClockIs}
 use Rattle.elaborator.proofs.NameLawsLaid.{RowOf, declared-count, laid, of-input, of-output, of-variable, picked-is, along-both, along-one}
 
 -- TOKENS
 
-each-token : (P : Token → Type 0) (ts : List Token) (i : ℕ) → Each P ts → i < length ts → P (tokenAt ts i)
-each-token P [] i h l = absurd (omega arith)
-each-token P (x ∷ ts) zero h l = h .0
-each-token P (x ∷ ts) (suc i) h l = each-token P ts i (h .1) (omega arith)
-
-module _ (text : List ℕ) (ts : List Token) (kinds starts sizes : List ℕ) (n : ℕ) (h : TokensIn ts kinds starts n) (s : Spelled text ts sizes n) where
+module _ (text : List ℕ) (ts : List Token) (kinds starts sizes : List ℕ) (n : ℕ) (h : TokensIn ts kinds starts n) (s : WordsIn text ts sizes n) where
   -- past the last token there is no kind
   inside : (i : ℕ) → (tokenAt ts i .kind ≡ 0 → ⊥) → i < n
   inside i g = go (ltb i n) refl
@@ -56,7 +53,7 @@ module _ (text : List ℕ) (ts : List Token) (kinds starts sizes : List ℕ) (n 
   number-is a i x l e = let k = h .short in rw (lt-ltb i 16384 (omega arith)) e
 
   valued-at : (i : ℕ) → i < n → Valued text (tokenAt ts i)
-  valued-at i l = let c = h .count in each-token (Valued text) ts i (s .valued) (omega arith)
+  valued-at i l = let c = h .count in each-at (Valued text) ts noToken (s .valued) i (omega arith)
 
   -- a number's value by its digits, "literal 2147483647" not being passed
   literal-is : (i : ℕ) (x : Token) → tokenAt ts i ≡ x → x .kind ≡ NUMBER → x .value ≤ 2147483647 → literalAt text starts sizes i ≡ x .value
@@ -106,14 +103,6 @@ module _ (text : List ℕ) (ts : List Token) (kinds starts sizes : List ℕ) (n 
 abbrev FineInit : Init → Type 0
 FineInit j = KindedInit j × Each (λ (x : Token). x .value ≤ 2147483647) (initNumbers j)
 
-each-join : {A : Type 0} (P : A → Type 0) (a b : List A) → Each P a → Each P b → Each P (a ++ b)
-each-join P [] b x y = y
-each-join P (d ∷ a) b x y = (x .0, each-join P a b (x .1) y)
-
-each-parts : {A : Type 0} (P : A → Type 0) (a b : List A) → Each P (a ++ b) → Each P a × Each P b
-each-parts P [] b x = (tt, x)
-each-parts P (d ∷ a) b x = let r = each-parts P a b (x .1) in ((x .0, r .0), r .1)
-
 declare-fine : (g : Group) (xs : List Token) → FineInit (g .init) → Each (λ (d : Decl). FineInit (d .init)) (declare g xs)
 unfolding declare
 declare-fine g [] f = tt
@@ -123,7 +112,7 @@ spread-fine : (gs : List Group) → Each KindedGroup gs → Each (λ (x : Token)
 unfolding spread groupNumbers
 spread-fine [] k l = tt
 spread-fine (g ∷ gs) k l =
-    let p = each-parts (λ (x : Token). x .value ≤ 2147483647) (initNumbers (g .init)) (groupNumbers gs) l in
+    let p = each-split (λ (x : Token). x .value ≤ 2147483647) (initNumbers (g .init)) (groupNumbers gs) l in
     each-join (λ (d : Decl). FineInit (d .init)) (declare g (g .names)) (spread gs) (declare-fine g (g .names) (k .0 .init, p .0)) (spread-fine gs (k .1) (p .1))
 
 spread-append : (a b : List Group) → spread (a ++ b) ≡ spread a ++ spread b
@@ -134,8 +123,8 @@ spread-append (g ∷ a) b = ap (λ (l : List Decl). declare g (g .names) ++ l) (
 declared-fine : (t : Text) → Kinded t → WithinLimits t → Each (λ (d : Decl). FineInit (d .init)) (declared t)
 unfolding declared groups textNumbers
 declared-fine t k w =
-    let p = each-parts (λ (x : Token). x .value ≤ 2147483647) (groupNumbers (t .ports)) (groupNumbers (t .vars) ++ exprsNumbers (bodyExprs (t .body))) (w .literals) in
-    let q = each-parts (λ (x : Token). x .value ≤ 2147483647) (groupNumbers (t .vars)) (exprsNumbers (bodyExprs (t .body))) (p .1) in
+    let p = each-split (λ (x : Token). x .value ≤ 2147483647) (groupNumbers (t .ports)) (groupNumbers (t .vars) ++ exprsNumbers (bodyExprs (t .body))) (w .literals) in
+    let q = each-split (λ (x : Token). x .value ≤ 2147483647) (groupNumbers (t .vars)) (exprsNumbers (bodyExprs (t .body))) (p .1) in
     rw (spread-append (t .ports) (t .vars))
     (each-join (λ (d : Decl). FineInit (d .init)) (spread (t .ports)) (spread (t .vars)) (spread-fine (t .ports) (k .ports) (p .0)) (spread-fine (t .vars) (k .vars) (q .0)))
 
@@ -176,7 +165,7 @@ unfolding slot
 slot-initials [] = refl
 slot-initials (d ∷ F) = ap (λ (l : List ℤ). initial (d .init) ∷ l) (slot-initials F)
 
-module _ (text : List ℕ) (ts : List Token) (kinds starts sizes : List ℕ) (n : ℕ) (tokens : TokensIn ts kinds starts n) (spelled : Spelled text ts sizes n)
+module _ (text : List ℕ) (ts : List Token) (kinds starts sizes : List ℕ) (n : ℕ) (tokens : TokensIn ts kinds starts n) (spelled : WordsIn text ts sizes n)
     (t : Text) (decls : List ℕ) (d clock : ℕ) (rows : DeclsIn ts (headings t) decls d) (clocked : ClockIs (clockOf t) clock (declared t))
     (kinded : Kinded t) (limits : WithinLimits t) where
   along : Along (RowOf ts decls) 0 (declared t)

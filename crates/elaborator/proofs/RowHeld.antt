@@ -1,26 +1,25 @@
 -- The rows by position are those of the design's statements. Assumes nothing.
-use mathlib.Core.Path.{_≡_, refl, sym, _∙_, ap}
+use mathlib.Core.Path.{_≡_, refl, _∙_, ap}
 use mathlib.Core.Bool.{Bool, true, false}
 use mathlib.Core.Option.{Option, none, some}
 use mathlib.Core.List.{List, [], _∷_, _++_, map}
-use Prim.Native.Nat.{ℕ, zero, suc, _+_, _*_, _≤_, _<_}
+use Prim.Native.Nat.{ℕ, zero, suc, _+_, _*_, _<_}
 use native.Mathlib.Omega.{arith}
 use lib.Dec.{eqb}
 use lib.ListN.{length, getD, length-map}
-use borrow.Author.Tests.{lt-ltb, eq-eqb, ne-eqb, eqb-true, eqb-false}
+use borrow.Author.Tests.{lt-ltb, eqb-true}
 use Rattle.grammar.specs.Token.{Token, NAME}
 use Rattle.grammar.specs.Tree as T
-use Rattle.grammar.specs.Tree.{Body, Text}
+use Rattle.grammar.specs.Tree.{Body}
 use Rattle.grammar.specs.Reader.{choose}
 use Rattle.grammar.specs.Limits.{Each}
+use Rattle.grammar.proofs.Each.{each-join}
 use Rattle.language.specs.Lists.{each, unless}
-use Rattle.language.specs.Declarations.{Decl, Scope, scopeFor, declared, find, isA, isOutput, isVariable, within, statements}
+use Rattle.language.specs.Declarations.{Decl, scopeFor, find, isA, isOutput, isVariable, within, statements}
 use Rattle.language.specs.Names.{namesIn, namesOf}
 use Rattle.language.specs.Elaboration.{position}
 use Rattle.language.proofs.Facts.{both-nil, each-nil, unless-nil}
-use Rattle.language.proofs.WellTyped.{each-join}
 use Rattle.cursor.specs.Tokens.{tokenAt}
-use Rattle.expressions.specs.Postfix.{postfix}
 use Rattle.statements.specs.Entries.{stmtEntries, bodyEntries}
 use Rattle.statements.specs.Entries as S
 use Rattle.statements.specs.Rows as R
@@ -28,11 +27,10 @@ use Rattle.syntax.specs.Arrays as A
 use Rattle.syntax.specs.Arrays.{TokensIn, OwnersIn}
 use Rattle.syntax.specs.Kinded.{KindedStmt, KindedBody}
 use Rattle.offences.proofs.Tokens.{kind-inside}
-use Rattle.ir.specs.Operations.{Op}
 use Rattle.ir.specs.Entries.{Entry}
 use Rattle.ir.specs.Arrays.{Row, rowIn, rowsFrom, rowsOf}
 use Rattle.elaborator.specs.Elaborated.{opOf, targetOf, entryOf}
-use Rattle.elaborator.specs.Positions.{numberAt, slotAt, targetAt, rowAt, rowsAt}
+use Rattle.elaborator.specs.Positions.{numberAt, slotAt, targetAt, rowsAt}
 use Rattle.elaborator.specs.Sources.{SlotsIn}
 
 -- the same six numbers

@@ -10,22 +10,18 @@ use Rattle.grammar.specs.Token.{Token}
 use Rattle.grammar.specs.Tree as T
 use Rattle.grammar.specs.Tree.{Body}
 use Rattle.grammar.specs.Limits.{Each, exprNumbers, exprsNumbers, stmtExprs, bodyExprs}
+use Rattle.grammar.proofs.Each.{each-split, each-join}
 use Rattle.language.specs.Lists.{each}
 use Rattle.language.specs.Declarations.{within, statements, isClock}
 use Rattle.language.specs.Clock.{readsIn, readsOf}
 use Rattle.language.proofs.Facts.{both-nil, each-nil, unless-nil, not-true}
-use Rattle.language.proofs.WellTyped.{each-split, each-join}
+use Rattle.language.proofs.Expressions.{Unread}
 use Rattle.expressions.specs.Postfix.{Item, itemOf, postfix}
 use Rattle.expressions.proofs.Folds.{Steps, postfix-whole}
 use Rattle.statements.specs.Entries.{Entry, stmtEntries, bodyEntries, entryItems}
 use Rattle.statements.proofs.Lines.{entry-items-append}
 use Rattle.syntax.specs.Kinded.{KindedExpr, KindedStmt, KindedBody}
 use Rattle.elaborator.specs.Sources.{Fine}
-
--- where there is no clock no name is its; else no name in the expression is
-abbrev pub Unread : Option Token → T.Expr → Type 0
-Unread none e = Unit {0}
-Unread (some w) e = readsIn (w .value) e ≡ []
 
 abbrev pub UnreadAll : Option Token → List T.Stmt → Type 0
 UnreadAll none l = Unit {0}

@@ -1,8 +1,7 @@
 -- THE LAW of the elaborator: for an accepted tree, the operations and rows that are stored lay out the body of its design. Assumes nothing.
 use mathlib.Core.Path.{_≡_, refl, sym, _∙_, ap}
-use mathlib.Core.Bool.{Bool, true, false, cond}
 use mathlib.Core.Option.{Option, none, some}
-use mathlib.Core.List.{List, [], _∷_, _++_, map, map-append}
+use mathlib.Core.List.{List, [], _∷_, map, map-append}
 use Prim.Native.Nat.{ℕ, zero, suc, _+_, _*_, min, _≤_, _<_}
 use native.Mathlib.Omega.{arith}
 use lib.ListN.{length, getD, set, length-set, length-map}
@@ -10,33 +9,32 @@ use lib.Seq.{sets, getD-set-same, getD-set-other}
 use lib.IntN.{ℤ, pos}
 use Rattle.grammar.specs.Token.{Token}
 use Rattle.grammar.specs.Tree.{Stmt, Text}
-use Rattle.grammar.specs.Limits.{Each, exprsNumbers, bodyExprs}
+use Rattle.grammar.specs.Limits.{exprsNumbers, bodyExprs}
 use Rattle.language.specs.Lists.{each, unless}
 use Rattle.language.specs.Declarations.{Decl, declared, find, isA, statements, clockOf, clockLike, scopeFor, scopeOf}
 use Rattle.language.specs.Names.{names, namesOf, differs, doubled}
 use Rattle.language.specs.Clock.{clock, clockFor, readsOf, strays}
-use Rattle.language.specs.Elaboration.{stmts, processFor, elaborate}
+use Rattle.language.specs.Elaboration.{processFor, elaborate}
 use Rattle.language.proofs.Facts.{both-nil, unless-nil}
-use Rattle.cursor.specs.Tokens.{tokenAt}
-use Rattle.expressions.specs.Postfix.{Item}
 use Rattle.statements.specs.Entries.{bodyEntries, entryItems}
 use Rattle.statements.specs.Entries as S
 use Rattle.statements.specs.Rows.{Row, storeRows}
 use Rattle.syntax.specs.Arrays.{TokensIn, OwnersIn, ItemsIn}
 use Rattle.syntax.specs.Arrays as A
 use Rattle.syntax.specs.Headings.{headings, DeclsIn}
-use Rattle.syntax.specs.Kinded.{Kinded, KindedBody}
+use Rattle.syntax.specs.Kinded.{KindedBody}
 use Rattle.syntax.proofs.Stored.{rows-read}
 use Rattle.ir.specs.Operations.{Op}
 use Rattle.ir.specs.Entries.{Entry, entries, entryOps}
-use Rattle.ir.specs.Arrays.{opsFrom, OpsIn, rowsFrom, rowsOf, RowsIn, BodyIn}
+use Rattle.ir.specs.Arrays.{opsFrom, rowsFrom, rowsOf, RowsIn, BodyIn}
+use Rattle.limits.specs.Words.{WordsIn}
 use Rattle.elaborator.specs.Elaborated.{opOf, entryOf}
 use Rattle.elaborator.specs.Positions.{codeAt, argAt, opsAt, Elaborates, rowsAt}
-use Rattle.elaborator.specs.Sources.{SourceIn, SlotsIn, Fine}
+use Rattle.elaborator.specs.Sources.{SlotsIn}
 use Rattle.elaborator.proofs.Trees.{entries-body, block}
 use Rattle.elaborator.proofs.ItemHeld.{ops-are}
 use Rattle.elaborator.proofs.TreeFine.{UnreadAll, Small, body-fine}
-use Rattle.elaborator.proofs.RowHeld.{irRow, same-rows, Targets, rows-are, body-targets}
+use Rattle.elaborator.proofs.RowHeld.{irRow, same-rows, rows-are, body-targets}
 
 -- READING BACK
 
@@ -104,7 +102,7 @@ named t h =
 -- THE LAW
 
 module _ (text : List ℕ) (ts : List Token) (t : Text) (kinds starts sizes owners decls slots codes indices rows : List ℕ) (n d k s : ℕ)
-    (T : TokensIn ts kinds starts n) (Z : SourceIn text ts sizes n) (O : OwnersIn ts (declared t) owners n) (D : DeclsIn ts (headings t) decls d)
+    (T : TokensIn ts kinds starts n) (Z : WordsIn text ts sizes n) (O : OwnersIn ts (declared t) owners n) (D : DeclsIn ts (headings t) decls d)
     (L : SlotsIn (declared t) (scopeOf t) (clockOf t) slots) (I : ItemsIn ts (entryItems (bodyEntries (t .body))) codes indices k)
     (R : A.RowsIn ts (bodyEntries (t .body)) rows s) (K : KindedBody (t .body)) (small : Small (exprsNumbers (bodyExprs (t .body)))) (five : names t ≡ []) (eight : clock t ≡ []) where
   -- the operations that the items become

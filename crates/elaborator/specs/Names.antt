@@ -4,19 +4,16 @@ use mathlib.Core.Path.{_≡_}
 use mathlib.Core.Bool.{Bool, true, false, not}
 use mathlib.Core.Option.{Option}
 use mathlib.Core.List.{List, [], _∷_}
-use Prim.Native.Nat.{ℕ, zero, suc, _+_, _<_, min}
+use Prim.Native.Nat.{ℕ, zero, suc, _+_, min}
 use lib.Dec.{eqb}
-use lib.ListN.{length, getD, take}
+use lib.ListN.{length, take}
 use lib.Seq.{sets}
 use lib.IntN.{ℤ, pos}
 use Rattle.grammar.specs.Token.{Token}
 use Rattle.grammar.specs.Tree.{Mode, input, output-port, variable-mode}
-use Rattle.grammar.specs.Limits.{Each}
 use Rattle.grammar.specs.Reader.{choose}
 use Rattle.language.specs.Declarations.{Decl, isOutput, isVariable, isClock, isData}
 use Rattle.language.specs.Elaboration.{minus}
-use Rattle.lexer.specs.TokenValues.{Valued}
-use Rattle.cursor.specs.Tokens.{tokenAt}
 use Rattle.elaborator.specs.Positions.{fieldAt, literalAt, bitAt}
 
 -- declaration k is of the mode m (0 in, 1 out, 2 variable); "the data inputs (all but the clock)"
@@ -83,8 +80,3 @@ Along R k (d ∷ Δ) = R k d × Along R (k + 1) Δ
 -- the declaration with the clock's number, and no other, has the clock's name
 abbrev pub ClockIs : Option Token → ℕ → List Decl → Type 0
 ClockIs c clock Δ = Along (λ (k : ℕ) (d : Decl). eqb k clock ≡ isClock c (d .name .value)) 0 Δ
-
--- the array holds the sizes of n tokens of the text, and every token's value is that of its bytes
-pub record Spelled (text : List ℕ) (ts : List Token) (sizes : List ℕ) (n : ℕ) : Type 0 where
-  pub size : (i : ℕ) → i < n → getD sizes i 0 ≡ tokenAt ts i .size
-  pub valued : Each (Valued text) ts

@@ -3,21 +3,13 @@ use mathlib.Core.Path.{_≡_}
 use mathlib.Core.Bool.{true, false}
 use mathlib.Core.Option.{Option, some}
 use mathlib.Core.List.{List}
-use Prim.Native.Nat.{ℕ, _≤_, _<_}
-use lib.ListN.{getD}
+use Prim.Native.Nat.{ℕ, _≤_}
 use Rattle.grammar.specs.Token.{Token, NAME, NUMBER}
 use Rattle.language.specs.Declarations.{Decl, Scope, find, isOutput, isVariable, isClock, isData}
 use Rattle.language.specs.Elaboration.{position}
-use Rattle.lexer.specs.TokenValues.{Valued}
-use Rattle.cursor.specs.Tokens.{tokenAt}
 use Rattle.expressions.specs.Postfix.{Item}
 use Rattle.syntax.specs.Kinded.{IsBit}
 use Rattle.elaborator.specs.Positions.{slotAt}
-
--- the array holds the tokens' sizes, and each token's value is that of its bytes
-pub record SourceIn (text : List ℕ) (ts : List Token) (sizes : List ℕ) (n : ℕ) : Type 0 where
-  pub size : (i : ℕ) → i < n → getD sizes i 0 ≡ tokenAt ts i .size
-  pub valued : (i : ℕ) → i < n → Valued text (tokenAt ts i)
 
 -- the array holds, for each declaration, its index among the data inputs, the outputs or the variables; c is the clock's name
 pub record SlotsIn (Δ : List Decl) (Γ : Scope) (c : Option Token) (slots : List ℕ) : Type 0 where

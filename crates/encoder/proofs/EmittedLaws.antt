@@ -1,26 +1,25 @@
 -- Stores one behind another; the bytes by position are those of the design's code and lines. Assumes nothing.
-use Prim.Native.Nat.{ℕ, zero, suc, _+_, _%_, _≤_, _<_}
+use Prim.Native.Nat.{ℕ, zero, suc, _+_, _%_, _≤_}
 use native.Mathlib.Omega.{arith}
 use mathlib.Core.Path.{_≡_, refl, sym, ap, _∙_}
 use mathlib.Core.Bool.{Bool, true, false, cond}
-use mathlib.Core.Option.{Option, none, some}
+use mathlib.Core.Option.{Option, some}
 use mathlib.Core.List.{List, [], _∷_, _++_, append-assoc, append-nil}
 use lib.ListN.{length, getD, set, length-append}
 use lib.Seq.{sets}
 use lib.Dec.{eqb, ltb}
 use lib.IntN.{ℤ, pos}
 use Rattle.design.specs.Types.{Ty, ExprTy}
-use Rattle.design.specs.Expression.{Leaf, int, bit, input, variable, Unary, sign, invert, Binary, plus, minus, equal, unequal, less, at-most, greater, at-least, and, or, xor, Expr, leaf, unary, binary, nth, plainly, leafType, unaryType, binaryType, typeOf}
+use Rattle.design.specs.Expression.{Leaf, int, bit, input, variable, Unary, sign, invert, Binary, plus, minus, equal, unequal, less, at-most, greater, at-least, and, or, xor, Expr, leaf, unary, binary, leafType, unaryType, binaryType, typeOf}
 use Rattle.design.proofs.Postfix.{Steps, lay-whole}
 use Rattle.semantics.specs.Twos.{unsigned32}
 use Rattle.format.specs.Words as Words
 use Rattle.format.specs.Image.{raw, rawBytes}
 use Rattle.format.specs.Code.{Operation, push, apply1, apply2, post, operationBytes, code}
 use Rattle.design.specs.Process.{fits}
-use Rattle.semantics.proofs.Basic.{none-some}
 use Rattle.format.proofs.Decoding.{given-some, given2-some}
 use Rattle.format.proofs.Lines.{fits-type}
-use Rattle.format.proofs.Encoded.{operation-append}
+use Rattle.format.proofs.Encoded.{operation-append, named-below}
 use Rattle.ir.specs.Operations.{Op, op, leafOp, unaryCode, binaryCode, ops}
 use Rattle.ir.specs.Arrays.{opsFrom}
 use Rattle.ir.proofs.Laid.{unaryOp, binaryOp, ops-laid}
@@ -84,20 +83,6 @@ binary-flat at-least = refl
 binary-flat and = refl
 binary-flat or = refl
 binary-flat xor = refl
-
-nth-below : {X : Type 0} (l : List X) (k : ℕ) (x : X) → nth l k ≡ some x → k < length l
-unfolding nth
-nth-below [] k x e = none-some x e
-nth-below (y ∷ l) zero x e = omega arith
-nth-below (y ∷ l) (suc k) x e = let h = nth-below l k x e in omega arith
-
--- a name that has a type is one of the declared
-pub named-below : (l : List Ty) (k : ℕ) (t : ExprTy) → plainly (nth l k) ≡ some t → k < length l
-named-below l k t e = go (nth l k) refl e
-  where
-    go : (o : Option Ty) → nth l k ≡ o → plainly o ≡ some t → k < length l
-    go none q m = unfold plainly in none-some t m
-    go (some s) q m = nth-below l k s q
 
 module _ (is vs : List Ty) (hi : length is ≤ 256) (hv : length vs ≤ 256) where
   leaf-flat : (l : Leaf) (t : ExprTy) → leafType is vs l ≡ some t → flatBytes (leafOp l ∷ []) ≡ operationBytes (push l ∷ [])

@@ -17,6 +17,7 @@ use Rattle.format.specs.Code.{code}
 use Rattle.format.specs.Lines.{Line, waits, acts, branches, lines, line, next}
 use Rattle.format.specs.Image.{RawLine, raw, rawOf, rawsOf, lineCode, linesCode}
 use Rattle.format.proofs.Lines.{fits-type}
+use Rattle.format.proofs.Encoded.{named-below}
 use Rattle.simulation.proofs.Lines.{Each}
 use Rattle.ir.specs.Operations.{Op, ops}
 use Rattle.ir.specs.Entries.{entries, entryOps}
@@ -24,7 +25,7 @@ use Rattle.ir.specs.Arrays.{Row, rowIn, At}
 use Rattle.ir.proofs.Held.{Own, at-first, at-rest, at-output, at-variable, at-null, at-wait, at-if, at-while, at-else, entry-ops-append}
 use Rattle.links.specs.Followers.{Links, otherOf}
 use Rattle.encoder.specs.Emitted.{widthFrom, runWidth, kindByte, lineAt, linesFrom}
-use Rattle.encoder.proofs.EmittedLaws.{flatBytes, flat-append, code-flat, width-code, named-below, code-is}
+use Rattle.encoder.proofs.EmittedLaws.{flatBytes, flat-append, code-flat, width-code, code-is}
 
 -- LINES
 

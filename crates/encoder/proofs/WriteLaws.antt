@@ -14,10 +14,11 @@ use Rattle.design.specs.Statement.{size}
 use Rattle.design.specs.Process.{Source, Slot, Process, WellFormed, sourceTypes, slotTypes, initials}
 use Rattle.format.specs.Words.{bytes4}
 use Rattle.semantics.specs.Twos.{unsigned32}
-use Rattle.format.specs.Lines.{Line, lines, linesOf, line, reachesOf}
+use Rattle.format.specs.Lines.{lines, linesOf, line, reachesOf}
 use Rattle.format.specs.Signature.{typeByte, typeBytes, cellBytes, signatureBytes}
-use Rattle.format.specs.Image.{rawsOf, rawsBytes, lineCode, linesCode, pairs, joined, image, form1, sectionsFor, encodeTable}
+use Rattle.format.specs.Image.{rawsOf, rawsBytes, linesCode, pairs, joined, image, form1, sectionsFor, encodeTable}
 use Rattle.format.specs.Encode.{cells, signatureFor, tableOf, encode}
+use Rattle.format.proofs.Encoded.{raws-length}
 use Rattle.simulation.proofs.Lines.{linesOf-length, linesOf-line}
 use Rattle.simulation.proofs.Reaches.{reachesOf-length}
 use Rattle.ir.specs.Arrays.{typeCode, BodyIn, NamesIn}
@@ -149,13 +150,6 @@ code-held {p} {codes} {args} {rows} {k} {n} b w =
     ∙ lines-code codes args rows (sourceTypes (p .inputs)) (slotTypes (p .outputs)) (slotTypes (p .variables)) (few .0) (few .1) (few .2) (p .body) 0 0 (w .typed)
 
 -- THE WHOLE
-
-raws-length : (p : ℕ) (ls : List Line) (qs : List ℕ) → length qs ≡ length ls → length (rawsBytes (rawsOf p ls qs)) ≡ 12 * length ls
-unfolding rawsOf rawsBytes
-raws-length p [] [] e = omega arith
-raws-length p [] (q ∷ qs) e = omega arith
-raws-length p (l ∷ ls) [] e = absurd (omega arith)
-raws-length p (l ∷ ls) (q ∷ qs) e = let h = raws-length (p + length (lineCode l)) ls qs (omega arith) in omega arith
 
 -- an image from its three sections
 encode-is : (p : Process) → encode p ≡ headerOf (length (signatureBytes (signatureFor p))) (length (rawsBytes (rawsOf 0 (linesOf (p .body)) (reachesOf (p .body))))) (length (linesCode (linesOf (p .body))))

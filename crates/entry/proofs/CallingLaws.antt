@@ -2,7 +2,7 @@
 use Prim.Native.Nat.{ℕ}
 use native.Mathlib.Omega.{arith}
 use mathlib.Core.Path.{_≡_, refl, sym, ap, _∙_}
-use mathlib.Core.Bool.{Bool, true, false}
+use mathlib.Core.Bool.{Bool, false}
 use mathlib.Core.List.{List, []}
 use lib.IntN.{ℤ}
 use Rattle.semantics.proofs.Basic.{false-true}
@@ -16,15 +16,16 @@ use Rattle.semantics.specs.Answer.{Answers}
 use Rattle.semantics.specs.Answer as A
 use Rattle.semantics.specs.Calls.{Answer, performed, not-performed, Called, Call}
 use Rattle.semantics.specs.Comparison.{fed, laid, told}
-use Rattle.cycle.specs.Advances.{isPerformed}
+use Rattle.answers.specs.Answers.{isPerformed}
 use Rattle.theorems.specs.Promises.{RunsText}
 use Rattle.theorems.specs.Promises as P
 use Rattle.behaviour.specs.Direct.{directOf}
 use Rattle.theorems.proofs.Main.{demand1}
 use Rattle.direct.specs.Calls.{callOf}
-use Rattle.direct.specs.declared.Advanced.{Advanced}
-use Rattle.interpreter.specs.Answering.{cycledOf}
-use Rattle.entry.specs.Calling.{DirectOutcomes, Starting, isFresh}
+use Rattle.answers.specs.declared.Advanced.{Advanced}
+use Rattle.semantics.specs.Advances.{cycledOf, startedOf, startOf}
+use Rattle.entry.specs.Calling.{DirectOutcomes, Starting}
+use Rattle.answers.specs.Answers.{isFresh}
 
 -- a row of the equations that is refused keeps what was kept
 row-untouched : (d : Process) (k : Kept) (c : Call) (r : Outcome × Kept) (q x : ℕ) → Answers d k (fed c) r → told (r .0) ≡ not-performed q x → laid (r .1) ≡ laid k
@@ -56,12 +57,7 @@ module _ (text : List ℕ) (s : State) (i o : List ℤ) (a : Advanced) (u : List
   pub outcome-of : (p : Bool) → p ≡ isPerformed (a .answer) → DirectOutcomes text s i o (record { performed = p; state = a .state; answer = a .answer }) u
   outcome-of p e = record { answer = h .0; state = h .1; row = h .2; kept = λ f. refused-kept (sym e ∙ f) }
 
--- a fresh state asked for: `named` is the declared answer, `state` the record beside it
-module _ (named : Started → declared.Started) (state : Started → State) (is-fresh : (s : State) → isFresh (named (fresh s)) ≡ true)
-    (is-not : (q k : ℕ) → isFresh (named (not-started q k)) ≡ false) (same : (s : State) → state (fresh s) ≡ s) where
-  pub start-of : (f : Started) (a : declared.Started) (s : State) (d : Bool) → (a ≡ named f) × (s ≡ state f) → d ≡ isFresh a
-      → Starting named f (record { done = d; state = s; answer = a })
-  start-of (fresh x) a s d h j =
-      record { answer = h .0; stored = λ w t. h .1 ∙ same x; kept = λ w t. false-true (sym w ∙ j ∙ ap isFresh (h .0) ∙ is-fresh x) }
-  start-of (not-started q k) a s d h j =
-      record { answer = h .0; stored = λ w t. false-true (sym (j ∙ ap isFresh (h .0) ∙ is-not q k) ∙ w); kept = λ w t. refl }
+-- a fresh state asked for
+pub start-of : (f : Started) (a : declared.Started) (s : State) (d : Bool) → (a ≡ startedOf f) × (s ≡ startOf f) → d ≡ isFresh a → Starting f (record { done = d; state = s; answer = a })
+start-of (fresh x) a s d h j = record { answer = h .0; stored = λ w t. h .1; kept = λ w t. false-true (sym w ∙ j ∙ ap isFresh (h .0)) }
+start-of (not-started q k) a s d h j = record { answer = h .0; stored = λ w t. false-true (sym (j ∙ ap isFresh (h .0)) ∙ w); kept = λ w t. refl }

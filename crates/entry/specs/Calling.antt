@@ -1,16 +1,14 @@
 -- What the calls that store a state come to (document 01, "State", "Turned back"). Assumes nothing.
 use mathlib.Core.Path.{_≡_}
-use mathlib.Core.Bool.{Bool, true, false}
+use mathlib.Core.Bool.{true, false}
 use mathlib.Core.List.{List}
 use Prim.Native.Nat.{ℕ}
 use lib.IntN.{ℤ}
 use Rattle.answers.specs.declared.State.{State}
-use Rattle.answers.specs.declared.Started as declared
-use Rattle.answers.specs.declared.Started.the-variants.{Fresh, NotStarted}
 use Rattle.semantics.specs.Records.{Started, fresh, not-started}
 use Rattle.behaviour.specs.Direct.{directOf}
 use Rattle.direct.specs.Calls.{callOf}
-use Rattle.interpreter.specs.Answering.{cycledOf}
+use Rattle.semantics.specs.Advances.{cycledOf, startedOf}
 use Rattle.entry.specs.declared.calls.Outcome.{Outcome}
 use Rattle.entry.specs.declared.calls.Start.{Start}
 
@@ -26,13 +24,8 @@ pub record DirectOutcomes (text : List ℕ) (s : State) (i o : List ℤ) (r : Ou
   pub row : u ≡ directOf text s (callOf i o) .row
   pub kept : r .performed ≡ false → directOf text s (callOf i o) .state ≡ s
 
--- r is the answer that the definition's f has as `named`, with its state where there is one
-pub record Starting (named : Started → declared.Started) (f : Started) (r : Start) : Type 0 where
-  pub answer : r .answer ≡ named f
+-- r is the answer for the definition's f, with its state where there is one
+pub record Starting (f : Started) (r : Start) : Type 0 where
+  pub answer : r .answer ≡ startedOf f
   pub stored : r .done ≡ true → (t : State) → r .state ≡ stateAfter f t
   pub kept : r .done ≡ false → (t : State) → t ≡ stateAfter f t
-
--- whether a fresh state is there
-abbrev pub isFresh : declared.Started → Bool
-isFresh Fresh = true
-isFresh (NotStarted r) = false

@@ -2,14 +2,14 @@
 // image is `runtime::advance_state`.
 ghost use mathlib.Core.Path.{_≡_};
 ghost use Rattle.format.specs.State.{freshOf};
-ghost use Rattle.runtime.specs.Calls as R;
 ghost use Rattle.behaviour.specs.Direct.{directOf, directFresh};
 ghost use Rattle.direct.specs.Calls.{callOf};
-ghost use Rattle.interpreter.specs.Answering as I;
-ghost use Rattle.entry.specs.Calling.{DirectOutcomes, Starting, stateAfter, isFresh};
+ghost use Rattle.entry.specs.Calling.{DirectOutcomes, Starting, stateAfter};
+ghost use Rattle.semantics.specs.Advances.{cycledOf, startedOf};
 use answers::Cycled;
 use answers::Started;
 use answers::State;
+use answers::is_fresh;
 
 // A cycle's answer, the state after it, and whether it was performed.
 struct Outcome {
@@ -49,7 +49,7 @@ fn direct_outcome(text: &[u8], s: State, inputs: &[i32], row: &mut [i32]) -> Out
 
 // One cycle from a text, without an image.
 pub fn direct(text: &[u8], state: &mut State, inputs: &[i32], row: &mut [i32]) -> Cycled
-    ensures { λ r. ⌜ (r ≡ I.cycledOf (directOf (now (text .entry)) (now (state .entry)) (callOf (now (inputs .entry)) (now (row .entry))) .answer))
+    ensures { λ r. ⌜ (r ≡ cycledOf (directOf (now (text .entry)) (now (state .entry)) (callOf (now (inputs .entry)) (now (row .entry))) .answer))
         × (now (state .exit) ≡ directOf (now (text .entry)) (now (state .entry)) (callOf (now (inputs .entry)) (now (row .entry))) .state)
         × (now (row .exit) ≡ directOf (now (text .entry)) (now (state .entry)) (callOf (now (inputs .entry)) (now (row .entry))) .row) ⌝ }
 {
@@ -60,19 +60,9 @@ pub fn direct(text: &[u8], state: &mut State, inputs: &[i32], row: &mut [i32]) -
     r.answer
 }
 
-// Whether a fresh state is there.
-fn is_fresh(answer: Started) -> bool
-    ensures { λ r. ⌜ r ≡ isFresh answer ⌝ }
-{
-    match answer {
-        Started::Fresh => true,
-        Started::NotStarted(_) => false,
-    }
-}
-
 // The fresh state of an image, and whether it is there.
 fn fresh_start(image: &[u8]) -> Start
-    ensures { λ r. ⌜ Starting R.startedOf (freshOf (now (image .entry))) r ⌝ }
+    ensures { λ r. ⌜ Starting (freshOf (now (image .entry))) r ⌝ }
 {
     let f = runtime::fresh(image);
     let state = f.state;
@@ -87,7 +77,7 @@ fn fresh_start(image: &[u8]) -> Start
 
 // The fresh state of an image.
 pub fn fresh(image: &[u8], state: &mut State) -> Started
-    ensures { λ r. ⌜ (r ≡ R.startedOf (freshOf (now (image .entry)))) × (now (state .exit) ≡ stateAfter (freshOf (now (image .entry))) (now (state .entry))) ⌝ }
+    ensures { λ r. ⌜ (r ≡ startedOf (freshOf (now (image .entry)))) × (now (state .exit) ≡ stateAfter (freshOf (now (image .entry))) (now (state .entry))) ⌝ }
 {
     let r = fresh_start(image);
     if r.done {
@@ -98,7 +88,7 @@ pub fn fresh(image: &[u8], state: &mut State) -> Started
 
 // The fresh state of a text, and whether it is there.
 fn direct_start(text: &[u8]) -> Start
-    ensures { λ r. ⌜ Starting I.startedOf (directFresh (now (text .entry))) r ⌝ }
+    ensures { λ r. ⌜ Starting (directFresh (now (text .entry))) r ⌝ }
 {
     let f = interpreter::fresh(text);
     let state = f.state;
@@ -113,7 +103,7 @@ fn direct_start(text: &[u8]) -> Start
 
 // The fresh state of a text, without an image.
 pub fn direct_fresh(text: &[u8], state: &mut State) -> Started
-    ensures { λ r. ⌜ (r ≡ I.startedOf (directFresh (now (text .entry)))) × (now (state .exit) ≡ stateAfter (directFresh (now (text .entry))) (now (state .entry))) ⌝ }
+    ensures { λ r. ⌜ (r ≡ startedOf (directFresh (now (text .entry)))) × (now (state .exit) ≡ stateAfter (directFresh (now (text .entry))) (now (state .entry))) ⌝ }
 {
     let r = direct_start(text);
     if r.done {

@@ -15,10 +15,10 @@ use Rattle.semantics.proofs.Basic.{some-injective, fault-fine, fine-injective, 
 use Rattle.format.specs.Words.{Bytes}
 use Rattle.format.specs.Code.{Operation, push, apply1, apply2, others, post, operationBytes, code, operations}
 use Rattle.format.specs.Code.{onto, run, runOperations, runCode, withType, typed, trees, valueOf, decode}
-use Rattle.format.proofs.Coding.{post-items, operations-bytes, run-tree}
+use Rattle.format.proofs.Coding.{post-items, operations-bytes, run-tree, operations-any}
 use Rattle.format.proofs.Decoding.{typed-codable, fold-typed, operations-read, decode-back}
 use Rattle.evaluator.specs.Position.{runAt}
-use Rattle.evaluator.proofs.Position.{run-position, position-value, operations-any}
+use Rattle.evaluator.proofs.Position.{run-position, position-value}
 
 -- an operation has at least one byte
 bytes-longer : (is : List Operation) → length is ≤ length (operationBytes is)

@@ -1,8 +1,7 @@
 -- Fetching an operation by position is reading it from the rest of the bytes: for each kind of operation, then for the tests of its first byte.
 -- Assumes nothing.
-use Prim.Native.Nat.{ℕ, suc, _+_, _≤_, _<_}
+use Prim.Native.Nat.{ℕ, suc, _+_, _<_}
 use native.Mathlib.Omega.{arith}
-use native.Mathlib.Decide.{decLt}
 use mathlib.Core.Path.{_≡_, refl, sym, ap, _∙_}
 use mathlib.Core.Bool.{Bool, true, false, cond}
 use mathlib.Core.Option.{Option, none, some, Option·map}
@@ -10,11 +9,12 @@ use mathlib.Core.List.{List, [], _∷_}
 use lib.ListN.{length, getD, drop, length-drop}
 use lib.Seq.{getD-drop, drop-drop}
 use lib.Dec.{leb, eqb}
-use borrow.Author.Tests.{le-leb, lt-leb}
+use borrow.Author.Tests.{le-leb}
 use Rattle.design.specs.Expression.{Leaf, int, bit, input, variable}
 use Rattle.format.specs.Words.{word4At}
 use Rattle.semantics.specs.Twos.{signed32}
 use Rattle.format.specs.Code.{Operation, push, readInt, bitOf, readBit, readName, operator, readOperation}
+use Rattle.format.proofs.Basic.{leb-shift}
 use Rattle.evaluator.specs.Position.{intAt, bitAt, nameAt, pushing, fetchAt}
 
 -- reading by the length of the rest
@@ -32,15 +32,6 @@ bit-shape (a ∷ r) = rw (le-leb 1 (suc (length r)) (omega arith))
 name-shape : (f : ℕ → Leaf) (r : List ℕ) → readName f r ≡ cond (leb 1 (length r)) (some (push (f (getD r 0 0)), drop 1 r)) none
 name-shape f [] = refl
 name-shape f (a ∷ r) = rw (le-leb 1 (suc (length r)) (omega arith))
-
-leb-shift : (a b n m : ℕ) → (a ≤ n → b ≤ m) → (b ≤ m → a ≤ n) → leb a n ≡ leb b m
-leb-shift a b n m f g = go (decLt n a) (decLt m b)
-  where
-    go : Dec (n < a) → Dec (m < b) → leb a n ≡ leb b m
-    go (yes p) (yes q) = lt-leb a n p ∙ sym (lt-leb b m q)
-    go (no p) (no q) = le-leb a n (omega arith) ∙ sym (le-leb b m (omega arith))
-    go (yes p) (no q) = absurd (let z = g (omega arith) in omega arith)
-    go (no p) (yes q) = absurd (let z = f (omega arith) in omega arith)
 
 map-pick : {X Y : Type 0} (f : X → Y) (b : Bool) (x y : Option X) → Option·map f (cond b x y) ≡ cond b (Option·map f x) (Option·map f y)
 map-pick f true x y = refl

@@ -13,8 +13,8 @@ use lib.Dec.{ltb}
 use borrow.Author.Tests.{lt-ltb, le-ltb}
 use Rattle.design.specs.Expression.{Out, fine, fault}
 use Rattle.semantics.proofs.Basic.{none-some, some-injective, fault-fine}
-use Rattle.format.specs.Code.{Operation, push, apply1, apply2, readOperation, operations, Machine, onto, run}
-use Rattle.format.proofs.Basic.{andThen-some, map-some}
+use Rattle.format.specs.Code.{Operation, push, apply1, apply2, operations, Machine, onto, run}
+use Rattle.format.proofs.Basic.{map-some}
 use Rattle.evaluator.specs.Position.{fetchAt, stop, pushed, applied, nextOf, resume, finish, runAt}
 use Rattle.evaluator.proofs.Fetch.{after, fetch-read}
 
@@ -160,24 +160,3 @@ module _ {X : Type 0} (M : Machine X) (m : ℕ) where
           fetched (some p) q h =
               let t = applied-value (p .0) st (at + p .1) (λ j u. runAt M m f s j u) x h in
               joined (p .0) (p .1) q (t .0) (t .2) (ih (at + p .1) (t .0) (t .1))
-
--- the number that bounds the operations matters only where it is too small
-pub operations-any : (f g : ℕ) (s : List ℕ) (is : List Operation) → operations f s ≡ some is → length is ≤ g → operations g s ≡ some is
-unfolding operations andThen
-operations-any zero zero [] is e b = e
-operations-any zero (suc g) [] is e b = e
-operations-any zero g (k ∷ s) is e b = none-some is e
-operations-any (suc f) zero [] is e b = e
-operations-any (suc f) (suc g) [] is e b = e
-operations-any (suc f) zero (k ∷ s) is e b =
-    let p = andThen-some (readOperation k s) _ is e in
-    let q = map-some (λ l. p .0 .0 ∷ l) (operations f (p .0 .1)) is (p .2) in
-    absurd (omega (arith, ap length (q .2)))
-operations-any (suc f) (suc g) (k ∷ s) is e b =
-    let p = andThen-some (readOperation k s) _ is e in
-    let q = map-some (λ l. p .0 .0 ∷ l) (operations f (p .0 .1)) is (p .2) in
-    joined (p .0) (q .0) (p .1) (operations-any f g (p .0 .1) (q .0) (q .1) (omega (arith, ap length (q .2)))) (q .2)
-  where
-    joined : (p : Operation × List ℕ) (l : List Operation) → readOperation k s ≡ some p → operations g (p .1) ≡ some l → p .0 ∷ l ≡ is
-        → andThen (readOperation k s) (λ p. Option·map (λ l. p .0 ∷ l) (operations g (p .1))) ≡ some is
-    joined p l h i m = rw (h, i) (ap some m)

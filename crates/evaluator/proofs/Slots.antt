@@ -1,11 +1,11 @@
 -- A typed expression reads declared variables only, so that its value over a state's 32 slots is its value over the slots that are used. By induction
 -- on the expression. Assumes nothing.
-use Prim.Native.Nat.{ℕ, zero, suc, _<_}
+use Prim.Native.Nat.{ℕ, _<_}
 use native.Mathlib.Omega.{arith}
 use mathlib.Core.Path.{_≡_, refl, sym}
 use mathlib.Core.Bool.{Bool, true, false, cond, _||_}
 use mathlib.Core.Option.{Option, none, some}
-use mathlib.Core.List.{List, [], _∷_}
+use mathlib.Core.List.{List}
 use lib.ListN.{length, take}
 use lib.Seq.{getD-take}
 use lib.IntN.{ℤ, pos}
@@ -15,12 +15,7 @@ use Rattle.semantics.specs.Evaluation.{evaluate}
 use Rattle.semantics.specs.Names.{leafReadsVariable, readsVariable}
 use Rattle.semantics.proofs.Basic.{false-true, none-some, eqb-true}
 use Rattle.semantics.proofs.Names.{depends-only}
-
-nth-below : {X : Type 0} (l : List X) (k : ℕ) (x : X) → nth l k ≡ some x → k < length l
-unfolding nth
-nth-below [] k x e = none-some x e
-nth-below (y ∷ l) zero x e = omega arith
-nth-below (y ∷ l) (suc k) x e = let h = nth-below l k x e in omega arith
+use Rattle.format.proofs.Encoded.{nth-below}
 
 plainly-some : (o : Option Ty) (t : ExprTy) → plainly o ≡ some t → (u : Ty) × (o ≡ some u)
 unfolding plainly

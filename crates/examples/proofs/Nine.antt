@@ -1,6 +1,6 @@
 -- Document 01's nine examples, P1 to P9, as one table of claims on whole texts, and the theorem that each holds, by computation. Assumes nothing.
 use mathlib.Core.Path.{_≡_, refl}
-use mathlib.Core.Bool.{Bool, true, false}
+use mathlib.Core.Bool.{true}
 use mathlib.Core.List.{List, [], _∷_, map}
 use Prim.Native.Nat.{ℕ}
 use lib.ListN.{length, replicate, take}
@@ -9,7 +9,7 @@ use Rattle.grammar.specs.Limits.{Each}
 use Rattle.answers.specs.declared.State.{State}
 use Rattle.language.specs.Bytes.{bytes}
 use Rattle.language.specs.Lexer.{tokenAt}
-use Rattle.language.specs.Verdict.{Verdict, accepted, refused, verdict}
+use Rattle.language.specs.Verdict.{Verdict, accepted, refused, verdict, isAccepted}
 use Rattle.language.proofs.Examples.{plain, place, whole, stdPorts, stdVars, stmts, vars, passes}
 use Rattle.language.proofs.ExamplesReadings.{tallyText}
 use Rattle.semantics.specs.Equations as Equations
@@ -54,11 +54,6 @@ onVerdict (refused n k) cs = []
 
 unfoldable pub equationTrace : List ℕ → List Call → List Called
 equationTrace text cs = onVerdict (verdict text) cs
-
--- the text is accepted
-abbrev isAccepted : Verdict → Bool
-isAccepted (accepted p) = true
-isAccepted (refused n k) = false
 
 -- opens all that the direct run and the equations compute by, beside what the image and its calls do
 unfoldable all-computed : List ℕ → List Call → List Called

@@ -14,9 +14,9 @@ use Rattle.answers.specs.declared.Compiled as declared
 use Rattle.answers.specs.declared.Opened as declared-opened
 use Rattle.answers.specs.declared.Started as declared-started
 use Rattle.answers.specs.declared.Cycled.{Cycled}
-use Rattle.answers.specs.declared.Cycled.the-variants.{Performed, NotPerformed}
 use Rattle.semantics.specs.Records.{Started, fresh, not-started}
 use Rattle.semantics.specs.Calls.{Answer, performed, not-performed, Call}
+use Rattle.semantics.specs.Advances.{cycledOf, startedOf}
 use Rattle.format.specs.Words.{Bytes}
 use Rattle.format.specs.Opening.{Opened, opened, not-opened, openOf}
 use Rattle.format.specs.State.{freshOf}
@@ -26,9 +26,6 @@ use Rattle.theorems.specs.Compile.{Compiled, written, not-compiled, compileOf}
 use Rattle.theorems.proofs.Places.{compile-place, compile-count, open-place, fresh-place, cycle-place, cycle-count, direct-place, direct-count, direct-fresh-place}
 use Rattle.loader.specs.Open.{openedAs}
 use Rattle.compiler.specs.Compiles.{compiledOf}
-use Rattle.cycle.specs.Advances as C
-use Rattle.runtime.specs.Calls as R
-use Rattle.interpreter.specs.Answering as I
 use Rattle.exports.specs.Numbers.{Narrow, refusedAs, doneAs, compiledNumbers, openedNumbers, startedNumbers, cycledNumbers}
 
 -- what is known of an answer is known of one that equals it
@@ -54,12 +51,10 @@ refused-narrow q k h = let l = refusal-place q k in record { place = omega arith
 done-narrow : (n : ℕ) → n ≤ 65535 → Narrow (doneAs n)
 done-narrow n h = record { place = omega arith; count = omega arith }
 
--- a cycle's answer, of an image or of a text: `named` is the declared answer
-cycled-narrow : (named : Answer → Cycled) → ((w : List ℕ) → named (performed w) ≡ Performed (length w))
-    → ((q k : ℕ) → named (not-performed q k) ≡ NotPerformed (refusalOf q k))
-    → (a : Answer) → ((w : List ℕ) → a ≡ performed w → length w ≤ 512) → ((q k : ℕ) → a ≡ not-performed q k → k ≤ 16384) → Narrow (cycledNumbers (named a))
-cycled-narrow named y n (performed w) f g = narrowed cycledNumbers (sym (y w)) (let h = f w refl in done-narrow (length w) (omega arith))
-cycled-narrow named y n (not-performed q k) f g = narrowed cycledNumbers (sym (n q k)) (let h = g q k refl in refused-narrow q k (omega arith))
+-- a cycle's answer, of an image or of a text
+cycled-narrow : (a : Answer) → ((w : List ℕ) → a ≡ performed w → length w ≤ 512) → ((q k : ℕ) → a ≡ not-performed q k → k ≤ 16384) → Narrow (cycledNumbers (cycledOf a))
+cycled-narrow (performed w) f g = let h = f w refl in done-narrow (length w) (omega arith)
+cycled-narrow (not-performed q k) f g = let h = g q k refl in refused-narrow q k (omega arith)
 
 -- a compile
 pub compile-narrow : (text buffer : List ℕ) {x : declared.Compiled} → x ≡ compiledOf (compileOf text buffer .answer) → Narrow (compiledNumbers x)
@@ -78,29 +73,29 @@ module _ (image : List ℕ) (h : Bytes image) where
       on (opened t) f = done-narrow 0 (omega arith)
       on (not-opened q k) f = let l = open-place image h q k f in refused-narrow q k (omega arith)
 
-  pub fresh-narrow : {x : declared-started.Started} → x ≡ R.startedOf (freshOf image) → Narrow (startedNumbers x)
+  pub fresh-narrow : {x : declared-started.Started} → x ≡ startedOf (freshOf image) → Narrow (startedNumbers x)
   fresh-narrow e = narrowed startedNumbers (sym e) (on (freshOf image) refl)
     where
-      on : (f : Started) → freshOf image ≡ f → Narrow (startedNumbers (R.startedOf f))
+      on : (f : Started) → freshOf image ≡ f → Narrow (startedNumbers (startedOf f))
       on (fresh s) f = done-narrow 0 (omega arith)
       on (not-started q k) f = let l = fresh-place image h q k f in refused-narrow q k (omega arith)
 
-  pub cycle-narrow : (s : State) (i o : List ℤ) {x : Cycled} → x ≡ C.cycledOf (cycleOf image s i o .answer) → Narrow (cycledNumbers x)
+  pub cycle-narrow : (s : State) (i o : List ℤ) {x : Cycled} → x ≡ cycledOf (cycleOf image s i o .answer) → Narrow (cycledNumbers x)
   cycle-narrow s i o e =
       let c : Call = record { inputs = i; outputs = o } in
       narrowed cycledNumbers (sym e)
-      (cycled-narrow C.cycledOf (λ w. refl) (λ q k. refl) (cycleOf image s i o .answer) (cycle-count image h s c)
+      (cycled-narrow (cycleOf image s i o .answer) (cycle-count image h s c)
       (λ q k f. let l = cycle-place image h s c q k f in omega arith))
 
 -- texts
-pub direct-fresh-narrow : (text : List ℕ) {x : declared-started.Started} → x ≡ I.startedOf (directFresh text) → Narrow (startedNumbers x)
+pub direct-fresh-narrow : (text : List ℕ) {x : declared-started.Started} → x ≡ startedOf (directFresh text) → Narrow (startedNumbers x)
 direct-fresh-narrow text e = narrowed startedNumbers (sym e) (on (directFresh text) refl)
   where
-    on : (f : Started) → directFresh text ≡ f → Narrow (startedNumbers (I.startedOf f))
+    on : (f : Started) → directFresh text ≡ f → Narrow (startedNumbers (startedOf f))
     on (fresh s) f = done-narrow 0 (omega arith)
     on (not-started q k) f = let l = direct-fresh-place text q k f in refused-narrow q k (omega arith)
 
-pub direct-narrow : (text : List ℕ) (s : State) (c : Call) {x : Cycled} → x ≡ I.cycledOf (directOf text s c .answer) → Narrow (cycledNumbers x)
+pub direct-narrow : (text : List ℕ) (s : State) (c : Call) {x : Cycled} → x ≡ cycledOf (directOf text s c .answer) → Narrow (cycledNumbers x)
 direct-narrow text s c e =
     narrowed cycledNumbers (sym e)
-    (cycled-narrow I.cycledOf (λ w. refl) (λ q k. refl) (directOf text s c .answer) (direct-count text s c) (direct-place text s c))
+    (cycled-narrow (directOf text s c .answer) (direct-count text s c) (direct-place text s c))

@@ -1,6 +1,5 @@
 -- The three numbers of an answer at the C interface: the refusal's number or 0, its place or 0, a count (document 01, "Turned back", "State"). Assumes
 -- nothing.
-use mathlib.Core.Bool.{Bool, true, false}
 use mathlib.Core.List.{List, [], _∷_}
 use Prim.Native.Nat.{ℕ, _<_, _^_}
 use lib.ListN.{getD}
@@ -47,8 +46,3 @@ startedNumbers (NotStarted r) = refusedAs r
 abbrev pub cycledNumbers : Cycled → List ℕ
 cycledNumbers (Performed n) = doneAs n
 cycledNumbers (NotPerformed r) = refusedAs r
-
--- whether a fresh state is there
-abbrev pub isFresh : Started → Bool
-isFresh Fresh = true
-isFresh (NotStarted r) = false

@@ -3,8 +3,7 @@
 ghost use mathlib.Core.Path.{_≡_};
 ghost use Prim.Native.Nat.{_<_, _^_};
 ghost use Rattle.answers.specs.Answers.{placeOf};
-ghost use Rattle.cycle.specs.Advances.{isPerformed};
-ghost use Rattle.exports.specs.Numbers.{Narrow, refusedAs, doneAs, compiledNumbers, openedNumbers, startedNumbers, cycledNumbers, isFresh};
+ghost use Rattle.exports.specs.Numbers.{Narrow, refusedAs, doneAs, compiledNumbers, openedNumbers, startedNumbers, cycledNumbers};
 use answers::Compiled;
 use answers::Cycled;
 use answers::Opened;
@@ -71,25 +70,5 @@ pub(crate) fn cycled(c: Cycled) -> [u32; 3]
     match c {
         Cycled::Performed(n) => done(n),
         Cycled::NotPerformed(r) => refused(r),
-    }
-}
-
-// Whether a fresh state is there.
-pub(crate) fn is_fresh(s: Started) -> bool
-    ensures { λ r. ⌜ r ≡ isFresh s ⌝ }
-{
-    match s {
-        Started::Fresh => true,
-        Started::NotStarted(_) => false,
-    }
-}
-
-// Whether a cycle was performed.
-pub(crate) fn is_performed(c: Cycled) -> bool
-    ensures { λ r. ⌜ r ≡ isPerformed c ⌝ }
-{
-    match c {
-        Cycled::Performed(_) => true,
-        Cycled::NotPerformed(_) => false,
     }
 }

@@ -12,11 +12,9 @@ ghost use Rattle.theorems.specs.Compile.{compileOf};
 ghost use Rattle.compiler.specs.Compiles.{compiledOf};
 ghost use Rattle.format.specs.State.{freshOf};
 ghost use Rattle.format.specs.Cycle.{cycleOf};
-ghost use Rattle.cycle.specs.Advances as C;
-ghost use Rattle.runtime.specs.Calls as R;
+ghost use Rattle.semantics.specs.Advances.{cycledOf, startedOf};
 ghost use Rattle.behaviour.specs.Direct.{directOf, directFresh};
 ghost use Rattle.direct.specs.Calls.{callOf};
-ghost use Rattle.interpreter.specs.Answering as I;
 ghost use Rattle.exports.specs.Numbers.{compiledNumbers, openedNumbers, startedNumbers, cycledNumbers};
 ghost use Rattle.exports.specs.Slots.{stateOfC, slotsAfter, startedSlots};
 
@@ -44,14 +42,14 @@ pub extern "C" fn rabtishu_open(image: &[u8], answer: &mut [u32; 3])
 // The fresh state of an image.
 #[no_mangle]
 pub extern "C" fn rabtishu_fresh(image: &[u8], state: &mut [i32; 49], answer: &mut [u32; 3])
-    ensures { λ _. ⌜ (now (answer .exit) ≡ startedNumbers (R.startedOf (freshOf (now (image .entry)))))
+    ensures { λ _. ⌜ (now (answer .exit) ≡ startedNumbers (startedOf (freshOf (now (image .entry)))))
         × (now (state .exit) ≡ startedSlots (freshOf (now (image .entry))) (now (state .entry))) ⌝ }
 {
     let f = runtime::fresh(image);
     let started = f.answer;
     let numbers = answer::started(started);
     *answer = numbers;
-    if answer::is_fresh(started) {
+    if answers::is_fresh(started) {
         let s = f.state;
         let slots = record::from_state(s);
         *state = slots;
@@ -67,7 +65,7 @@ pub extern "C" fn rabtishu_cycle(
     row: &mut [i32],
     answer: &mut [u32; 3],
 )
-    ensures { λ _. ⌜ (now (answer .exit) ≡ cycledNumbers (C.cycledOf (cycleOf (now (image .entry)) (stateOfC (now (state .entry))) (now (inputs .entry)) (now (row .entry)) .answer)))
+    ensures { λ _. ⌜ (now (answer .exit) ≡ cycledNumbers (cycledOf (cycleOf (now (image .entry)) (stateOfC (now (state .entry))) (now (inputs .entry)) (now (row .entry)) .answer)))
         × (now (state .exit) ≡ slotsAfter (cycleOf (now (image .entry)) (stateOfC (now (state .entry))) (now (inputs .entry)) (now (row .entry))) (now (state .entry)))
         × (now (row .exit) ≡ cycleOf (now (image .entry)) (stateOfC (now (state .entry))) (now (inputs .entry)) (now (row .entry)) .row) ⌝ }
 {
@@ -77,7 +75,7 @@ pub extern "C" fn rabtishu_cycle(
     let cycled = a.answer;
     let numbers = answer::cycled(cycled);
     *answer = numbers;
-    if answer::is_performed(cycled) {
+    if answers::is_performed(cycled) {
         let after = a.state;
         let advanced = record::from_state(after);
         *state = advanced;
@@ -87,14 +85,14 @@ pub extern "C" fn rabtishu_cycle(
 // The fresh state of a text.
 #[no_mangle]
 pub extern "C" fn rabtishu_direct_fresh(text: &[u8], state: &mut [i32; 49], answer: &mut [u32; 3])
-    ensures { λ _. ⌜ (now (answer .exit) ≡ startedNumbers (I.startedOf (directFresh (now (text .entry)))))
+    ensures { λ _. ⌜ (now (answer .exit) ≡ startedNumbers (startedOf (directFresh (now (text .entry)))))
         × (now (state .exit) ≡ startedSlots (directFresh (now (text .entry))) (now (state .entry))) ⌝ }
 {
     let f = interpreter::fresh(text);
     let started = f.answer;
     let numbers = answer::started(started);
     *answer = numbers;
-    if answer::is_fresh(started) {
+    if answers::is_fresh(started) {
         let s = f.state;
         let slots = record::from_state(s);
         *state = slots;
@@ -110,7 +108,7 @@ pub extern "C" fn rabtishu_direct(
     row: &mut [i32],
     answer: &mut [u32; 3],
 )
-    ensures { λ _. ⌜ (now (answer .exit) ≡ cycledNumbers (I.cycledOf (directOf (now (text .entry)) (stateOfC (now (state .entry))) (callOf (now (inputs .entry)) (now (row .entry))) .answer)))
+    ensures { λ _. ⌜ (now (answer .exit) ≡ cycledNumbers (cycledOf (directOf (now (text .entry)) (stateOfC (now (state .entry))) (callOf (now (inputs .entry)) (now (row .entry))) .answer)))
         × (now (state .exit) ≡ slotsAfter (directOf (now (text .entry)) (stateOfC (now (state .entry))) (callOf (now (inputs .entry)) (now (row .entry)))) (now (state .entry)))
         × (now (row .exit) ≡ directOf (now (text .entry)) (stateOfC (now (state .entry))) (callOf (now (inputs .entry)) (now (row .entry))) .row) ⌝ }
 {
@@ -120,7 +118,7 @@ pub extern "C" fn rabtishu_direct(
     let cycled = a.answer;
     let numbers = answer::cycled(cycled);
     *answer = numbers;
-    if answer::is_performed(cycled) {
+    if answers::is_performed(cycled) {
         let after = a.state;
         let moved = record::from_state(after);
         *state = moved;

@@ -1,7 +1,12 @@
 -- Facts about options and tests that the other proofs cite. Assumes nothing.
-use mathlib.Core.Path.{_≡_, refl}
-use mathlib.Core.Bool.{Bool, true, false, cond, _&&_}
+use Prim.Native.Nat.{ℕ, _≤_, _<_}
+use native.Mathlib.Omega.{arith}
+use native.Mathlib.Decide.{decLt}
+use mathlib.Core.Path.{_≡_, refl, sym, _∙_}
+use mathlib.Core.Bool.{Bool, true, false, cond}
 use mathlib.Core.Option.{Option, none, some, Option·map, bind}
+use lib.Dec.{leb}
+use borrow.Author.Tests.{lt-leb, le-leb}
 use Rattle.semantics.proofs.Basic.{none-some, some-injective}
 use Rattle.format.specs.Words.{onlyIf}
 
@@ -21,3 +26,12 @@ onlyIf-some false y e = none-some y e
 pub cond-case : {X P : Type 0} (b : Bool) {x y z : X} → cond b x y ≡ z → (b ≡ true → x ≡ z → P) → (b ≡ false → y ≡ z → P) → P
 cond-case true e f g = f refl e
 cond-case false e f g = g refl e
+
+pub leb-shift : (a b n m : ℕ) → (a ≤ n → b ≤ m) → (b ≤ m → a ≤ n) → leb a n ≡ leb b m
+leb-shift a b n m f g = go (decLt n a) (decLt m b)
+  where
+    go : Dec (n < a) → Dec (m < b) → leb a n ≡ leb b m
+    go (yes p) (yes q) = lt-leb a n p ∙ sym (lt-leb b m q)
+    go (no p) (no q) = le-leb a n (omega arith) ∙ sym (le-leb b m (omega arith))
+    go (yes p) (no q) = absurd (let z = g (omega arith) in omega arith)
+    go (no p) (yes q) = absurd (let z = f (omega arith) in omega arith)

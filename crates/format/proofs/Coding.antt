@@ -3,14 +3,16 @@ use Prim.Native.Nat.{ℕ, zero, suc, _+_, _≤_}
 use native.Mathlib.Omega.{arith}
 use mathlib.Core.Path.{_≡_, refl, sym, ap, _∙_}
 use mathlib.Core.Bool.{Bool, true, false}
-use mathlib.Core.Option.{Option, some, Option·map, bind as andThen}
+use mathlib.Core.Option.{Option, some, Option·map, bind as andThen, none}
 use mathlib.Core.List.{List, [], _∷_, _++_, append-nil}
 use lib.ListN.{length, length-append}
 use Rattle.design.specs.Types.{inRange}
 use Rattle.design.specs.Expression.{Leaf, int, bit, input, variable, Unary, sign, invert, Binary, plus, minus, equal, unequal, less, at-most, greater, at-least, and, or, xor, Expr, leaf, unary, binary, items, Out, fine, fault, bind, Algebra, fold}
 use Rattle.design.proofs.Postfix.{Lays, lay-items, stack-law}
+use Rattle.semantics.proofs.Basic.{none-some}
 use Rattle.format.specs.Code.{Operation, push, apply1, apply2, post, unaryByte, binaryByte, bitByte, first, others, operationBytes, code, Taken, readOperation, operations, Machine, onto, run, runOperations, runCode}
 use Rattle.format.proofs.Words.{integer-bytes}
+use Rattle.format.proofs.Basic.{andThen-some, map-some}
 
 -- Values handed on.
 
@@ -133,3 +135,24 @@ operations-bytes (i ∷ is) (suc f) h l =
 pub run-code : {X : Type 0} (M : Machine X) (e : Expr) → Codable (post e) → runCode M (code e) ≡ fold (untypedAlgebra M) e
 unfolding runCode code runOperations
 run-code M e h = rw (operations-bytes (post e) (length (operationBytes (post e))) h (omega arith)) (run-tree M e)
+
+-- the number that bounds the operations matters only where it is too small
+pub operations-any : (f g : ℕ) (s : List ℕ) (is : List Operation) → operations f s ≡ some is → length is ≤ g → operations g s ≡ some is
+unfolding operations andThen
+operations-any zero zero [] is e b = e
+operations-any zero (suc g) [] is e b = e
+operations-any zero g (k ∷ s) is e b = none-some is e
+operations-any (suc f) zero [] is e b = e
+operations-any (suc f) (suc g) [] is e b = e
+operations-any (suc f) zero (k ∷ s) is e b =
+    let p = andThen-some (readOperation k s) _ is e in
+    let q = map-some (λ l. p .0 .0 ∷ l) (operations f (p .0 .1)) is (p .2) in
+    absurd (omega (arith, ap length (q .2)))
+operations-any (suc f) (suc g) (k ∷ s) is e b =
+    let p = andThen-some (readOperation k s) _ is e in
+    let q = map-some (λ l. p .0 .0 ∷ l) (operations f (p .0 .1)) is (p .2) in
+    joined (p .0) (q .0) (p .1) (operations-any f g (p .0 .1) (q .0) (q .1) (omega (arith, ap length (q .2)))) (q .2)
+  where
+    joined : (p : Operation × List ℕ) (l : List Operation) → readOperation k s ≡ some p → operations g (p .1) ≡ some l → p .0 ∷ l ≡ is
+        → andThen (readOperation k s) (λ p. Option·map (λ l. p .0 ∷ l) (operations g (p .1))) ≡ some is
+    joined p l h i m = rw (h, i) (ap some m)

@@ -95,12 +95,12 @@ module _ {X : Type 0} (is vs : List Ty) (A : Algebra X) where
 
 -- The operators of today have one meaning for all types, so that code can be evaluated without types on the stack.
 
-unary-any : (o : Unary) (t : ExprTy) (x : ℤ) → applyUnary o boolean x ≡ applyUnary o t x
+pub unary-any : (o : Unary) (t : ExprTy) (x : ℤ) → applyUnary o boolean x ≡ applyUnary o t x
 unfolding applyUnary
 unary-any sign t x = refl
 unary-any invert t x = refl
 
-binary-any : (o : Binary) (t : ExprTy) (x y : ℤ) → applyBinary o boolean x y ≡ applyBinary o t x y
+pub binary-any : (o : Binary) (t : ExprTy) (x y : ℤ) → applyBinary o boolean x y ≡ applyBinary o t x y
 unfolding applyBinary
 binary-any plus t x y = refl
 binary-any minus t x y = refl

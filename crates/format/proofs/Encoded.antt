@@ -1,5 +1,5 @@
 -- Every number of a good table's image is a byte: by the law of postfix items, and by induction on cells and lines. Assumes nothing.
-use Prim.Native.Nat.{ℕ, zero, suc, _+_, _≤_, _<_}
+use Prim.Native.Nat.{ℕ, zero, suc, _+_, _≤_, _<_, _*_}
 use native.Mathlib.Omega.{arith}
 use mathlib.Core.Path.{_≡_, refl, sym, ap, _∙_}
 use mathlib.Core.Bool.{Bool, true, false}
@@ -26,14 +26,14 @@ use Rattle.format.proofs.Lines.{fits-type, good-fits}
 
 -- Code.
 
-nth-below : {X : Type 0} (l : List X) (k : ℕ) (x : X) → nth l k ≡ some x → k < length l
+pub nth-below : {X : Type 0} (l : List X) (k : ℕ) (x : X) → nth l k ≡ some x → k < length l
 unfolding nth
 nth-below [] k x e = none-some x e
 nth-below (y ∷ l) zero x e = omega arith
 nth-below (y ∷ l) (suc k) x e = let h = nth-below l k x e in omega arith
 
 -- a name that has a type is one of the declared
-named-below : (l : List Ty) (k : ℕ) (t : ExprTy) → plainly (nth l k) ≡ some t → k < length l
+pub named-below : (l : List Ty) (k : ℕ) (t : ExprTy) → plainly (nth l k) ≡ some t → k < length l
 named-below l k t e = go (nth l k) refl e
   where
     go : (o : Option Ty) → nth l k ≡ o → plainly o ≡ some t → k < length l
@@ -208,3 +208,11 @@ unfolding encodeTable form1 sectionsFor AllBytes
 table-bytes t g =
     let b = lines-bytes (t .signature) (g .signature) (length (t .lines)) (t .reaches) 0 (t .lines) (t .reaches) (g .lines) in
     image-bytes 1 _ (signature-bytes (t .signature) (g .signature), (b .1, (b .0, tt)))
+
+-- a line has 12 bytes
+pub raws-length : (p : ℕ) (ls : List Line) (qs : List ℕ) → length qs ≡ length ls → length (rawsBytes (rawsOf p ls qs)) ≡ 12 * length ls
+unfolding rawsOf rawsBytes
+raws-length p [] [] e = omega arith
+raws-length p [] (q ∷ qs) e = omega arith
+raws-length p (l ∷ ls) [] e = absurd (omega arith)
+raws-length p (l ∷ ls) (q ∷ qs) e = let h = raws-length (p + length (lineCode l)) ls qs (omega arith) in omega arith

@@ -46,11 +46,11 @@ table-opens t g =
     code-small : length (form1 (sectionsFor t)) < 65536 → length (linesCode (t .lines)) < 65536
     code-small h = omega (arith, form1-length (sectionsFor t))
 
-unless12-opened : (o : Option Signature) (k : Signature → Opened) (t : Table) → unless12 o k ≡ opened t → (σ : Signature) × (o ≡ some σ) × (k σ ≡ opened t)
+pub unless12-opened : (o : Option Signature) (k : Signature → Opened) (t : Table) → unless12 o k ≡ opened t → (σ : Signature) × (o ≡ some σ) × (k σ ≡ opened t)
 unless12-opened none k t e = absurd (let z : _≡_ {A = ℕ} 0 1 = cc in omega arith)
 unless12-opened (some σ) k t e = (σ, refl, e)
 
-unless11-opened : (o : Option Sections) (k : Sections → Opened) (t : Table) → unless11 o k ≡ opened t → (x : Sections) × (o ≡ some x) × (k x ≡ opened t)
+pub unless11-opened : (o : Option Sections) (k : Sections → Opened) (t : Table) → unless11 o k ≡ opened t → (x : Sections) × (o ≡ some x) × (k x ≡ opened t)
 unless11-opened none k t e = absurd (let z : _≡_ {A = ℕ} 0 1 = cc in omega arith)
 unless11-opened (some x) k t e = (x, refl, e)
 

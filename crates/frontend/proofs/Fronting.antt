@@ -34,7 +34,7 @@ use Rattle.lexer.specs.declared.Lexed.the-variants.{Tokens, NotLexed}
 use Rattle.lexer.specs.Tokens as X
 use Rattle.lexer.specs.Tokens.{counted}
 use Rattle.limits.specs.Flags.{marked}
-use Rattle.limits.proofs.Held.{marked-size, tokens-held, sizes-held, values-held, flags-held}
+use Rattle.limits.proofs.Held.{marked-size, tokens-held, words-held, flags-held}
 use Rattle.cursor.specs.Tokens.{tokenAt}
 use Rattle.cursor.specs.Tokens as C
 use Rattle.statements.specs.Rows.{output}
@@ -47,7 +47,8 @@ use Rattle.syntax.specs.Arrays.{numberIn, TokensIn}
 use Rattle.syntax.proofs.Kinded.{kinded}
 use Rattle.syntax.proofs.Stored.{rows-held, items-held}
 use Rattle.offences.specs.Laid.{Laid}
-use Rattle.scope.specs.Resolves.{WordsIn, Resolves}
+use Rattle.scope.specs.Resolves.{Resolves}
+use Rattle.limits.specs.Words.{WordsIn}
 use Rattle.offences.proofs.Tokens.{number-inside, picked, passed}
 use Rattle.ir.specs.Entries.{entries, entryOps}
 use Rattle.frontend.specs.declared.rules.Ruling.{Ruling}
@@ -259,7 +260,7 @@ front-lexed text kinds₀ kinds starts₀ starts sizes₀ sizes long₀ long n r
     front-tokens text n r before after (l .answer)
     (λ ts t.
     f (ap length m ∙ (marked-size text kinds starts sizes long₀ n ∙ ll)) ts (tokens-held text kinds₀ kinds starts₀ starts sizes₀ sizes n ts l t lk ls)
-    (record { size = sizes-held text kinds₀ kinds starts₀ starts sizes₀ sizes n ts l t lz; valued = values-held text kinds₀ kinds starts₀ starts sizes₀ sizes n ts l t })
+    (words-held text kinds₀ kinds starts₀ starts sizes₀ sizes n ts l t lz)
     (rw m (flags-held text kinds₀ kinds starts₀ starts sizes₀ sizes n ts l t lk ls lz long₀ ll)))
   where
     l : X.Lexing text (Tokens n) kinds₀ kinds starts₀ starts sizes₀ sizes

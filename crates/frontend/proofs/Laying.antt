@@ -1,48 +1,35 @@
 -- What the passes of the elaborator leave holds the design of every tree without offences. Assumes nothing.
-use mathlib.Core.Path.{_≡_, refl, sym, _∙_, ap, subst}
-use mathlib.Core.Bool.{Bool, true, false, _&&_}
+use mathlib.Core.Path.{_≡_, refl, sym, subst}
+use mathlib.Core.Bool.{true}
 use mathlib.Core.Option.{Option, none, some}
-use mathlib.Core.List.{List, [], _∷_, _++_}
-use Prim.Native.Nat.{ℕ, zero, suc, min, _≤_, _<_}
+use mathlib.Core.List.{List, [], _++_}
+use Prim.Native.Nat.{ℕ, min, _≤_}
 use native.Mathlib.Omega.{arith}
-use lib.ListN.{length, getD}
+use lib.ListN.{length}
 use lib.IntN.{ℤ}
 use Rattle.grammar.specs.Token.{Token}
 use Rattle.grammar.specs.Tree.{Mode, input, output-port, variable-mode, Text}
-use Rattle.grammar.specs.Limits.{Each, groupNumbers, exprsNumbers, bodyExprs, textNumbers, WithinLimits}
-use Rattle.design.specs.Process.{WellFormed}
+use Rattle.grammar.specs.Limits.{groupNumbers, exprsNumbers, bodyExprs, textNumbers, WithinLimits}
+use Rattle.grammar.proofs.Each.{each-split}
 use Rattle.language.specs.Lists.{filter}
 use Rattle.language.specs.Declarations.{Decl, declared, find, isInput, isOutput, isVariable, isData, clockOf, scopeFor, scopeOf}
 use Rattle.language.specs.Names.{names}
-use Rattle.language.specs.Clock.{clock}
-use Rattle.language.specs.Elaboration.{position, elaborate}
+use Rattle.language.specs.Elaboration.{position}
 use Rattle.language.proofs.Facts.{and-true-both}
 use Rattle.language.proofs.Elaborated.{not-doubled}
-use Rattle.language.proofs.WellTyped.{each-split}
-use Rattle.lexer.specs.TokenValues.{Valued}
-use Rattle.cursor.specs.Tokens.{tokenAt}
 use Rattle.statements.specs.Rows.{storeRows}
 use Rattle.parser.specs.declared.Parsed.{Parsed}
 use Rattle.syntax.specs.Headings.{headings, DeclsIn}
-use Rattle.offences.specs.Laid.{Laid}
-use Rattle.scope.specs.Resolves.{WordsIn}
 use Rattle.clock.specs.Judges.{ownerOf, Owns}
 use Rattle.elaborator.specs.Positions.{slotAt, codeAt, argAt, Elaborates, rowsAt}
-use Rattle.elaborator.specs.Names.{slotsAfter, typesOf, valuesOf, Filled, inMode, ClockIs, Spelled}
-use Rattle.elaborator.specs.Sources.{SourceIn, SlotsIn}
+use Rattle.elaborator.specs.Names.{slotsAfter, typesOf, valuesOf, Filled, inMode, ClockIs}
+use Rattle.elaborator.specs.Sources.{SlotsIn}
 use Rattle.elaborator.proofs.NameLawsLaid.{declared-count}
 use Rattle.elaborator.proofs.NameLawsHeld.{clock-found, clock-none, slots-held}
 use Rattle.elaborator.proofs.NameLawsDesign.{names-held}
 use Rattle.elaborator.proofs.TreeFine.{Small}
 use Rattle.elaborator.proofs.Whole.{body-laid}
-use Rattle.frontend.specs.declared.layout.Counts.{Counts}
-use Rattle.frontend.specs.Designs.{Sized, Holds, LaidOut}
-
--- each element has what all have
-each-at : (P : Token → Type 0) (ts : List Token) (i : ℕ) → Each P ts → i < length ts → P (tokenAt ts i)
-each-at P [] i h l = absurd (omega arith)
-each-at P (x ∷ ts) zero h l = h .0
-each-at P (x ∷ ts) (suc i) h l = each-at P ts i (h .1) (omega arith)
+use Rattle.frontend.specs.Designs.{Sized, LaidOut}
 
 -- the numbers of the statements are within the limit
 small : (t : Text) → WithinLimits t → Small (exprsNumbers (bodyExprs (t .body)))
@@ -106,13 +93,12 @@ laid-out text kinds starts sizes codes indices rows decls owners n p {c} slots�
   holds = λ ts t L W lim five eight wf.
       let C = clock-is ts t decls (p .names) c (L .of-decls) five (ow .clocks ts t kinds starts codes indices (p .items) decls (p .names) L) in
       let S : SlotsIn (declared t) (scopeOf t) (clockOf t) slots = rw es (slots-in ts t decls slots₀ (p .names) c (L .of-decls) C ns) in
-      let Z : SourceIn text ts sizes n = record { size = W .size; valued = λ j h. each-at (Valued text) ts j (W .valued) (let k = L .of-tokens .count in omega arith) } in
       record {
         body =
-            body-laid text ts t kinds starts sizes owners decls slots codes indices rows n (p .names) (p .items) (p .statements) (L .of-tokens) Z (L .of-owners) (L .of-decls) S (L .of-items) (L .of-rows) (L .kinded .body)
+            body-laid text ts t kinds starts sizes owners decls slots codes indices rows n (p .names) (p .items) (p .statements) (L .of-tokens) W (L .of-owners) (L .of-decls) S (L .of-items) (L .of-rows) (L .kinded .body)
             (small t lim) five eight ops₀ ops lines₀ lines args₀ args (z .ops-size) (z .args-size) (z .lines-size) el er;
         declared =
-            names-held text ts kinds starts sizes n (L .of-tokens) (record { size = W .size; valued = W .valued }) t decls (p .names) c (L .of-decls) C (L .kinded) lim wf is₀ is os₀ os vs₀ vs ps₀ ps qs₀ qs i o v po qv
+            names-held text ts kinds starts sizes n (L .of-tokens) W t decls (p .names) c (L .of-decls) C (L .kinded) lim wf is₀ is os₀ os vs₀ vs ps₀ ps qs₀ qs i o v po qv
             (z .inputs-size) (z .outputs-size) (z .variables-size) (z .at-outputs-size) (z .at-variables-size) fi fo fv fp fq;
       };
 }

@@ -4,3 +4,4 @@ pub mod Declared
 pub mod Laying
 pub mod Fronting
 pub mod StageFacts
+pub mod Told

@@ -6,16 +6,16 @@ use lib.ListN.{length}
 use Rattle.grammar.specs.Token.{Token}
 use Rattle.grammar.specs.Tree.{Group, Text}
 use Rattle.grammar.specs.Limits.{Each, WithinLimits}
+use Rattle.grammar.proofs.Each.{each-join}
 use Rattle.language.specs.Declarations.{groups}
 use Rattle.language.specs.Names.{names}
-use Rattle.language.proofs.WellTyped.{each-join}
 use Rattle.parser.specs.declared.Parsed.{Parsed}
 use Rattle.syntax.specs.declared.Finding.{Finding}
 use Rattle.syntax.specs.Lowest.{findingOf}
 use Rattle.syntax.specs.Kinded.{KindedGroup, Kinded}
 use Rattle.offences.specs.Laid.{Laid}
 use Rattle.scope.specs.declared.Heads.{Heads}
-use Rattle.scope.specs.Resolves.{WordsIn}
+use Rattle.limits.specs.Words.{WordsIn}
 use Rattle.scope.specs.Judges.{HeadsIn, Finds}
 use Rattle.typing.specs.Expressions.{sources}
 use Rattle.typing.specs.Statements as T

@@ -13,7 +13,7 @@ use Rattle.language.specs.Clock.{clock}
 use Rattle.language.specs.Elaboration.{elaborate}
 use Rattle.parser.specs.declared.Parsed.{Parsed}
 use Rattle.offences.specs.Laid.{Laid}
-use Rattle.scope.specs.Resolves.{WordsIn}
+use Rattle.limits.specs.Words.{WordsIn}
 use Rattle.ir.specs.Arrays.{BodyIn, NamesIn}
 use Rattle.frontend.specs.declared.layout.Counts.{Counts}
 

@@ -16,7 +16,7 @@ use Rattle.parser.specs.declared.Parsed.{Parsed}
 use Rattle.syntax.specs.Arrays.{TokensIn, ItemsIn, RowsIn}
 use Rattle.syntax.specs.Headings.{headings, DeclsIn}
 use Rattle.syntax.specs.Kinded.{Kinded}
-use Rattle.scope.specs.Resolves.{WordsIn}
+use Rattle.limits.specs.Words.{WordsIn}
 use Rattle.scope.specs.Judges.{HeadsIn}
 use Rattle.ir.specs.Entries.{entries, entryOps}
 use Rattle.frontend.specs.declared.Front.{Front}

@@ -18,7 +18,7 @@ use Rattle.syntax.specs.Arrays.{TokensIn, RowsIn}
 use Rattle.parser.specs.declared.Parsed.{Parsed}
 use Rattle.offences.specs.Laid.{Laid}
 use Rattle.scope.specs.declared.Heads.{Heads}
-use Rattle.scope.specs.Resolves.{WordsIn}
+use Rattle.limits.specs.Words.{WordsIn}
 use Rattle.scope.specs.Judges.{HeadsIn}
 use Rattle.answers.specs.Answers.{refusalOf}
 use Rattle.frontend.specs.declared.rules.Ruling.{Ruling}

@@ -1,7 +1,6 @@
 // All stages of the front end in table order: a text to the arrays of its design, or its refusal.
 ghost use mathlib.Core.Path.{_≡_};
 ghost use mathlib.Core.List.{List};
-ghost use Prim.Native.Nat.{ℕ};
 ghost use lib.ListN.{length};
 ghost use Rattle.grammar.specs.Token.{Token};
 ghost use Rattle.grammar.specs.Tree.{Text};
@@ -11,7 +10,7 @@ ghost use Rattle.language.specs.Verdict.{ruled, verdict};
 ghost use Rattle.language.specs.Verdict.{parsed as parsedAs};
 ghost use Rattle.cursor.specs.Tokens.{Holds};
 ghost use Rattle.syntax.specs.Arrays.{TokensIn};
-ghost use Rattle.scope.specs.Resolves.{WordsIn};
+ghost use Rattle.limits.specs.Words.{WordsIn};
 ghost use Rattle.answers.specs.Answers.{refusalOf};
 ghost use Rattle.frontend.specs.Answered.{placeIn};
 ghost use Rattle.frontend.specs.Designs.{Sized};

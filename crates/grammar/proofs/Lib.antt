@@ -19,3 +19,5 @@ pub mod Headings
 pub mod Tokens
 pub mod Limits
 pub mod Room
+pub mod Each
+pub mod Keeping

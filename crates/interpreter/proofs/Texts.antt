@@ -1,5 +1,5 @@
--- What the front end's answer says of the verdict, and so of a direct call on the text. Assumes nothing.
-use mathlib.Core.Path.{_≡_, refl, sym, _∙_, ap, subst}
+-- What the front end's answer says of a direct call on the text. Assumes nothing.
+use mathlib.Core.Path.{_≡_, refl, _∙_, ap}
 use mathlib.Core.List.{List, []}
 use Prim.Native.Nat.{ℕ, _-_, _≤_}
 use native.Mathlib.Omega.{arith}
@@ -9,10 +9,8 @@ use Rattle.answers.specs.declared.State.{State}
 use Rattle.answers.specs.declared.Refusal.{Refusal}
 use Rattle.answers.specs.declared.Cycled.the-variants.{NotPerformed}
 use Rattle.answers.specs.declared.Started.the-variants.{Fresh, NotStarted}
-use Rattle.design.specs.Process.{Source, Slot, Process, WellFormed}
-use Rattle.language.specs.Verdict.{Verdict, accepted, refused, verdict}
-use Rattle.language.proofs.Judged.{accepts}
-use Rattle.language.proofs.WellFormed.{valid-well-formed}
+use Rattle.design.specs.Process.{Source, Slot, Process}
+use Rattle.language.specs.Verdict.{accepted, verdict}
 use Rattle.semantics.specs.Rows.{atFirst}
 use Rattle.semantics.specs.Records.{stateFor}
 use Rattle.semantics.specs.Calls.{Call}
@@ -20,38 +18,12 @@ use Rattle.semantics.specs.Comparison.{laid}
 use Rattle.semantics.specs.DirectRow.{directRow}
 use Rattle.behaviour.specs.Direct.{directOf, directFresh}
 use Rattle.ir.specs.Arrays.{NamesIn}
-use Rattle.frontend.specs.declared.Front.{Front}
-use Rattle.frontend.specs.declared.Front.the-variants.{Accepted, Refused}
 use Rattle.frontend.specs.declared.layout.Counts.{Counts}
-use Rattle.answers.specs.Answers.{refusalOf}
-use Rattle.frontend.specs.Designs.{Holds}
-use Rattle.frontend.specs.Fronts.{countsOf, DesignArrays, designArrays, FrontAs}
-use Rattle.direct.specs.Calls.{Advances}
+use Rattle.frontend.proofs.Told.{Design, Turned}
+use Rattle.semantics.specs.Advances.{Advances, startOf, startedOf}
 use Rattle.direct.specs.Calls as D
-use Rattle.direct.specs.declared.Advanced.{Advanced}
-use Rattle.interpreter.specs.Answering.{cycledOf, startedOf, startOf}
-
--- THE FRONT END
-
--- an accepted text: its process, and the arrays that hold it
-pub record Design (text ops : List ℕ) (args : List ℤ) (lines is os vs : List ℕ) (ps qs : List ℤ) (c : Counts) : Type 0 where
-  pub process : Process
-  pub is-verdict : verdict text ≡ accepted process
-  pub holds : Holds process ops args lines is os vs ps qs c
-  pub formed : WellFormed process
-
-not-accepted : {A : Type 0} {c : Counts} {x : Refusal} → Accepted c ≡ Refused x → A
-not-accepted e = absurd (let z : _≡_ {A = ℕ} 0 1 = cc in omega arith)
-
-pub design-of : (text : List ℕ) {r : Front} {c : Counts} (before : DesignArrays) (ops : List ℕ) (args : List ℤ) (lines is os vs : List ℕ) (ps qs : List ℤ) → FrontAs (verdict text) r before (designArrays ops args lines is os vs ps qs) → r ≡ Accepted c → Design text ops args lines is os vs ps qs c
-design-of text {r} {c} before ops args lines is os vs ps qs f e = go (verdict text) refl f
-  where
-    go : (v : Verdict) → verdict text ≡ v → FrontAs v r before (designArrays ops args lines is os vs ps qs) → Design text ops args lines is os vs ps qs c
-    go (accepted p) h (g, k) =
-        let z : Accepted c ≡ Accepted (countsOf p) = sym e ∙ g in
-        let y : countsOf p ≡ c = cc in
-        record { process = p; is-verdict = h; holds = subst (λ (u : Counts). Holds p ops args lines is os vs ps qs u) y k; formed = valid-well-formed (accepts text p .0 h) }
-    go (refused n k) h (g, u) = not-accepted (sym e ∙ g)
+use Rattle.answers.specs.declared.Advanced.{Advanced}
+use Rattle.semantics.specs.Advances.{cycledOf}
 
 -- the counts of names
 pub bounds : {text ops : List ℕ} {args : List ℤ} {lines is os vs : List ℕ} {ps qs : List ℤ} {c : Counts} → Design text ops args lines is os vs ps qs c → (c .inputs ≤ 16) × (c .outputs ≤ 16) × (c .variables ≤ 32)
@@ -68,23 +40,6 @@ bounds d =
     let wo = w .outputs in
     let wv = w .variables in
     (omega arith, omega arith, omega arith)
-
--- a refused text: its verdict, and the refusal that the front end answers
-pub record Turned (text : List ℕ) (x : Refusal) : Type 0 where
-  pub number : ℕ
-  pub place : ℕ
-  pub is-verdict : verdict text ≡ refused number place
-  pub is-refusal : x ≡ refusalOf number place
-
-pub turned-of : (text : List ℕ) {r : Front} {x : Refusal} (before after : DesignArrays) → FrontAs (verdict text) r before after → r ≡ Refused x → Turned text x
-turned-of text {r} {x} before after f e = go (verdict text) refl f
-  where
-    go : (v : Verdict) → verdict text ≡ v → FrontAs v r before after → Turned text x
-    go (accepted p) h (g, k) = not-accepted (sym g ∙ e)
-    go (refused n k) h (g, u) =
-        let z : Refused x ≡ Refused (refusalOf n k) = sym e ∙ g in
-        let y : x ≡ refusalOf n k = cc in
-        record { number = n; place = k; is-verdict = h; is-refusal = y }
 
 -- THE CALL
 

@@ -11,20 +11,16 @@ ghost use Rattle.semantics.specs.Comparison.{laid};
 ghost use Rattle.semantics.specs.DirectRow.{directRow};
 ghost use Rattle.behaviour.specs.Direct.{directOf, directFresh};
 ghost use Rattle.frontend.specs.Designs.{Holds};
-ghost use Rattle.direct.specs.Calls.{callOf, Advances};
-ghost use Rattle.interpreter.specs.Answering.{cycledOf, startedOf, startOf};
+ghost use Rattle.direct.specs.Calls.{callOf};
+ghost use Rattle.semantics.specs.Advances.{Advances, startOf, startedOf};
+ghost use Rattle.semantics.specs.Advances.{cycledOf};
+use answers::Advanced;
 use answers::Cycled;
+use answers::FreshState;
 use answers::Started;
 use answers::State;
-use direct::Advanced;
 use frontend::Front;
 use frontend::layout::Counts;
-
-// The answer to a fresh state asked for, and the state.
-pub struct FreshState {
-    pub state: State,
-    pub answer: Started,
-}
 
 // One call on the design of an accepted text.
 fn run_design(

@@ -16,7 +16,7 @@ use Rattle.grammar.proofs.Limits.{exactly-limits}
 use Rattle.design.specs.Process.{Process}
 use Rattle.language.specs.Lexer.{lex, tokens}
 use Rattle.language.specs.Elaboration.{elaborate}
-use Rattle.language.specs.Verdict.{Verdict, accepted, refused, verdict}
+use Rattle.language.specs.Verdict.{Verdict, accepted, refused, verdict, isAccepted}
 use Rattle.language.proofs.Elaborated.{elaborated-only}
 use Rattle.language.proofs.Judged.{clean, accepts}
 use Rattle.language.proofs.LexExact.{lex-tokens}
@@ -26,7 +26,7 @@ use Rattle.lexer.specs.declared.Lexed.{Lexed}
 use Rattle.lexer.specs.declared.Lexed.the-variants.{Tokens, NotLexed}
 use Rattle.lexer.specs.Tokens as X
 use Rattle.limits.specs.Flags.{marked}
-use Rattle.limits.proofs.Held.{tokens-held, sizes-held, values-held, flags-held}
+use Rattle.limits.proofs.Held.{tokens-held, words-held, flags-held}
 use Rattle.cursor.specs.Tokens as C
 use Rattle.statements.specs.Rows.{output}
 use Rattle.expressions.specs.Written.{arrays}
@@ -35,25 +35,22 @@ use Rattle.parser.specs.declared.Parsing.{Parsing}
 use Rattle.parser.specs.declared.Parsing.the-variants.{Tree, NotParsed}
 use Rattle.parser.specs.Answers.{lent, ReadAs, parsesAs, Parses}
 use Rattle.syntax.specs.Arrays.{TokensIn}
-use Rattle.scope.specs.Resolves.{WordsIn}
+use Rattle.limits.specs.Words.{WordsIn}
 use Rattle.frontend.specs.declared.Front.{Front}
 use Rattle.frontend.specs.declared.Front.the-variants.{Accepted, Refused}
 use Rattle.frontend.specs.declared.layout.Counts.{Counts}
 use Rattle.frontend.specs.Fronts.{frontOf}
 use Rattle.frontend.proofs.Fronting.{tree-in}
+use Rattle.frontend.proofs.Told.{not-accepted}
 use Rattle.labels.specs.declared.Line.{Line}
-use Rattle.labels.specs.Header.{headerOf, headerFor, isAccepted}
+use Rattle.labels.specs.Header.{headerOf, headerFor}
 use Rattle.labels.specs.Lines.{padded, lineOf, Headed, Shows}
 use Rattle.labels.specs.Positions.{headerAt}
 use Rattle.labels.proofs.Listed.{header-is, header-short}
 
 -- THE FRONT END'S ANSWER
 
-not-accepted : {A : Type 0} {c : Counts} {x : Refusal} → Accepted c ≡ Refused x → A
-not-accepted e = absurd (let z : _≡_ {A = ℕ} 0 1 = cc in omega arith)
-
 pub front-yes : (text : List ℕ) {r : Front} {c : Counts} → r ≡ frontOf (verdict text) → r ≡ Accepted c → true ≡ isAccepted (verdict text)
-unfolding isAccepted
 front-yes text {r} {c} f e = go (verdict text) f
   where
     go : (v : Verdict) → r ≡ frontOf v → true ≡ isAccepted v
@@ -61,7 +58,6 @@ front-yes text {r} {c} f e = go (verdict text) f
     go (refused n k) g = not-accepted (sym e ∙ g)
 
 pub front-no : (text : List ℕ) {r : Front} {x : Refusal} → r ≡ frontOf (verdict text) → r ≡ Refused x → false ≡ isAccepted (verdict text)
-unfolding isAccepted
 front-no text {r} {x} f e = go (verdict text) f
   where
     go : (v : Verdict) → r ≡ frontOf v → false ≡ isAccepted v
@@ -132,7 +128,7 @@ line-lexed text kinds₀ kinds starts₀ starts sizes₀ sizes long₀ long n ou
     let t = s .lexes in
     subst (λ (q : Process). Shows out m (headerOf q)) (s .means)
     (f (s .list) (s .tree) (tokens-held text kinds₀ kinds starts₀ starts sizes₀ sizes n ts l t lk ls)
-    (record { size = sizes-held text kinds₀ kinds starts₀ starts sizes₀ sizes n ts l t lz; valued = values-held text kinds₀ kinds starts₀ starts sizes₀ sizes n ts l t })
+    (words-held text kinds₀ kinds starts₀ starts sizes₀ sizes n ts l t lz)
     (rw k (flags-held text kinds₀ kinds starts₀ starts sizes₀ sizes n ts l t lk ls lz long₀ ll))
     (s .reads))
   where
@@ -171,7 +167,7 @@ headed text r h e =
 
 -- of a text that is accepted
 pub headed-yes : (text : List ℕ) (r : Line) → isAccepted (verdict text) ≡ true → ((p : Process) → verdict text ≡ accepted p → Shows (r .bytes) (r .size) (headerOf p)) → Headed text r
-unfolding isAccepted headerFor
+unfolding headerFor
 headed-yes text r a f = go (verdict text) refl a
   where
     go : (v : Verdict) → verdict text ≡ v → isAccepted v ≡ true → Headed text r
@@ -184,7 +180,7 @@ headed-yes text r a f = go (verdict text) refl a
 
 -- of a text that is refused
 pub headed-no : (text : List ℕ) (r : Line) → isAccepted (verdict text) ≡ false → r ≡ lineOf [] → Headed text r
-unfolding isAccepted headerFor
+unfolding headerFor
 headed-no text r a f = go (verdict text) refl a
   where
     go : (v : Verdict) → verdict text ≡ v → isAccepted v ≡ false → Headed text r

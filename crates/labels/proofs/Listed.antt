@@ -11,6 +11,7 @@ use Rattle.grammar.specs.Token.{Token, NAME}
 use Rattle.grammar.specs.Tree.{Mode, input, output-port, variable-mode, Group, Text}
 use Rattle.grammar.specs.Reader.{choose}
 use Rattle.grammar.specs.Limits.{Each, groupNames, bodyNames, textNames, WithinLimits}
+use Rattle.grammar.proofs.Each.{each-at, each-join, each-split}
 use Rattle.design.specs.Process.{Slot, Process}
 use Rattle.language.specs.Bytes.{bytes, lower}
 use Rattle.language.specs.Lists.{filter}
@@ -23,12 +24,11 @@ use Rattle.parser.specs.declared.Parsed.{Parsed}
 use Rattle.syntax.specs.Arrays.{numberIn, TokensIn}
 use Rattle.syntax.specs.Headings.{modeCode}
 use Rattle.offences.specs.Positions.{modeIn}
-use Rattle.offences.proofs.Bodies.{all-append}
 use Rattle.offences.proofs.Loops.{listFrom}
 use Rattle.offences.proofs.Found.{Outline, ofDecl, outlineIn, decls-are}
 use Rattle.offences.proofs.Tokens.{number-inside, kind-inside, place-is}
 use Rattle.scope.specs.Positions.{foldedAt}
-use Rattle.scope.specs.Resolves.{WordsIn}
+use Rattle.limits.specs.Words.{WordsIn}
 use Rattle.scope.proofs.Resolved.{Named, named-declared}
 use Rattle.frontend.specs.Fronts.{TreeIn}
 use Rattle.labels.specs.Header.{nameBytes, labelled, headerOf}
@@ -41,10 +41,6 @@ use Rattle.labels.proofs.NameBytes.{name-bytes, name-short}
 abbrev Short : Token → Type 0
 Short x = x .size ≤ 32
 
-each-parts : {A : Type 0} (P : A → Type 0) (a b : List A) → Each P (a ++ b) → Each P a × Each P b
-each-parts P [] b x = (tt, x)
-each-parts P (d ∷ a) b x = let r = each-parts P a b (x .1) in ((x .0, r .0), r .1)
-
 short-declare : (g : Group) (xs : List Token) → Each Short xs → Each (λ (d : Decl). Short (d .name)) (declare g xs)
 unfolding declare
 short-declare g [] p = tt
@@ -54,29 +50,24 @@ short-spread : (gs : List Group) → Each Short (groupNames gs) → Each (λ (d 
 unfolding spread groupNames
 short-spread [] p = tt
 short-spread (g ∷ gs) p =
-    let r = each-parts Short (g .names) (groupNames gs) p in
-    all-append (λ (d : Decl). Short (d .name)) (declare g (g .names)) (spread gs) (short-declare g (g .names) (r .0)) (short-spread gs (r .1))
+    let r = each-split Short (g .names) (groupNames gs) p in
+    each-join (λ (d : Decl). Short (d .name)) (declare g (g .names)) (spread gs) (short-declare g (g .names) (r .0)) (short-spread gs (r .1))
 
 names-join : (a b : List Group) → Each Short (groupNames a) → Each Short (groupNames b) → Each Short (groupNames (a ++ b))
 unfolding groupNames
 names-join [] b p q = q
 names-join (g ∷ a) b p q =
-    let r = each-parts Short (g .names) (groupNames a) p in
-    all-append Short (g .names) (groupNames (a ++ b)) (r .0) (names-join a b (r .1) q)
+    let r = each-split Short (g .names) (groupNames a) p in
+    each-join Short (g .names) (groupNames (a ++ b)) (r .0) (names-join a b (r .1) q)
 
 short-declared : (t : Text) → WithinLimits t → Each (λ (d : Decl). Short (d .name)) (declared t)
 unfolding declared groups textNames
 short-declared t w =
-    let r = each-parts Short (groupNames (t .ports)) (groupNames (t .vars) ++ bodyNames (t .body)) (w .names .1 .1 .1 .1 .1) in
-    let s = each-parts Short (groupNames (t .vars)) (bodyNames (t .body)) (r .1) in
+    let r = each-split Short (groupNames (t .ports)) (groupNames (t .vars) ++ bodyNames (t .body)) (w .names .1 .1 .1 .1 .1) in
+    let s = each-split Short (groupNames (t .vars)) (bodyNames (t .body)) (r .1) in
     short-spread (t .ports ++ t .vars) (names-join (t .ports) (t .vars) (r .0) (s .0))
 
 -- LABELS
-
-each-at : {A : Type 0} (P : A → Type 0) (l : List A) (a : A) → Each P l → (i : ℕ) → i < length l → P (getD l i a)
-each-at P [] a p i h = absurd (omega arith)
-each-at P (x ∷ l) a p zero h = p .0
-each-at P (x ∷ l) a p (suc i) h = each-at P l a (p .1) i (omega arith)
 
 by-mode : (q : Mode) (l : List ℕ) → choose (eqb (modeCode q) 1) l [] ≡ cond (isOutput q) l []
 unfolding modeCode isOutput

@@ -1,6 +1,6 @@
 -- The bytes of a name token's number are the token's bytes folded to lower case. Assumes nothing.
-use mathlib.Core.Path.{_≡_, refl, sym, _∙_, ap}
-use mathlib.Core.Bool.{Bool, true, false, cond, _||_}
+use mathlib.Core.Path.{_≡_, refl, _∙_, ap}
+use mathlib.Core.Bool.{Bool, true, false, cond}
 use mathlib.Core.List.{List, [], _∷_, _++_, append-nil, map}
 use Prim.Native.Nat.{ℕ, zero, suc, _+_, _*_, _-_, _/_, _%_, _≤_, _<_}
 use native.Mathlib.Omega.{arith}
@@ -8,52 +8,14 @@ use lib.Dec.{eqb}
 use lib.ListN.{length, drop, length-take}
 use borrow.Author.Tests.{ne-eqb}
 use Rattle.grammar.specs.Token.{Token, NAME}
-use Rattle.language.specs.Bytes.{bytes, between, elem, blank, quote, mark, none, byteKind, kindCode, is, inWord, lower}
+use Rattle.language.specs.Bytes.{between, inWord, lower}
 use Rattle.language.specs.Words.{folded}
 use Rattle.language.specs.Lexing.{all}
-use Rattle.language.proofs.Facts.{clash, and-true-both, eqb-eq}
-use Rattle.language.proofs.Folding.{between-le}
+use Rattle.language.proofs.Facts.{and-true-both}
+use Rattle.language.proofs.Folding.{lower-range}
 use Rattle.lexer.specs.Places.{part}
 use Rattle.lexer.specs.TokenValues.{tokenValue, Valued}
 use Rattle.labels.specs.Header.{digits, nameBytes}
-
--- a byte of a word is no NUL and below 123
-word-byte : (b : ℕ) → inWord b ≡ true → (0 < b) × (b < 123)
-unfolding inWord is byteKind
-word-byte b e = first (between 97 122 b) refl
-  where
-    fourth : (q : Bool) → eqb b 95 ≡ q → between 97 122 b ≡ false → between 65 90 b ≡ false → between 48 57 b ≡ false → (0 < b) × (b < 123)
-    fourth true h l u d = let s = eqb-eq b 95 h in (omega arith, omega arith)
-    fourth false h l u d = others (elem b (32 ∷ 9 ∷ 10 ∷ 13 ∷ [])) (eqb b 39) (elem b (bytes "();:,+-=<>/")) (rw (l, u, d, h) at e)
-      where
-        others : (x y z : Bool)
-            → (eqb 0 (kindCode (cond x blank (cond y quote (cond z mark none)))) || (eqb 1 (kindCode (cond x blank (cond y quote (cond z mark none)))) || eqb 2 (kindCode (cond x blank (cond y quote (cond z mark none)))))) ≡ true
-            → (0 < b) × (b < 123)
-        others true y z f = clash (sym f)
-        others false true z f = clash (sym f)
-        others false false true f = clash (sym f)
-        others false false false f = clash (sym f)
-
-    third : (q : Bool) → between 48 57 b ≡ q → between 97 122 b ≡ false → between 65 90 b ≡ false → (0 < b) × (b < 123)
-    third true h l u = let s = between-le 48 57 b h in (omega arith, omega arith)
-    third false h l u = fourth (eqb b 95) refl l u h
-
-    second : (q : Bool) → between 65 90 b ≡ q → between 97 122 b ≡ false → (0 < b) × (b < 123)
-    second true h l = let s = between-le 65 90 b h in (omega arith, omega arith)
-    second false h l = third (between 48 57 b) refl l h
-
-    first : (q : Bool) → between 97 122 b ≡ q → (0 < b) × (b < 123)
-    first true h = let s = between-le 97 122 b h in (omega arith, omega arith)
-    first false h = second (between 65 90 b) refl h
-
--- so a folded byte is a digit to base 256, and not 0
-lower-range : (b : ℕ) → inWord b ≡ true → (0 < lower b) × (lower b < 256)
-unfolding lower
-lower-range b e = go (between 65 90 b) (word-byte b e)
-  where
-    go : (u : Bool) → (0 < b) × (b < 123) → (0 < cond u (b + 32) b) × (cond u (b + 32) b < 256)
-    go true h = (omega arith, omega arith)
-    go false h = (omega arith, omega arith)
 
 -- one digit is taken off
 digit-off : (n v x : ℕ) (l : List ℕ) → 0 < x → x < 256 → digits (suc n) (v * 256 + x) l ≡ digits n v (x ∷ l)

@@ -1,5 +1,5 @@
 -- The header that the trace program prints (document 01, "The trace of tally"). Assumes nothing.
-use mathlib.Core.Bool.{Bool, true, false, cond}
+use mathlib.Core.Bool.{cond}
 use mathlib.Core.List.{List, [], _∷_, _++_}
 use Prim.Native.Nat.{ℕ, zero, suc, _/_, _%_}
 use lib.Dec.{eqb}
@@ -29,8 +29,3 @@ headerOf p = bytes "cycle wait lines" ++ (labelled (p .outputs) ++ (10 ∷ []))
 unfoldable pub headerFor : Verdict → List ℕ
 headerFor (accepted p) = headerOf p
 headerFor (refused n k) = []
-
--- whether the verdict is no refusal, as "A refused text prints only `refused`, number, place"
-unfoldable pub isAccepted : Verdict → Bool
-isAccepted (accepted p) = true
-isAccepted (refused n k) = false

@@ -7,11 +7,11 @@ ghost use Rattle.grammar.specs.Acceptance as Grammar;
 ghost use Rattle.grammar.specs.Reader.{answer};
 ghost use Rattle.design.specs.Process.{Process};
 ghost use Rattle.language.specs.Elaboration.{elaborate};
-ghost use Rattle.language.specs.Verdict.{verdict, accepted as acceptedAs};
+ghost use Rattle.language.specs.Verdict.{verdict, accepted as acceptedAs, isAccepted};
 ghost use Rattle.cursor.specs.Tokens.{Holds};
 ghost use Rattle.syntax.specs.Arrays.{TokensIn};
-ghost use Rattle.scope.specs.Resolves.{WordsIn};
-ghost use Rattle.labels.specs.Header.{headerOf, isAccepted};
+ghost use Rattle.limits.specs.Words.{WordsIn};
+ghost use Rattle.labels.specs.Header.{headerOf};
 ghost use Rattle.labels.specs.Lines.{lineOf, Headed, Shows};
 ghost use Rattle.labels.specs.Positions.{headerAt};
 

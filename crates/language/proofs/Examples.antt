@@ -11,7 +11,7 @@ use Rattle.design.specs.Process.{Process}
 use Rattle.language.specs.Bytes.{bytes}
 use Rattle.language.specs.Lexing.{equal}
 use Rattle.language.specs.Lexer.{tokenAt}
-use Rattle.language.specs.Verdict.{Verdict, accepted, refused, verdict}
+use Rattle.language.specs.Verdict.{Verdict, accepted, refused, verdict, isAccepted}
 use Rattle.language.proofs.Facts.{and-true-both, eqb-eq, T-is, clash}
 use Rattle.language.proofs.Lexing.{equal-is}
 use Rattle.language.proofs.Computing.{computed}
@@ -36,11 +36,6 @@ abbrev pub Holds : Example → Type 0
 Holds (accepts t) = (d : Process) × (verdict t ≡ accepted d)
 Holds (refuses n m w) = (verdict (plain m) ≡ refused n (place m)) × (tokenAt (plain m) (place m) ≡ w)
 
--- the same as a test
-unfoldable pub isAccepted : Verdict → Bool
-isAccepted (accepted d) = true
-isAccepted (refused k q) = false
-
 unfoldable pub isRefused : ℕ → ℕ → Verdict → Bool
 isRefused n p (accepted d) = false
 isRefused n p (refused k q) = eqb k n && eqb q p
@@ -54,7 +49,6 @@ every [] = true
 every (x ∷ l) = test x && every l
 
 accepted-is : (v : Verdict) → isAccepted v ≡ true → (d : Process) × (v ≡ accepted d)
-unfolding isAccepted
 accepted-is (accepted d) e = (d, refl)
 accepted-is (refused k q) e = clash (sym e)
 
@@ -82,7 +76,7 @@ all-hold (x ∷ l) t = let s = and-true-both (test x) (every l) (T-is (test x &&
 
 -- The test of a table, with all that it computes by opened: a table says `unfolding passes`, and its test is `tt`.
 unfoldable pub passes : List Example → Bool
-unfolding computed test plain place isAccepted isRefused every equal
+unfolding computed test plain place isRefused every equal
 passes l = every l
 
 pub all-pass : (l : List Example) → T (passes l) → Each Holds l

@@ -44,7 +44,7 @@ word-byte b e = first (between 97 122 b) refl
     first true h = let s = between-le 97 122 b h in (omega arith, omega arith)
     first false h = second (between 65 90 b) refl h
 
-lower-range : (b : ℕ) → inWord b ≡ true → (0 < lower b) × (lower b < 256)
+pub lower-range : (b : ℕ) → inWord b ≡ true → (0 < lower b) × (lower b < 256)
 unfolding lower
 lower-range b e = go (between 65 90 b) (word-byte b e)
   where

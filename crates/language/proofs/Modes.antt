@@ -3,12 +3,15 @@
 use mathlib.Core.Path.{_≡_, refl, subst}
 use mathlib.Core.Bool.{true, false}
 use mathlib.Core.List.{List, [], _∷_}
+use Prim.Native.Nat.{ℕ}
 use Rattle.grammar.specs.Token.{Token}
 use Rattle.grammar.specs.Tree.{Group, Text}
 use Rattle.grammar.specs.Grammar.{NonTerminal, text, ports, morePorts, port, names, moreNames, mode, type, init, value, vars, body, more, statement, target, else-part, expression, chain, ands, ors, xors, relation, compared, simple, terms, factor, primary}
 use Rattle.grammar.specs.Grammar.{Says, Mark, Sym, tk, nt, Fun, Production, productions, textProduction}
-use Rattle.grammar.specs.Derivation.{_∈_, here, there, Tree, by, Trees, empty, token, child, says, saysAll, Reads}
+use Rattle.grammar.specs.Derivation.{span, Reads}
 use Rattle.grammar.specs.Limits.{Each}
+use Rattle.grammar.proofs.Each.{each-any}
+use Rattle.grammar.proofs.Keeping.{Keeps, KeepAll, tree-keeps}
 use Rattle.language.specs.Declarations.{isVariable}
 
 -- no port is a variable; every variable is one
@@ -46,39 +49,32 @@ Kept terms v = Unit {0}
 Kept factor v = Unit {0}
 Kept primary v = Unit {0}
 
--- a production keeps it: where its symbols have it, what it says has it
-abbrev Keeps : (γ : List Sym) (M : NonTerminal) → Fun γ (Says M) → Type 0
-Keeps [] M f = Kept M f
-Keeps (tk m k ∷ γ) M f = (x : Token) → Keeps γ M (f x)
-Keeps (nt A ∷ γ) M f = (v : Says A) → Kept A v → Keeps γ M (f v)
-
-abbrev KeepAll : (M : NonTerminal) → List (Production M) → Type 0
-KeepAll M [] = Unit {0}
-KeepAll M (r ∷ rs) = Keeps (r .rhs) M (r .says) × KeepAll M rs
-
 -- where all that M may say has it, every production keeps it
-anyway : (M : NonTerminal) → ((v : Says M) → Kept M v) → (γ : List Sym) (f : Fun γ (Says M)) → Keeps γ M f
+anyway : (M : NonTerminal) → ((v : Says M) → Kept M v) → (γ : List Sym) (f : Fun γ (Says M)) → Keeps (λ (k : ℕ) (x : Token). Unit {0}) Kept γ M f
 anyway M h [] f = h f
-anyway M h (tk m k ∷ γ) f = λ x. anyway M h γ (f x)
+anyway M h (tk m k ∷ γ) f = λ x _. anyway M h γ (f x)
 anyway M h (nt A ∷ γ) f = λ v _. anyway M h γ (f v)
 
-free : (M : NonTerminal) → ((v : Says M) → Kept M v) → (rs : List (Production M)) → KeepAll M rs
+free : (M : NonTerminal) → ((v : Says M) → Kept M v) → (rs : List (Production M)) → KeepAll (λ (k : ℕ) (x : Token). Unit {0}) Kept M rs
 free M h [] = tt
 free M h (r ∷ rs) = (anyway M h (r .rhs) (r .says), free M h rs)
 
-all-keep : (M : NonTerminal) → KeepAll M (productions M)
+all-keep : (M : NonTerminal) → KeepAll (λ (k : ℕ) (x : Token). Unit {0}) Kept M (productions M)
 unfolding productions textProduction isVariable
-all-keep text = (λ _ _ _ _ _ ps p _ _ _ _ _ _ _ _ _ _ _ _ vs v _ _ _ _ _ _ _ _ _. record { ports = p; vars = v }, tt)
+all-keep text = (
+  λ _ _ _ _ _ _ _ _ _ _ ps p _ _ _ _ _ _ _ _ _ _ _ _ _ _ _ _ _ _ _ _ _ _ _ _ vs v _ _ _ _ _ _ _ _ _ _ _ _ _ _ _ _. record { ports = p; vars = v },
+  tt,
+)
 all-keep ports = (λ g h gs k. (h, k), tt)
-all-keep morePorts = (tt, (λ _ g h gs k. (h, k), tt))
-all-keep port = (λ ns _ _ m h t _ i _. h, tt)
+all-keep morePorts = (tt, (λ _ _ g h gs k. (h, k), tt))
+all-keep port = (λ ns _ _ _ m h t _ i _. h, tt)
 all-keep names = free names (λ v. tt) (productions names)
 all-keep moreNames = free moreNames (λ v. tt) (productions moreNames)
-all-keep mode = (λ _. refl, (λ _. refl, tt))
+all-keep mode = (λ _ _. refl, (λ _ _. refl, tt))
 all-keep type = free type (λ v. tt) (productions type)
 all-keep init = free init (λ v. tt) (productions init)
 all-keep value = free value (λ v. tt) (productions value)
-all-keep vars = (tt, (λ _ ns _ _ t _ i _ _ vs k. (refl, k), tt))
+all-keep vars = (tt, (λ _ _ ns _ _ _ t _ i _ _ _ vs k. (refl, k), tt))
 all-keep body = free body (λ v. tt) (productions body)
 all-keep more = free more (λ v. tt) (productions more)
 all-keep statement = free statement (λ v. tt) (productions statement)
@@ -96,20 +92,7 @@ all-keep terms = free terms (λ v. tt) (productions terms)
 all-keep factor = free factor (λ v. tt) (productions factor)
 all-keep primary = free primary (λ v. tt) (productions primary)
 
-picked : (M : NonTerminal) (r : Production M) (rs : List (Production M)) → r ∈ rs → KeepAll M rs → Keeps (r .rhs) M (r .says)
-picked M r rs here h = h .0
-picked M r rs (there {q} {rs = qs} m) h = picked M r qs m (h .1)
-
-mutual
-  unfolding says
-
-  tree-keeps : {M : NonTerminal} (d : Tree M) → Kept M (says d)
-  tree-keeps {M} (by r m ds) = trees-keep ds M (r .says) (picked M r (productions M) m (all-keep M))
-
-  trees-keep : {γ : List Sym} (ds : Trees γ) (S : NonTerminal) (f : Fun γ (Says S)) → Keeps γ S f → Kept S (saysAll ds S f)
-  trees-keep empty S f k = k
-  trees-keep (token x e ds) S f k = trees-keep ds S (f x) (k x)
-  trees-keep (child d ds) S f k = trees-keep ds S (f (says d)) (k (says d) (tree-keeps d))
-
 pub moded : {ts : List Token} {es : List Mark} {t : Text} → Reads text ts es t → Moded t
-moded r = subst Moded (r .said) (tree-keeps (r .tree))
+moded r =
+    subst Moded (r .said)
+    (tree-keeps (λ (k : ℕ) (x : Token). Unit {0}) Kept (λ (x : Token). Unit {0}) (λ k x e _. tt) all-keep (r .tree) (each-any (λ (x : Token). Unit {0}) (λ x. tt) (span (r .tree))))

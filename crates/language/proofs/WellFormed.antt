@@ -9,6 +9,7 @@ use lib.ListN.{length, length-map}
 use Rattle.grammar.specs.Token.{Token}
 use Rattle.grammar.specs.Tree.{Group, Text}
 use Rattle.grammar.specs.Limits.{Each, initNumbers, exprsNumbers, groupNumbers, textNumbers, bodyExprs, WithinLimits}
+use Rattle.grammar.proofs.Each.{each-split, each-join}
 use Rattle.design.specs.Process.{Process, WellFormed, typedProcess, Initialised}
 use Rattle.language.specs.Lists.{each, filter}
 use Rattle.language.specs.Declarations.{Decl, groups, declared, isInput, isOutput, isVariable, statements, clockOf, isData, scopeFor, scopeOf}
@@ -22,7 +23,7 @@ use Rattle.language.proofs.Elaborated.{Clean, fair, output-no-input, va
 use Rattle.language.proofs.Judged.{clean}
 use Rattle.language.proofs.Modes.{Moded, moded}
 use Rattle.language.proofs.Sizes.{input-count, output-count, variable-count, data-count, size-stmts}
-use Rattle.language.proofs.WellTyped.{Small, each-split, each-join, bounded, all-typed, source-types, slot-types, initialised}
+use Rattle.language.proofs.WellTyped.{Small, bounded, all-typed, source-types, slot-types, initialised}
 
 -- the literals of two lists of groups are those of the joined list
 numbers-append : (P : Token → Type 0) (a b : List Group) → Each P (groupNumbers a) → Each P (groupNumbers b) → Each P (groupNumbers (a ++ b))

@@ -3,7 +3,7 @@
 use mathlib.Core.Path.{_≡_, refl, _∙_, ap}
 use mathlib.Core.Bool.{Bool, true, false, cond}
 use mathlib.Core.Option.{Option, some}
-use mathlib.Core.List.{List, [], _∷_, _++_, map}
+use mathlib.Core.List.{List, [], _∷_, map}
 use Prim.Native.Nat.{ℕ, zero, suc, _≤_}
 use native.Mathlib.Omega.{arith}
 use lib.Dec.{eqb, leb, le→leb}
@@ -12,6 +12,7 @@ use Rattle.grammar.specs.Token.{Token}
 use Rattle.grammar.specs.Tree as G
 use Rattle.grammar.specs.Tree.{Body, Init, Group}
 use Rattle.grammar.specs.Limits.{Each, exprNumbers, exprsNumbers, initNumbers, groupNumbers, stmtExprs, bodyExprs, itemCount}
+use Rattle.grammar.proofs.Each.{each-split, each-join}
 use Rattle.design.specs.Types.{Ty, std-logic, integer, ExprTy, sameTy, inRange, inType}
 use Rattle.design.specs.Expression.{Expr, items, nth, plainly, leafType, given, given2, typeOf, unaryType, binaryType}
 use Rattle.design.specs.Expression as E
@@ -41,15 +42,6 @@ minus-fits : (n : ℕ) → n ≤ 2147483647 → inRange (minus n) ≡ true
 unfolding minus inRange
 minus-fits zero h = refl
 minus-fits (suc n) h = rw (T-is (leb n 2147483647) (le→leb n 2147483647 (omega arith)))
-
--- what holds of all of a joined list holds of all of its parts, and conversely
-pub each-split : {X : Type 0} (P : X → Type 0) (a b : List X) → Each P (a ++ b) → Each P a × Each P b
-each-split P [] b h = (tt, h)
-each-split P (x ∷ a) b h = let s = each-split P a b (h .1) in ((h .0, s .0), s .1)
-
-pub each-join : {X : Type 0} (P : X → Type 0) (a b : List X) → Each P a → Each P b → Each P (a ++ b)
-each-join P [] b h k = k
-each-join P (x ∷ a) b h k = (h .0, each-join P a b (h .1) k)
 
 -- an expression within the limits on items and literals
 pub record Bounded (e : G.Expr) : Type 0 where

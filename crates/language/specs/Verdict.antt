@@ -1,6 +1,6 @@
 -- The verdict on a text, computed: the stages in the table's order. Not to be believed: proofs/Judged.antt shows that it is what Validity.antt says.
 -- Assumes nothing.
-use mathlib.Core.Bool.{cond}
+use mathlib.Core.Bool.{Bool, true, false, cond}
 use mathlib.Core.Option.{Option, none, some}
 use mathlib.Core.List.{List, [], _∷_}
 use Prim.Native.Nat.{ℕ}
@@ -42,3 +42,8 @@ lexed n (malformed p) = refused 2 p
 
 unfoldable pub verdict : List ℕ → Verdict
 verdict b = let v = lexed (length b) (lex b) in cond (leb (length b) 16384) v (refused 1 0)
+
+-- whether a text is accepted
+abbrev pub isAccepted : Verdict → Bool
+isAccepted (accepted p) = true
+isAccepted (refused n k) = false

@@ -1,7 +1,7 @@
 -- What lexing and marking leave: the arrays hold the tokens of the text, as the parser and the stages behind it ask. Assumes nothing.
 use mathlib.Core.Path.{_≡_, refl, sym, _∙_, ap, subst}
 use mathlib.Core.Bool.{Bool, true, false, _||_}
-use mathlib.Core.List.{List, [], _∷_, map}
+use mathlib.Core.List.{List, map}
 use Prim.Native.Nat.{ℕ, zero, suc, _+_, _≤_, _<_, min}
 use native.Mathlib.Omega.{arith}
 use lib.Dec.{eqb, ltb}
@@ -12,6 +12,7 @@ use Rattle.grammar.specs.Token.{Token, NAME, NUMBER}
 use Rattle.grammar.specs.Limits.{Each}
 use Rattle.grammar.specs.Meter.{tick, over}
 use Rattle.grammar.specs.Reader.{choose}
+use Rattle.grammar.proofs.Each.{each-at}
 use Rattle.language.specs.Words.{value}
 use Rattle.language.specs.Lexer.{tokens, lex}
 use Rattle.language.specs.Lexing.{Lexes}
@@ -28,6 +29,7 @@ use Rattle.lexer.proofs.TokenValues.{token-values, number-token}
 use Rattle.cursor.specs.Tokens.{noToken, tokenAt, alone, Holds}
 use Rattle.syntax.specs.Arrays.{TokensIn}
 use Rattle.limits.specs.Flags.{flagOf, flagAt, flagsFrom, marked}
+use Rattle.limits.specs.Words.{WordsIn}
 
 -- a flag is 1 exactly where its test holds
 flag-test : (b : Bool) → eqb (choose b 1 0) 1 ≡ b
@@ -48,12 +50,6 @@ flag-is text x v = go (eqb (x .kind) NAME) (eqb (x .kind) NUMBER) refl refl
     go true false e f = rw (e, f) (flag-test (ltb 32 (x .size)) ∙ sym (or-none (ltb 32 (x .size))))
     go false true e f = let g = number-token text x v (eqb-true (x .kind) NUMBER f) in rw (e, f, g) (flag-test (ltb 2147483647 (value 0 (part text (x .place) (x .size)))))
     go false false e f = rw (e, f)
-
--- each element has what all have
-each-at : (P : Token → Type 0) (ts : List Token) (i : ℕ) → Each P ts → i < length ts → P (tokenAt ts i)
-each-at P [] i h l = absurd (omega arith)
-each-at P (x ∷ ts) zero h l = h .0
-each-at P (x ∷ ts) (suc i) h l = each-at P ts i (h .1) (omega arith)
 
 module _ (text kinds starts sizes : List ℕ) where
   flags-length : (i c : ℕ) → length (flagsFrom text kinds starts sizes i c) ≡ c
@@ -121,10 +117,10 @@ module _ (text kinds₀ kinds starts₀ starts sizes₀ sizes : List ℕ) (n : �
       rw (e, r .finds) (w ∙ (rw z at (List·getD-map f ts i noToken)))
 
   -- every token's value is that of its bytes
-  pub values-held : Each (Valued text) ts
+  values-held : Each (Valued text) ts
   values-held = token-values text ts (reads .lexes)
 
-  pub sizes-held : length sizes₀ ≡ 16384 → (i : ℕ) → i < n → getD sizes i 0 ≡ tokenAt ts i .size
+  sizes-held : length sizes₀ ≡ 16384 → (i : ℕ) → i < n → getD sizes i 0 ≡ tokenAt ts i .size
   sizes-held h = column (λ x. x .size) sizes₀ sizes refl h (l .sizes)
 
   -- kinds and places, as the stages behind the parser ask
@@ -136,6 +132,10 @@ module _ (text kinds₀ kinds starts₀ starts sizes₀ sizes : List ℕ) (n : �
         kind = column (λ x. x .kind) kinds₀ kinds refl h (l .kinds);
         place = column (λ x. x .place) starts₀ starts refl k (l .starts);
       }
+
+  -- both
+  pub words-held : length sizes₀ ≡ 16384 → WordsIn text ts sizes n
+  words-held z = record { size = sizes-held z; valued = values-held }
 
   -- kinds and flags, as the parser asks
   pub flags-held : length kinds₀ ≡ 16384 → length starts₀ ≡ 16384 → length sizes₀ ≡ 16384 → (long : List ℕ) → length long ≡ 16384
@@ -149,5 +149,5 @@ module _ (text kinds₀ kinds starts₀ starts sizes₀ sizes : List ℕ) (n : �
       record {
         count = c;
         kind = a;
-        flag = λ i j. rw (marked-at text kinds starts sizes long n i g (r .short) j, a i j, b i j, d i j) (flag-is text (tokenAt ts i) (each-at (Valued text) ts i values-held (omega arith)));
+        flag = λ i j. rw (marked-at text kinds starts sizes long n i g (r .short) j, a i j, b i j, d i j) (flag-is text (tokenAt ts i) (each-at (Valued text) ts noToken values-held i (omega arith)));
       }

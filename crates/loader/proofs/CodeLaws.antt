@@ -19,6 +19,7 @@ use Rattle.semantics.specs.Twos.{signed32}
 use Rattle.format.specs.Code.{Operation, push, apply1, apply2, Taken, readInt, bitOf, readBit, readName, operator, readOperation, operations, Machine, onto, run, runOperations, runCode, withType, typed, trees, valueOf, decode}
 use Rattle.format.proofs.Words.{word4-small, signed-range, byte-at}
 use Rattle.format.proofs.Basic.{andThen-some, map-some, cond-case}
+use Rattle.format.proofs.Coding.{operations-any}
 use Rattle.loader.specs.Code.{tag, tagOr, tagAt, codeType, sumTag, orderTag, equalityTag, logicalTag, unaryTag, binaryTag, leafTag, pushed, unaryStep, binaryStep, stepAt, width}
 use Rattle.loader.proofs.SectionLaws.{word-drop}
 
@@ -66,26 +67,6 @@ operations-few (suc f) (k ∷ s) is e =
     let c = rest-shorter k s (p .0) (p .1) in
     let z : suc (length (q .0)) ≡ length is = ap length (q .2) in
     (omega (arith, r .0), omega (arith, r .1))
-
-operations-any : (f g : ℕ) (s : List ℕ) (is : List Operation) → operations f s ≡ some is → length is ≤ g → operations g s ≡ some is
-unfolding operations andThen
-operations-any zero zero [] is e b = e
-operations-any zero (suc g) [] is e b = e
-operations-any zero g (k ∷ s) is e b = none-some is e
-operations-any (suc f) zero [] is e b = e
-operations-any (suc f) (suc g) [] is e b = e
-operations-any (suc f) zero (k ∷ s) is e b =
-    let p = andThen-some (readOperation k s) _ is e in
-    let q = map-some (λ l. p .0 .0 ∷ l) (operations f (p .0 .1)) is (p .2) in
-    absurd (omega (arith, ap length (q .2)))
-operations-any (suc f) (suc g) (k ∷ s) is e b =
-    let p = andThen-some (readOperation k s) _ is e in
-    let q = map-some (λ l. p .0 .0 ∷ l) (operations f (p .0 .1)) is (p .2) in
-    joined (p .0) (q .0) (p .1) (operations-any f g (p .0 .1) (q .0) (q .1) (omega (arith, ap length (q .2)))) (q .2)
-  where
-    joined : (p : Operation × List ℕ) (l : List Operation) → readOperation k s ≡ some p → operations g (p .1) ≡ some l → p .0 ∷ l ≡ is
-        → andThen (readOperation k s) (λ p. Option·map (λ l. p .0 ∷ l) (operations g (p .1))) ≡ some is
-    joined p l h i m = rw (h, i) (ap some m)
 
 -- Running on tags.
 
@@ -247,15 +228,6 @@ code-tags is vs s = go (operations (length s) s) refl (operations 64 s) refl
         ∙ ap (λ (l : List Operation). leaves (run (tags is vs) l [])) z
 
 -- Reading by place.
-
-leb-shift : (a b n m : ℕ) → (a ≤ n → b ≤ m) → (b ≤ m → a ≤ n) → leb a n ≡ leb b m
-leb-shift a b n m f g = go (decLt n a) (decLt m b)
-  where
-    go : Dec (n < a) → Dec (m < b) → leb a n ≡ leb b m
-    go (yes p) (yes q) = lt-leb a n p ∙ sym (lt-leb b m q)
-    go (no p) (no q) = le-leb a n (omega arith) ∙ sym (le-leb b m (omega arith))
-    go (yes p) (no q) = absurd (let z = g (omega arith) in omega arith)
-    go (no p) (yes q) = absurd (let z = f (omega arith) in omega arith)
 
 above : (n k : ℕ) → n ≤ k → (k ≡ n → ⊥) → suc n ≤ k
 above n k h e = omega arith

@@ -10,6 +10,7 @@ use Rattle.grammar.specs.Token.{Token, NAME}
 use Rattle.grammar.specs.Reader.{choose}
 use Rattle.grammar.specs.Tree.{Expr, number, bit, name, sign, negate, binary, parens, Stmt, output, assign, null, wait, if-then, if-else, while, Body, only, andThen}
 use Rattle.grammar.specs.Limits.{Each}
+use Rattle.grammar.proofs.Each.{each-join}
 use Rattle.language.specs.Lists.{each}
 use Rattle.language.specs.Declarations.{within, statements}
 use Rattle.language.proofs.Facts.{each-append}
@@ -22,10 +23,9 @@ use Rattle.statements.specs.Rows.{Line, seen, linesFrom}
 use Rattle.syntax.specs.Arrays.{placedFrom, ItemsIn, rowIn, rowsFrom, RowsIn}
 use Rattle.syntax.specs.Entries.{stmtEntry}
 use Rattle.syntax.specs.Kinded.{KindedStmt, KindedBody}
-use Rattle.syntax.specs.Lowest.{lowestOf}
+use Rattle.syntax.specs.Lowest.{lowestOf, lowestFrom}
 pub use Rattle.syntax.proofs.Named.{NamedItem}
 use Rattle.syntax.proofs.Named.{IsNamed, postfix-named}
-use Rattle.offences.specs.Positions.{lowestFrom}
 use Rattle.offences.proofs.Loops.{listFrom, list-lowest, each-same, each-map, all-map, all-imply}
 
 -- the entries of a body are those of its statements, one for each
@@ -50,11 +50,6 @@ mutual
       ap (λ (l : List Entry). l ++ bodyEntries b) (entries-stmt s)
       ∙ (ap (λ (l : List Entry). map stmtEntry (within s) ++ l) (entries-are b) ∙ sym (map-append stmtEntry (within s) (statements b)))
 
--- every statement of a body has tokens of the right kinds
-pub all-append : {A : Type 0} (P : A → Type 0) (a b : List A) → Each P a → Each P b → Each P (a ++ b)
-all-append P [] b p q = q
-all-append P (x ∷ a) b p q = (p .0, all-append P a b (p .1) q)
-
 mutual
   unfolding within statements
 
@@ -64,12 +59,12 @@ mutual
   kinded-within null k = (k, tt)
   kinded-within (wait x) k = (k, tt)
   kinded-within (if-then i e a) k = (k, kinded-statements a (k .2))
-  kinded-within (if-else i e a b) k = (k, all-append KindedStmt (statements a) (statements b) (kinded-statements a (k .2)) (kinded-statements b (k .3)))
+  kinded-within (if-else i e a b) k = (k, each-join KindedStmt (statements a) (statements b) (kinded-statements a (k .2)) (kinded-statements b (k .3)))
   kinded-within (while w e a) k = (k, kinded-statements a (k .2))
 
   pub kinded-statements : (b : Body) → KindedBody b → Each KindedStmt (statements b)
   kinded-statements (only s) k = kinded-within s k
-  kinded-statements (andThen s b) k = all-append KindedStmt (within s) (statements b) (kinded-within s (k .0)) (kinded-statements b (k .1))
+  kinded-statements (andThen s b) k = each-join KindedStmt (within s) (statements b) (kinded-within s (k .0)) (kinded-statements b (k .1))
 
 -- a wait and an assignment have a name
 abbrev pub NamedRow : ℕ → Token → Type 0
@@ -197,7 +192,7 @@ named-entry (while w e a) k = postfix-named e (k .1)
 all-items : (l : List Stmt) → Each KindedStmt l → Each IsNamed (entryItems (map stmtEntry l))
 unfolding entryItems
 all-items [] p = tt
-all-items (s ∷ l) p = all-append IsNamed (stmtEntry s .items) (entryItems (map stmtEntry l)) (named-entry s (p .0)) (all-items l (p .1))
+all-items (s ∷ l) p = each-join IsNamed (stmtEntry s .items) (entryItems (map stmtEntry l)) (named-entry s (p .0)) (all-items l (p .1))
 
 items-list : (ts : List Token) (codes indices : List ℕ) (j c : ℕ) → listFrom (λ (i : ℕ). itemOf (getD codes i 0) (tokenAt ts (getD indices i 0))) j c
     ≡ map (itemAtIndex ts) (placedFrom codes indices j c)

@@ -5,9 +5,8 @@ use Prim.Native.Nat.{ℕ, zero, suc, _+_, _-_, _≤_, _<_}
 use native.Mathlib.Omega.{arith}
 use Rattle.grammar.specs.Limits.{Each}
 use Rattle.language.specs.Lists.{each, lowest}
-use Rattle.syntax.specs.Lowest.{lowestOf, lower, number}
+use Rattle.syntax.specs.Lowest.{lowestOf, lower, number, lowestFrom}
 use Rattle.syntax.proofs.Lowest.{lower-none, lower-assoc, lowest-append}
-use Rattle.offences.specs.Positions.{lowestFrom}
 
 -- before position j the lowest is low
 pub record Running (f : ℕ → ℕ) (n j low : ℕ) : Type 0 where

@@ -1,15 +1,9 @@
 -- What the stages of names and of the clock look at, by position: the lowest over positions, and what is declared under a number. Assumes nothing.
 use mathlib.Core.List.{List}
-use Prim.Native.Nat.{ℕ, zero, suc, _+_, _*_}
+use Prim.Native.Nat.{ℕ, _+_, _*_}
 use lib.Dec.{ltb}
 use lib.ListN.{getD}
 use Rattle.grammar.specs.Reader.{choose}
-use Rattle.syntax.specs.Lowest.{lower}
-
--- the lowest of what stands at j and after it, c positions
-unfoldable pub lowestFrom : (ℕ → ℕ) → ℕ → ℕ → ℕ
-lowestFrom f j zero = 0
-lowestFrom f j (suc c) = lower (f j) (lowestFrom f (j + 1) c)
 
 -- the mode under a declaration's number: 0 in, 1 out, 2 variable, 3 for none
 abbrev pub modeIn : List ℕ → ℕ → ℕ → ℕ

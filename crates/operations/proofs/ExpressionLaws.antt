@@ -16,8 +16,8 @@ use Rattle.signed.specs.declared.Checked.{Checked}
 use Rattle.ir.specs.Operations.{Op, op, leafOp, unaryCode, binaryCode, ops}
 use Rattle.ir.specs.Arrays.{opsFrom}
 use Rattle.ir.proofs.Laid.{unaryOp, binaryOp, ops-laid}
+use Rattle.format.proofs.Decoding.{unary-any, binary-any}
 use Rattle.operations.specs.Machine.{pushed, stepOf, runOps, topOf, valueIn}
-use Rattle.operations.proofs.OperatorLaws.{unary-any, binary-any}
 
 -- NUMBERS
 

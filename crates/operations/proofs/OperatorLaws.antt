@@ -4,7 +4,7 @@ use mathlib.Core.Path.{_≡_, refl, sym, ap, _∙_}
 use mathlib.Core.Option.{Option, some}
 use borrow.Author.Tests.{ne-eqb}
 use lib.IntN.{ℤ}
-use Rattle.design.specs.Types.{ExprTy, boolean}
+use Rattle.design.specs.Types.{boolean}
 use Rattle.design.specs.Expression.{Unary, sign, invert, Binary, plus, minus, equal, unequal, less, at-most, greater, at-least, and, or, xor}
 use Rattle.semantics.specs.Evaluation.{applyUnary, applyBinary}
 use Rattle.signed.specs.Signed.{checkedOf}
@@ -29,25 +29,6 @@ binary-code at-least = refl
 binary-code and = refl
 binary-code or = refl
 binary-code xor = refl
-
-pub unary-any : (o : Unary) (t : ExprTy) (x : ℤ) → applyUnary o boolean x ≡ applyUnary o t x
-unfolding applyUnary
-unary-any sign t x = refl
-unary-any invert t x = refl
-
-pub binary-any : (o : Binary) (t : ExprTy) (x y : ℤ) → applyBinary o boolean x y ≡ applyBinary o t x y
-unfolding applyBinary
-binary-any plus t x y = refl
-binary-any minus t x y = refl
-binary-any equal t x y = refl
-binary-any unequal t x y = refl
-binary-any less t x y = refl
-binary-any at-most t x y = refl
-binary-any greater t x y = refl
-binary-any at-least t x y = refl
-binary-any and t x y = refl
-binary-any or t x y = refl
-binary-any xor t x y = refl
 
 -- an arm of the code at an operator's code
 pub unary-arm : (o : Unary) (k : ℕ) (x : ℤ) {r : Checked} → k ≡ unaryCode o → r ≡ checkedOf (applyUnary o boolean x) → r ≡ checkedOf (unaryOf (unaryFor k) x)

@@ -1,6 +1,6 @@
 -- The fresh state by the signature section of an opened image is format's fresh state of the image. Assumes nothing.
 use Prim.Native.Nat.{ℕ, _-_}
-use mathlib.Core.Path.{_≡_, refl, sym, ap, _∙_}
+use mathlib.Core.Path.{_≡_, sym, ap, _∙_}
 use mathlib.Core.Option.{some}
 use mathlib.Core.List.{List, []}
 use lib.ListN.{take, drop}
@@ -15,9 +15,9 @@ use Rattle.format.specs.Image.{Table}
 use Rattle.format.specs.Opening.{opened, not-opened, openOf}
 use Rattle.format.specs.State.{freshTable, freshFrom, freshOf}
 use Rattle.semantics.specs.Records.{stateFor}
+use Rattle.semantics.specs.Advances.{startOf, startedOf}
 use Rattle.loader.specs.Open.{openedAs}
 use Rattle.table.proofs.Opened.{opens-signature}
-use Rattle.runtime.specs.Calls.{startedOf, startOf}
 use Rattle.runtime.proofs.Whole.{table, opens, parts-checked, not-opened-as}
 
 module _ (b : List ℕ) (x : Sections) (e : Image x ≡ openedAs b (openOf b)) where

@@ -1,8 +1,9 @@
 -- A cycle that was not performed leaves the state as it came, so that storing it or not comes to the same. Assumes nothing.
 use Prim.Native.Nat.{ℕ, _+_, _≤_}
 use mathlib.Core.Path.{_≡_, refl, sym, ap, _∙_}
-use mathlib.Core.Bool.{Bool, false}
+use mathlib.Core.Bool.{Bool, true, false, not}
 use mathlib.Core.List.{List}
+use lib.Dec.{T}
 use lib.ListN.{length}
 use lib.IntN.{ℤ}
 use Rattle.semantics.proofs.Basic.{false-true}
@@ -11,8 +12,9 @@ use Rattle.answers.specs.declared.State.{State}
 use Rattle.format.specs.Cycle.{cycleOf}
 use Rattle.semantics.specs.Calls.{Answer, performed, not-performed}
 use Rattle.format.proofs.Calls.{refused-untouched}
-use Rattle.cycle.specs.declared.Advanced.{Advanced}
-use Rattle.cycle.specs.Advances.{cycledOf, isPerformed}
+use Rattle.answers.specs.declared.Advanced.{Advanced}
+use Rattle.semantics.specs.Advances.{cycledOf}
+use Rattle.answers.specs.Answers.{isPerformed}
 use Rattle.runtime.specs.Calls.{wayOf, firstReach}
 use Rattle.runtime.specs.Outcomes.{Outcomes}
 
@@ -31,3 +33,12 @@ module _ (b : List ℕ) (s : State) (i o : List ℤ) (a : Advanced) (u : List �
   pub outcome-of : (p : Bool) → p ≡ isPerformed (a .answer) → Outcomes b s i o (record { performed = p; state = a .state; answer = a .answer }) u
   outcome-of p e =
       record { answer = h .0; state = h .1; row = h .2; count = h .3; bound = h .4; told = e; kept = λ f. refused-kept (sym e ∙ f) }
+
+-- tests that fail and hold
+pub is-false : (y : Bool) → T (not y) → y ≡ false
+is-false true h = absurd h
+is-false false h = refl
+
+pub is-true : (y : Bool) → T y → y ≡ true
+is-true true h = refl
+is-true false h = absurd h

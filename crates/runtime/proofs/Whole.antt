@@ -25,9 +25,9 @@ use Rattle.images.proofs.Outcomes.{row-outcome}
 use Rattle.loader.specs.Sections.{isSome, linesStart, codeStart}
 use Rattle.loader.specs.Open.{placesOf, openedAs}
 use Rattle.loader.proofs.OpenLaws.{lengths, signature-part, lines-part, code-part, image-opened, opened-sections}
-use Rattle.cycle.specs.declared.Advanced.{Advanced}
+use Rattle.answers.specs.declared.Advanced.{Advanced}
 use Rattle.cycle.specs.Ran.{Checked}
-use Rattle.cycle.specs.Advances.{cycledOf, Advances}
+use Rattle.semantics.specs.Advances.{cycledOf, Advances}
 use Rattle.runtime.specs.Calls.{wayOf, reachFrom, firstReach}
 use Rattle.runtime.proofs.OpenedImage.{good, opened-checked}
 

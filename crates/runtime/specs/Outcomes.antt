@@ -8,7 +8,8 @@ use lib.IntN.{ℤ}
 use Rattle.answers.specs.Answers.{linesOf}
 use Rattle.answers.specs.declared.State.{State}
 use Rattle.format.specs.Cycle.{cycleOf}
-use Rattle.cycle.specs.Advances.{cycledOf, isPerformed}
+use Rattle.semantics.specs.Advances.{cycledOf}
+use Rattle.answers.specs.Answers.{isPerformed}
 use Rattle.runtime.specs.Calls.{wayOf, firstReach}
 use Rattle.runtime.specs.declared.Outcome.{Outcome}
 

@@ -10,27 +10,22 @@ ghost use Rattle.format.specs.State.{freshOf};
 ghost use Rattle.semantics.specs.Records.{stateFor};
 ghost use Rattle.format.specs.Cycle.{cycleOf};
 ghost use Rattle.loader.specs.Open.{openedAs};
-ghost use Rattle.cycle.specs.Advances.{cycledOf, Advances};
+ghost use Rattle.semantics.specs.Advances.{cycledOf, Advances, startOf, startedOf};
 ghost use Rattle.runtime.specs.Outcomes.{Outcomes};
-ghost use Rattle.runtime.specs.Calls.{wayOf, firstReach, startedOf, startOf};
+ghost use Rattle.runtime.specs.Calls.{wayOf, firstReach};
+use answers::Advanced;
 use answers::Cycled;
+use answers::FreshState;
 use answers::Opened;
 use answers::Sections;
 use answers::Started;
 use answers::State;
-use cycle::Advanced;
 
 // A cycle's answer, the state after it, and whether it was performed.
 struct Outcome {
     performed: bool,
     state: State,
     answer: Cycled,
-}
-
-// The answer to a fresh state asked for, and the state.
-pub struct FreshState {
-    pub state: State,
-    pub answer: Started,
 }
 
 // A cycle on an image that was opened before, by the sections that `open` answered: for callers that run many rows on one image and check it once.

@@ -22,11 +22,11 @@ use Rattle.syntax.specs.Arrays.{numberIn}
 use Rattle.syntax.specs.Entries.{stmtEntry}
 use Rattle.syntax.specs.Headings.{modeCode}
 use Rattle.syntax.specs.declared.Finding.{Finding}
-use Rattle.syntax.specs.Lowest.{lowestOf, lower, findingFrom}
+use Rattle.syntax.specs.Lowest.{lowestOf, lower, findingFrom, lowestFrom}
 use Rattle.syntax.specs.Lowest as L
 use Rattle.syntax.proofs.Lowest.{lower-none, lower-assoc, lowest-append, lowest-fine, finding-lowest}
 use Rattle.offences.specs.Laid.{Laid}
-use Rattle.offences.specs.Positions.{lowestFrom, modeIn}
+use Rattle.offences.specs.Positions.{modeIn}
 use Rattle.offences.proofs.Loops.{listFrom}
 use Rattle.offences.proofs.Lowers.{lower-swap, both-unless, each-split}
 use Rattle.offences.proofs.Bodies.{NamedRow, NamedItem, ofNames, ofReads, ofItem, rows-lowest, items-lowest}
@@ -34,7 +34,7 @@ use Rattle.offences.proofs.Found.{Outline, ofDecl, outlineIn, decls-are, modeOf
 use Rattle.offences.proofs.Tokens.{place-is, owner-is}
 use Rattle.scope.specs.declared.Heads.{Heads}
 use Rattle.scope.specs.Positions.{differsIn, doubledAt, fitsIn, targetAt, readableIn, readAt, doubledIn, targetsIn, readsIn}
-use Rattle.scope.specs.Resolves.{WordsIn}
+use Rattle.limits.specs.Words.{WordsIn}
 use Rattle.scope.specs.Judges.{HeadsIn, namesIn, Judges, Finds}
 use Rattle.scope.proofs.Resolved.{Named, named-declared, same-tokens}
 

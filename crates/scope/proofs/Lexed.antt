@@ -14,7 +14,7 @@ use Rattle.lexer.proofs.LexAnswer.{write-at}
 use Rattle.lexer.proofs.TokenValues.{token-values}
 use Rattle.cursor.specs.Tokens.{noToken, tokenAt}
 use Rattle.syntax.specs.Arrays.{TokensIn}
-use Rattle.scope.specs.Resolves.{WordsIn}
+use Rattle.limits.specs.Words.{WordsIn}
 
 nonempty : (w : List ℕ) → (w ≡ [] → ⊥) → 0 < length w
 nonempty [] h = absurd (h refl)

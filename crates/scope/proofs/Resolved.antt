@@ -13,6 +13,7 @@ use Rattle.grammar.specs.Token.{Token, NAME}
 use Rattle.grammar.specs.Tree.{Group, Text}
 use Rattle.grammar.specs.Reader.{choose}
 use Rattle.grammar.specs.Limits.{Each}
+use Rattle.grammar.proofs.Each.{each-at, each-join}
 use Rattle.language.specs.Bytes as B
 use Rattle.language.specs.Lexing.{equal}
 use Rattle.language.specs.Declarations.{Decl, declare, spread, groups, declared}
@@ -25,16 +26,11 @@ use Rattle.syntax.specs.Arrays.{numberIn, TokensIn}
 use Rattle.syntax.specs.Headings.{headings, DeclsIn}
 use Rattle.syntax.specs.Kinded.{KindedGroup, Kinded}
 use Rattle.offences.proofs.Loops.{listFrom}
-use Rattle.offences.proofs.Bodies.{all-append}
 use Rattle.offences.proofs.Found.{Outline, ofDecl, outlineIn, decls-are}
 use Rattle.offences.proofs.Tokens.{number-inside, kind-inside, place-is}
 use Rattle.scope.specs.Positions.{sameIn, ownerFrom, ownerIn, filled, fillFrom}
-use Rattle.scope.specs.Resolves.{WordsIn, Resolves}
-
-each-at : {A : Type 0} (P : A → Type 0) (l : List A) (a : A) → Each P l → (i : ℕ) → i < length l → P (getD l i a)
-each-at P [] a p i h = absurd (omega arith)
-each-at P (x ∷ l) a p zero h = p .0
-each-at P (x ∷ l) a p (suc i) h = each-at P l a (p .1) i (omega arith)
+use Rattle.scope.specs.Resolves.{Resolves}
+use Rattle.limits.specs.Words.{WordsIn}
 
 -- a declaration's name is a name
 abbrev pub Named : Decl → Type 0
@@ -48,11 +44,11 @@ named-declare g (x ∷ xs) p = (p .0, named-declare g xs (p .1))
 named-spread : (gs : List Group) → Each KindedGroup gs → Each Named (spread gs)
 unfolding spread
 named-spread [] p = tt
-named-spread (g ∷ gs) p = all-append Named (declare g (g .names)) (spread gs) (named-declare g (g .names) (p .0 .names)) (named-spread gs (p .1))
+named-spread (g ∷ gs) p = each-join Named (declare g (g .names)) (spread gs) (named-declare g (g .names) (p .0 .names)) (named-spread gs (p .1))
 
 pub named-declared : (t : Text) → Kinded t → Each Named (declared t)
 unfolding declared groups
-named-declared t k = named-spread (t .ports ++ t .vars) (all-append KindedGroup (t .ports) (t .vars) (k .ports) (k .vars))
+named-declared t k = named-spread (t .ports ++ t .vars) (each-join KindedGroup (t .ports) (t .vars) (k .ports) (k .vars))
 
 module _ (text : List ℕ) (ts : List Token) (kinds starts sizes : List ℕ) (n : ℕ) (tokens : TokensIn ts kinds starts n) (words : WordsIn text ts sizes n) where
   valued-at : (i : ℕ) → i < n → Valued text (tokenAt ts i)

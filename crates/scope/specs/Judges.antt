@@ -11,7 +11,7 @@ use Rattle.syntax.specs.Lowest.{lowestOf, lower, findingOf, findingFrom}
 use Rattle.offences.specs.Laid.{Laid}
 use Rattle.scope.specs.declared.Heads.{Heads}
 use Rattle.scope.specs.Positions.{headsIn, doubledIn, targetsIn, readsIn}
-use Rattle.scope.specs.Resolves.{WordsIn}
+use Rattle.limits.specs.Words.{WordsIn}
 
 -- the indices of the names of entity and architecture, wherever they stand
 pub record HeadsIn (ts : List Token) (t : Text) (h : Heads) : Type 0 where

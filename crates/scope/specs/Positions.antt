@@ -11,9 +11,9 @@ use Rattle.language.specs.Bytes as B
 use Rattle.language.specs.Lexing.{equal}
 use Rattle.language.specs.Lists.{unless}
 use Rattle.lexer.specs.Places.{part}
-use Rattle.syntax.specs.Lowest.{lowestOf, lower}
+use Rattle.syntax.specs.Lowest.{lowestOf, lower, lowestFrom}
 use Rattle.syntax.specs.Arrays.{numberIn}
-use Rattle.offences.specs.Positions.{lowestFrom, modeIn}
+use Rattle.offences.specs.Positions.{modeIn}
 use Rattle.scope.specs.declared.Heads.{Heads}
 
 -- the bytes of the token at an index, folded to lower case

@@ -2,23 +2,16 @@
 use mathlib.Core.Path.{_≡_}
 use mathlib.Core.List.{List}
 use mathlib.Core.Logic.{_⊎_}
-use Prim.Native.Nat.{ℕ, _≤_, _<_, min}
+use Prim.Native.Nat.{ℕ, _≤_, min}
 use lib.ListN.{length, getD}
 use Rattle.grammar.specs.Token.{Token, NAME}
 use Rattle.grammar.specs.Tree.{Text}
-use Rattle.grammar.specs.Limits.{Each}
 use Rattle.language.specs.Declarations.{declared}
-use Rattle.lexer.specs.TokenValues.{Valued}
-use Rattle.cursor.specs.Tokens.{tokenAt}
 use Rattle.syntax.specs.Arrays.{TokensIn, OwnersIn}
 use Rattle.syntax.specs.Headings.{headings, DeclsIn}
 use Rattle.syntax.specs.Kinded.{Kinded}
+use Rattle.limits.specs.Words.{WordsIn}
 use Rattle.scope.specs.Positions.{ownerIn, fillFrom}
-
--- the tokens are those of the text: the array has their sizes, and each token's value is that of its bytes
-pub record WordsIn (text : List ℕ) (ts : List Token) (sizes : List ℕ) (n : ℕ) : Type 0 where
-  pub size : (i : ℕ) → i < n → getD sizes i 0 ≡ tokenAt ts i .size
-  pub valued : Each (Valued text) ts
 
 -- the owners after the call (₁) from those before it (₀): by position; what is no name of the text is as before; and for a tree that the arrays hold,
 -- each name has the number of its declaration

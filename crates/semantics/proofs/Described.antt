@@ -38,27 +38,34 @@ placed-for s n e = go (eqb n 512) refl
     go false h = or-other (eqb n 512) (has s 0 n) h e
 
 module _ (p : Process) (s : State) (f : fitsText p s ≡ true) where
-  abbrev place-fits : Bool
+  abbrev pub place-fits : Bool
   place-fits = eqb (s .place) 512 || has (p .body) 0 (s .place)
 
-  abbrev outputs-fit : Bool
+  abbrev pub outputs-fit : Bool
   outputs-fit = eqb (length (s .outputs)) 16 && slotsOk (slotTypes (p .outputs)) (s .outputs)
 
-  abbrev variables-fit : Bool
+  abbrev pub variables-fit : Bool
   variables-fit = eqb (length (s .variables)) 32 && slotsOk (slotTypes (p .variables)) (s .variables)
 
-  parts : (place-fits ≡ true) × (outputs-fit ≡ true) × (variables-fit ≡ true)
+  pub parts : (place-fits ≡ true) × (outputs-fit ≡ true) × (variables-fit ≡ true)
   unfolding fitsText
   parts =
       let r = and-right place-fits (outputs-fit && variables-fit) f in
       (and-left place-fits (outputs-fit && variables-fit) f, and-left outputs-fit variables-fit r, and-right outputs-fit variables-fit r)
 
   -- the used slots, in number and type as declared; with 0 after them they are all slots
-  used-outputs : Values (slotTypes (p .outputs)) (take (length (p .outputs)) (s .outputs)) × (s .outputs ≡ pad 16 (take (length (p .outputs)) (s .outputs)))
+  pub used-outputs : Values (slotTypes (p .outputs)) (take (length (p .outputs)) (s .outputs)) × (s .outputs ≡ pad 16 (take (length (p .outputs)) (s .outputs)))
   used-outputs = rw (length-map (p .outputs) (λ (x : Slot). x .type)) at (counted-slots 16 (slotTypes (p .outputs)) (s .outputs) (parts .1))
 
-  used-variables : Values (slotTypes (p .variables)) (take (length (p .variables)) (s .variables)) × (s .variables ≡ pad 32 (take (length (p .variables)) (s .variables)))
+  pub used-variables : Values (slotTypes (p .variables)) (take (length (p .variables)) (s .variables)) × (s .variables ≡ pad 32 (take (length (p .variables)) (s .variables)))
   used-variables = rw (length-map (p .variables) (λ (x : Slot). x .type)) at (counted-slots 32 (slotTypes (p .variables)) (s .variables) (parts .2))
+
+  -- all slots are there
+  pub outputs-long : length (s .outputs) ≡ 16
+  outputs-long = eqb-true (length (s .outputs)) 16 (and-left (eqb (length (s .outputs)) 16) _ (parts .1))
+
+  pub variables-long : length (s .variables) ≡ 32
+  variables-long = eqb-true (length (s .variables)) 32 (and-left (eqb (length (s .variables)) 32) _ (parts .2))
 
   pub kept-invariant : Invariant p (keptOf p s)
   unfolding keptOf

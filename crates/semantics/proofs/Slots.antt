@@ -1,13 +1,15 @@
 -- The slots of a state record that is not refused are values of their types, padded with 0, and nothing else is. By induction on the slots.
 -- Assumes nothing.
-use Prim.Native.Nat.{ℕ, zero, suc, _≤_}
+use Prim.Native.Nat.{ℕ, zero, suc, _≤_, _<_, _+_}
 use native.Mathlib.Omega.{arith}
-use mathlib.Core.Path.{_≡_, refl, ap, _∙_}
+use native.Mathlib.Numerals.{add-one}
+use mathlib.Core.Path.{_≡_, refl, ap, _∙_, sym}
 use mathlib.Core.Bool.{true, _&&_}
 use mathlib.Core.List.{List, [], _∷_}
-use lib.ListN.{length, take}
+use lib.ListN.{length, take, set, getD}
 use lib.IntN.{ℤ, pos}
 use lib.Dec.{eqb}
+use lib.Seq.{take-suc, take-suc-set, take-all}
 use Rattle.design.specs.Types.{Ty, eqZ, inType}
 use Rattle.semantics.specs.Values.{Values}
 use Rattle.semantics.specs.Records.{zeros, slotsOk, pad}
@@ -62,3 +64,23 @@ pad-take n [] (z ∷ l) h b = absurd h
 pad-take n (t ∷ ts) [] h b = absurd h
 pad-take zero (t ∷ ts) (z ∷ l) h b = absurd (omega arith)
 pad-take (suc n) (t ∷ ts) (z ∷ l) h b = ap (λ r. z ∷ r) (pad-take n ts l (h .1) (omega arith))
+
+-- the values that were padded, taken back
+pub pad-first : (n k : ℕ) (l : List ℤ) → length l ≡ k → k ≤ n → take k (pad n l) ≡ l
+unfolding pad
+pad-first n zero [] e h = refl
+pad-first n zero (z ∷ l) e h = absurd (omega arith)
+pad-first n (suc k) [] e h = absurd (omega arith)
+pad-first zero (suc k) (z ∷ l) e h = absurd (omega arith)
+pad-first (suc n) (suc k) (z ∷ l) e h = ap (λ (m : List ℤ). z ∷ m) (pad-first n k l (omega arith) (omega arith))
+
+-- one more element of a list put into slots
+pub row-more : (row target : List ℤ) (k : ℕ) (v : ℤ) → k < length row → k < length target → take k row ≡ take k target → v ≡ getD target k (pos 0)
+    → take (k + 1) (set row k v) ≡ take (k + 1) target
+row-more row target k v h j e f = rw add-one (take-suc-set row k v h ∙ rw (e, f) (sym (take-suc target k (pos 0) j)))
+
+-- all slots filled
+pub row-whole : (row target : List ℤ) (n k : ℕ) → length row ≡ n → k ≤ n → length row ≤ k → take k row ≡ take k target → row ≡ take n target
+row-whole row target n k e l m h =
+    let p : k ≡ n = omega arith in
+    sym (take-all k row m) ∙ h ∙ ap (λ j. take j target) p

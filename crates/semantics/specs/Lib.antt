@@ -18,6 +18,7 @@ pub mod Answer
 pub mod Tally
 pub mod Records
 pub mod Calls
+pub mod Advances
 pub mod Twos
 pub mod Comparison
 pub mod DirectRow

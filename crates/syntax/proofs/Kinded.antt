@@ -1,18 +1,20 @@
 -- In the tree of a derivation every token has the kind that its place in the grammar asks for: a property of what each nonterminal says, kept by
 -- every production. Assumes nothing.
-use mathlib.Core.Path.{_≡_, refl, subst}
-use mathlib.Core.Logic.{_⊎_, inl, inr}
-use mathlib.Core.List.{List, [], _∷_}
+use mathlib.Core.Path.{_≡_, subst}
+use mathlib.Core.Logic.{inl, inr}
+use mathlib.Core.List.{List}
 use Prim.Native.Nat.{ℕ, _≤_, _<_}
 use native.Mathlib.Omega.{arith}
 use lib.ListN.{length}
-use Rattle.grammar.specs.Token.{Token, NAME, NUMBER, PLUS, XOR}
-use Rattle.grammar.specs.Tree.{Expr, binary, Stmt, Body, Init, Group, Text}
+use Rattle.grammar.specs.Token.{Token, NAME, PLUS, XOR}
+use Rattle.grammar.specs.Tree.{Expr, binary, Stmt, Body, Text}
 use Rattle.grammar.specs.Grammar.{NonTerminal, text, ports, morePorts, port, names, moreNames, mode, type, init, value, vars, body, more, statement, target, else-part, expression, chain, ands, ors, xors, relation, compared, simple, terms, factor, primary}
-use Rattle.grammar.specs.Grammar.{Says, Mark, Sym, tk, nt, Fun, Production, productions, textProduction}
-use Rattle.grammar.specs.Derivation.{_∈_, here, there, Tree, by, Trees, empty, token, child, says, saysAll, Reads}
+use Rattle.grammar.specs.Grammar.{Says, Mark, productions, textProduction}
+use Rattle.grammar.specs.Derivation.{span, Reads}
 use Rattle.grammar.specs.Limits.{Each}
-use Rattle.syntax.specs.Kinded.{IsBit, IsType, IsOperator, KindedExpr, KindedStmt, KindedBody, KindedInit, KindedGroup, Kinded}
+use Rattle.grammar.proofs.Each.{each-any}
+use Rattle.grammar.proofs.Keeping.{KeepAll, tree-keeps}
+use Rattle.syntax.specs.Kinded.{IsType, IsOperator, KindedExpr, KindedStmt, KindedBody, KindedInit, KindedGroup, Kinded}
 
 -- what goes on after an operand keeps it
 abbrev Goes : (Expr → Expr) → Type 0
@@ -48,16 +50,6 @@ Kept terms f = Goes f
 Kept factor v = KindedExpr v
 Kept primary v = KindedExpr v
 
--- a production keeps it: where its symbols have it, what it says has it
-abbrev Keeps : (γ : List Sym) (M : NonTerminal) → Fun γ (Says M) → Type 0
-Keeps [] M f = Kept M f
-Keeps (tk m k ∷ γ) M f = (x : Token) → x .kind ≡ k → Keeps γ M (f x)
-Keeps (nt A ∷ γ) M f = (v : Says A) → Kept A v → Keeps γ M (f v)
-
-abbrev KeepAll : (M : NonTerminal) → List (Production M) → Type 0
-KeepAll M [] = Unit {0}
-KeepAll M (r ∷ rs) = Keeps (r .rhs) M (r .says) × KeepAll M rs
-
 -- an operator's kind is one of eleven
 operator : (x : Token) (k : ℕ) → PLUS ≤ k → k ≤ XOR → x .kind ≡ k → IsOperator x
 operator x k l h e = (omega arith, omega arith)
@@ -65,7 +57,7 @@ operator x k l h e = (omega arith, omega arith)
 joined : (x : Token) (k : ℕ) → PLUS ≤ k → k ≤ XOR → x .kind ≡ k → (b : Expr) → KindedExpr b → (f : Expr → Expr) → Goes f → Goes (λ (a : Expr). f (binary x a b))
 joined x k l h e b kb f g a ka = g _ (operator x k l h e, ka, kb)
 
-all-keep : (M : NonTerminal) → KeepAll M (productions M)
+all-keep : (M : NonTerminal) → KeepAll (λ (k : ℕ) (x : Token). x .kind ≡ k) Kept M (productions M)
 unfolding productions textProduction
 all-keep text = (
   λ _ _ e he _ _ _ _ _ _ ps hp _ _ _ _ _ _ e′ he′ _ _ _ _ a ha _ _ o ho _ _ _ _ p hpr vs hv _ _ b hb _ _ _ _ _ _ _ _ a′ ha′ _ _.
@@ -126,21 +118,8 @@ all-keep terms = (λ a ha. ha, (λ x hx b hb f hf. joined x _ (omega arith) (ome
 all-keep factor = (λ a ha. ha, (λ x hx a ha. (hx, ha), tt))
 all-keep primary = (λ x h. h, (λ x h. inl h, (λ x h. inr h, (λ x h. h, (λ _ _ e he _ _. he, tt)))))
 
-picked : (M : NonTerminal) (r : Production M) (rs : List (Production M)) → r ∈ rs → KeepAll M rs → Keeps (r .rhs) M (r .says)
-picked M r rs here h = h .0
-picked M r rs (there {q} {rs = qs} m) h = picked M r qs m (h .1)
-
-mutual
-  unfolding says
-
-  tree-keeps : {M : NonTerminal} (d : Tree M) → Kept M (says d)
-  tree-keeps {M} (by r m ds) = trees-keep ds M (r .says) (picked M r (productions M) m (all-keep M))
-
-  trees-keep : {γ : List Sym} (ds : Trees γ) (S : NonTerminal) (f : Fun γ (Says S)) → Keeps γ S f → Kept S (saysAll ds S f)
-  trees-keep empty S f k = k
-  trees-keep (token x e ds) S f k = trees-keep ds S (f x) (k x e)
-  trees-keep (child d ds) S f k = trees-keep ds S (f (says d)) (k (says d) (tree-keeps d))
-
 -- every tree that the grammar reads has its tokens' kinds
 pub kinded : {ts : List Token} {es : List Mark} {t : Text} → Reads text ts es t → Kinded t
-kinded r = subst Kinded (r .said) (tree-keeps (r .tree))
+kinded r =
+    subst Kinded (r .said)
+    (tree-keeps (λ (k : ℕ) (x : Token). x .kind ≡ k) Kept (λ (x : Token). Unit {0}) (λ k x e _. e) all-keep (r .tree) (each-any (λ (x : Token). Unit {0}) (λ x. tt) (span (r .tree))))

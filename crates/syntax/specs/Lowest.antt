@@ -1,7 +1,7 @@
 -- The lowest place of a stage as one number, 0 for none, else the place plus 1; and what a stage answers. Assumes nothing.
 use mathlib.Core.Option.{Option, none, some}
 use mathlib.Core.List.{List}
-use Prim.Native.Nat.{ℕ, zero, suc, min}
+use Prim.Native.Nat.{ℕ, zero, suc, _+_, min}
 use Rattle.language.specs.Lists.{lowest}
 use Rattle.syntax.specs.declared.Finding.{Finding}
 use Rattle.syntax.specs.declared.Finding.the-variants.{Nothing, Offence}
@@ -34,3 +34,8 @@ findingOf l = findingAt (lowest l)
 abbrev pub findingFrom : ℕ → Finding
 findingFrom zero = Nothing
 findingFrom (suc p) = Offence p
+
+-- the lowest of what stands at j and after it, c positions
+unfoldable pub lowestFrom : (ℕ → ℕ) → ℕ → ℕ → ℕ
+lowestFrom f j zero = 0
+lowestFrom f j (suc c) = lower (f j) (lowestFrom f (j + 1) c)

@@ -15,10 +15,10 @@ use Rattle.format.specs.Signature.{Signature, signatureBytes, signatureOf}
 use Rattle.format.specs.Lines.{Line, line}
 use Rattle.format.specs.Image.{Table, RawLine, raw, rawsBytes, rawsOf, linesCode, Sections, sectionsFor, encodeTable}
 use Rattle.format.specs.Good.{GoodTable}
-use Rattle.format.specs.Opening.{rawAt, raws, rawReaches, openLine, Lined, lined, bad-at, with, goOn, openLines, Opened, opened, tabled, openTable, unless12, openSections, sectionsOf, unless11, openOf}
+use Rattle.format.specs.Opening.{rawAt, raws, rawReaches, openLine, Lined, lined, bad-at, with, goOn, openLines, opened, tabled, openTable, openSections, sectionsOf, unless11, openOf}
 use Rattle.format.proofs.Sections.{whole-lines, form1-read}
 use Rattle.format.proofs.Lines.{raws-bytes-length, raws-length}
-use Rattle.format.proofs.Opens.{table-opens}
+use Rattle.format.proofs.Opens.{table-opens, unless11-opened, unless12-opened}
 use Rattle.format.proofs.Basic.{onlyIf-some}
 use Rattle.table.specs.Places.{Opens}
 use Rattle.table.proofs.Positions.{here}
@@ -27,14 +27,6 @@ use Rattle.table.proofs.Positions.{here}
 
 lined-injective : (a b : List Line) → lined a ≡ lined b → a ≡ b
 lined-injective a b e = cc
-
-unless12-opened : (o : Option Signature) (k : Signature → Opened) (t : Table) → unless12 o k ≡ opened t → (σ : Signature) × (o ≡ some σ) × (k σ ≡ opened t)
-unless12-opened none k t e = absurd (let z : _≡_ {A = ℕ} 0 1 = cc in omega arith)
-unless12-opened (some σ) k t e = (σ, refl, e)
-
-unless11-opened : (o : Option Sections) (k : Sections → Opened) (t : Table) → unless11 o k ≡ opened t → (x : Sections) × (o ≡ some x) × (k x ≡ opened t)
-unless11-opened none k t e = absurd (let z : _≡_ {A = ℕ} 0 1 = cc in omega arith)
-unless11-opened (some x) k t e = (x, refl, e)
 
 tabled-opened : (σ : Signature) (rs : List ℕ) (r : Lined) (t : Table) → tabled σ rs r ≡ opened t
     → (σ ≡ t .signature) × (r ≡ lined (t .lines)) × (rs ≡ t .reaches)

@@ -9,7 +9,7 @@ use mathlib.Core.Bool.{true, false, cond, _&&_}
 use mathlib.Core.Option.{none, some}
 use mathlib.Core.List.{List, [], _∷_, _++_, append-assoc}
 use lib.ListN.{length, getD, take, drop, set, drop-of-length-le}
-use lib.Seq.{length-take-le, take-suc, take-suc-set, take-all, drop-cons, set-at}
+use lib.Seq.{length-take-le, take-suc, take-all, drop-cons, set-at}
 use lib.IntN.{ℤ, pos}
 use lib.Dec.{ltb, leb, eqb}
 use borrow.Author.Tests.{lt-ltb, le-ltb, le-leb, lt-leb, eq-eqb, ne-eqb}
@@ -55,17 +55,6 @@ written-whole row o k u h j (inl m) e =
 written-whole row o k u h j (inr m) e =
     let p : k ≡ length o = omega arith in
     e ∙ rw (p, take-all (length o) o (omega arith), take-all (length row) o (omega arith))
-
--- one more element of a list put into slots
-pub row-more : (row target : List ℤ) (k : ℕ) (v : ℤ) → k < length row → k < length target → take k row ≡ take k target → v ≡ getD target k (pos 0)
-    → take (k + 1) (set row k v) ≡ take (k + 1) target
-row-more row target k v h j e f = rw add-one (take-suc-set row k v h ∙ rw (e, f) (sym (take-suc target k (pos 0) j)))
-
--- all slots filled
-pub row-whole : (row target : List ℤ) (n k : ℕ) → length row ≡ n → k ≤ n → length row ≤ k → take k row ≡ take k target → row ≡ take n target
-row-whole row target n k e l m h =
-    let p : k ≡ n = omega arith in
-    sym (take-all k row m) ∙ h ∙ ap (λ j. take j target) p
 
 -- Places.
 

@@ -8,6 +8,7 @@ use Rattle.grammar.specs.Token.{Token}
 use Rattle.grammar.specs.Tree as T
 use Rattle.grammar.specs.Tree.{Expr, number, bit, name, sign, negate, binary, parens, Stmt, output, assign, null, wait, if-then, if-else, while, Body, only, andThen, Init, without, integer-literal, logic-literal, Group, Text}
 use Rattle.grammar.specs.Limits.{Each}
+use Rattle.grammar.proofs.Each.{each-join}
 use Rattle.design.specs.Types.{Ty, ExprTy, std-logic, integer, boolean, sameTy, sameType}
 use Rattle.language.specs.Lists.{unless, each}
 use Rattle.language.specs.Declarations.{Decl, typeNamed, declare, spread, groups, declared, isInput, isOutput, isVariable, find, isA, typeIn, within, statements, orElse, waitName, firstWait, clockOf, clockLike}
@@ -19,7 +20,6 @@ use Rattle.language.specs.Classes.{classes, isC, notClassedWrong, loopsOf, orWh
 use Rattle.language.specs.Rules.{Rule, table}
 use Rattle.language.specs.Validity.{In, First}
 use Rattle.language.specs.Validity as Q
-use Rattle.language.proofs.WellTyped.{each-join}
 use Rattle.theorems.proofs.LexedPlaces.{By}
 use Rattle.theorems.proofs.TokensOf.{InExpr, InStmt, InBody, InInit, InGroup, InText}
 

@@ -2,14 +2,12 @@
 -- most 65,535; a line is one of at most 512, and so is every line of a way, none twice. Assumes nothing.
 use mathlib.Core.Path.{_≡_, refl, sym, _∙_, ap, subst}
 use mathlib.Core.Logic.{⊎-elim}
-use mathlib.Core.Option.{some}
-use mathlib.Core.List.{List, [], _∷_}
-use Prim.Native.Nat.{ℕ, zero, suc, _≤_, _<_, _/_}
+use mathlib.Core.List.{List}
+use Prim.Native.Nat.{ℕ, zero, suc, _≤_, _/_}
 use native.Mathlib.Omega.{arith}
 use lib.ListN.{length, drop}
 use lib.IntN.{ℤ}
 use Rattle.answers.specs.declared.State.{State}
-use Rattle.design.specs.Expression.{nth}
 use Rattle.design.specs.Process.{Process}
 use Rattle.language.specs.Validity.{Valid, Refuses, too-long, no-token, no-sentence, past-limit, offends}
 use Rattle.language.specs.Verdict.{Verdict, accepted, refused, verdict}
@@ -18,7 +16,6 @@ use Rattle.language.proofs.WellFormed.{valid-well-formed}
 use Rattle.semantics.specs.InputRow.{Wrong}
 use Rattle.semantics.specs.Records.{not-started}
 use Rattle.semantics.specs.Calls.{performed, not-performed, Called, Call}
-use Rattle.semantics.proofs.Basic.{none-some}
 use Rattle.format.specs.Words.{Bytes}
 use Rattle.format.specs.Signature.{Signature, GoodSignature}
 use Rattle.format.specs.Image.{Table}
@@ -31,6 +28,7 @@ use Rattle.format.specs.Cycle.{cycleOf}
 use Rattle.format.specs.Encode.{tableOf}
 use Rattle.format.proofs.Opens.{whole-lines-back, opens-exactly}
 use Rattle.format.proofs.Refusals.{refused-exactly}
+use Rattle.format.proofs.Encoded.{nth-below}
 use Rattle.images.specs.Outcome.{Meets14, Outcome, row-refused, state-refused, operator-refused, performs}
 use Rattle.images.proofs.Outcomes.{row-outcome}
 use Rattle.images.proofs.Processes.{process-good}
@@ -92,13 +90,6 @@ image-place image q k (line-refused n x s σ g l) = go l
     go : F.Lowest σ x k → k ≤ 512
     go (bad-line h b a) = let w = whole-lines-back (x .lines) (s .lines) in let c = raws-count (length (x .lines) / 12) (x .lines) in omega arith
     go (not-filled h a b) = let w = whole-lines-back (x .lines) (s .lines) in let c = raws-count (length (x .lines) / 12) (x .lines) in omega arith
-
--- 14: an index of the input row, which has at most 16 values
-nth-below : {X : Type 0} (l : List X) (k : ℕ) (x : X) → nth l k ≡ some x → k < length l
-unfolding nth
-nth-below [] k x e = none-some x e
-nth-below (y ∷ l) zero x e = omega arith
-nth-below (y ∷ l) (suc k) x e = let h = nth-below l k x e in omega arith
 
 row-place : (σ : Signature) → GoodSignature σ → (i : List ℤ) (n k : ℕ) → Meets14 σ i n k → k ≤ 512
 unfolding Meets14 Wrong

@@ -13,10 +13,11 @@ use Rattle.design.specs.Process.{Source, Slot, Process, sourceTypes, WellFormed
 use Rattle.format.specs.Code.{Operation, push, apply1, apply2, others, operationBytes, code}
 use Rattle.format.specs.Lines.{Line, waits, acts, branches, lines, linesOf, reachesOf}
 use Rattle.format.specs.Signature.{Cell, typeBytes, cellBytes, signatureBytes}
-use Rattle.format.specs.Image.{rawsBytes, rawsOf, lineCode, linesCode, pairs, joined, image, Sections, form1, sectionsFor, encodeTable}
+use Rattle.format.specs.Image.{lineCode, linesCode, pairs, joined, image, Sections, form1, sectionsFor, encodeTable}
 use Rattle.format.specs.Encode.{cells, signatureFor, tableOf, encode}
 use Rattle.design.proofs.Postfix.{Steps, lay-whole}
 use Rattle.format.proofs.Coding.{post-laid}
+use Rattle.format.proofs.Encoded.{raws-length}
 use Rattle.language.specs.Validity.{Valid}
 use Rattle.language.proofs.WellFormed.{valid-well-formed}
 use Rattle.language.proofs.Room.{valid-room}
@@ -128,13 +129,6 @@ cells-length (c ∷ l) = let h = cells-length l in omega arith
 map-length : {A B : Type 0} (f : A → B) (l : List A) → length (map f l) ≡ length l
 map-length f [] = refl
 map-length f (a ∷ l) = ap suc (map-length f l)
-
-raws-length : (p : ℕ) (ls : List Line) (qs : List ℕ) → length qs ≡ length ls → length (rawsBytes (rawsOf p ls qs)) ≡ 12 * length ls
-unfolding rawsOf rawsBytes
-raws-length p [] [] e = omega arith
-raws-length p [] (q ∷ qs) e = omega arith
-raws-length p (l ∷ ls) [] e = absurd (omega arith)
-raws-length p (l ∷ ls) (q ∷ qs) e = let h = raws-length (p + length (lineCode l)) ls qs (omega arith) in omega arith
 
 -- header and sections
 form1-length : (x : Sections) → length (form1 x) ≡ 28 + (length (x .signature) + (length (x .lines) + length (x .code)))

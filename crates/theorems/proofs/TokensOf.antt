@@ -1,14 +1,15 @@
 -- Every token in the tree of a derivation is one of the tokens that the derivation spans: what holds of each of those holds of each in the tree.
 -- A property of what each nonterminal says, kept by every production. Assumes nothing.
 use mathlib.Core.Path.{sym, subst}
-use mathlib.Core.List.{List, [], _∷_}
+use mathlib.Core.List.{List}
+use Prim.Native.Nat.{ℕ}
 use Rattle.grammar.specs.Token.{Token}
 use Rattle.grammar.specs.Tree.{Expr, number, bit, name, sign, negate, binary, parens, Stmt, output, assign, null, wait, if-then, if-else, while, Body, only, andThen, Init, without, integer-literal, logic-literal, minus, Group, Text}
 use Rattle.grammar.specs.Grammar.{NonTerminal, text, ports, morePorts, port, names, moreNames, mode, type, init, value, vars, body, more, statement, target, else-part, expression, chain, ands, ors, xors, relation, compared, simple, terms, factor, primary}
-use Rattle.grammar.specs.Grammar.{Says, Mark, Sym, tk, nt, Fun, Production, productions, textProduction}
-use Rattle.grammar.specs.Derivation.{_∈_, here, there, Tree, by, Trees, empty, token, child, span, spans, says, saysAll, Reads}
+use Rattle.grammar.specs.Grammar.{Says, Mark, productions, textProduction}
+use Rattle.grammar.specs.Derivation.{Reads}
 use Rattle.grammar.specs.Limits.{Each}
-use Rattle.language.proofs.WellTyped.{each-split}
+use Rattle.grammar.proofs.Keeping.{KeepAll, tree-keeps}
 
 module _ (P : Token → Type 0) where
   -- P holds of each token of an expression, of a statement, of statements, of an initial value
@@ -93,21 +94,11 @@ module _ (P : Token → Type 0) where
   Kept factor v = InExpr v
   Kept primary v = InExpr v
 
-  -- a production keeps it: where its symbols have it, what it says has it
-  abbrev Keeps : (γ : List Sym) (M : NonTerminal) → Fun γ (Says M) → Type 0
-  Keeps [] M f = Kept M f
-  Keeps (tk m k ∷ γ) M f = (x : Token) → P x → Keeps γ M (f x)
-  Keeps (nt A ∷ γ) M f = (v : Says A) → Kept A v → Keeps γ M (f v)
-
-  abbrev KeepAll : (M : NonTerminal) → List (Production M) → Type 0
-  KeepAll M [] = Unit {0}
-  KeepAll M (r ∷ rs) = Keeps (r .rhs) M (r .says) × KeepAll M rs
-
   -- an operator with its right operand, and what goes on after them
   joined : (x : Token) → P x → (b : Expr) → InExpr b → (f : Expr → Expr) → Goes f → Goes (λ (a : Expr). f (binary x a b))
   joined x hx b hb f g a ha = g _ (hx, ha, hb)
 
-  all-keep : (M : NonTerminal) → KeepAll M (productions M)
+  all-keep : (M : NonTerminal) → KeepAll (λ (k : ℕ) (x : Token). P x) Kept M (productions M)
   unfolding productions textProduction
   all-keep text = (
     λ _ _ e he _ _ _ _ _ _ ps hp _ _ _ _ _ _ e′ he′ _ _ _ _ a ha _ _ o ho _ _ _ _ p hpr vs hv _ _ b hb _ _ _ _ _ _ _ _ a′ ha′ _ _.
@@ -150,23 +141,6 @@ module _ (P : Token → Type 0) where
   all-keep factor = (λ a ha. ha, (λ x hx a ha. (hx, ha), tt))
   all-keep primary = (λ x h. h, (λ x h. h, (λ x h. h, (λ x h. h, (λ _ _ e he _ _. he, tt)))))
 
-  picked : (M : NonTerminal) (r : Production M) (rs : List (Production M)) → r ∈ rs → KeepAll M rs → Keeps (r .rhs) M (r .says)
-  picked M r rs here h = h .0
-  picked M r rs (there {q} {rs = qs} m) h = picked M r qs m (h .1)
-
-  mutual
-    unfolding span says
-
-    tree-keeps : {M : NonTerminal} (d : Tree M) → Each P (span d) → Kept M (says d)
-    tree-keeps {M} (by r m ds) h = trees-keep ds h M (r .says) (picked M r (productions M) m (all-keep M))
-
-    trees-keep : {γ : List Sym} (ds : Trees γ) → Each P (spans ds) → (S : NonTerminal) (f : Fun γ (Says S)) → Keeps γ S f → Kept S (saysAll ds S f)
-    trees-keep empty h S f k = k
-    trees-keep (token x e ds) h S f k = trees-keep ds (h .1) S (f x) (k x (h .0))
-    trees-keep (child d ds) h S f k =
-        let s = each-split P (span d) (spans ds) h in
-        trees-keep ds (s .1) S (f (says d)) (k (says d) (tree-keeps d (s .0)))
-
 -- what holds of each of the tokens that are read holds of each token of the tree
 pub tokens-of : (P : Token → Type 0) {ts : List Token} {es : List Mark} {t : Text} → Reads text ts es t → Each P ts → InText P t
-tokens-of P r h = subst (InText P) (r .said) (tree-keeps P (r .tree) (subst (Each P) (sym (r .spanned)) h))
+tokens-of P r h = subst (InText P) (r .said) (tree-keeps (λ (k : ℕ) (x : Token). P x) (Kept P) P (λ k x e h. h) (all-keep P) (r .tree) (subst (Each P) (sym (r .spanned)) h))

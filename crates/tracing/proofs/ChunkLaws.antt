@@ -14,8 +14,8 @@ use Rattle.answers.specs.declared.Refusal.{Refusal}
 use Rattle.answers.specs.declared.Compiled.{Compiled}
 use Rattle.answers.specs.declared.Compiled.the-variants.{Written, NotCompiled}
 use Rattle.format.specs.State.{freshOf}
-use Rattle.runtime.specs.Calls.{startOf}
 use Rattle.lexer.specs.Places.{part}
+use Rattle.semantics.specs.Advances.{startOf}
 use Rattle.tracing.specs.Rows.{decimals}
 use Rattle.tracing.specs.Reading.{partEnd, short}
 use Rattle.tracing.specs.Printing.{refusedText}

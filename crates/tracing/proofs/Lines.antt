@@ -17,7 +17,7 @@ use Rattle.answers.specs.declared.Cycled.the-variants.{Performed, NotPerformed}
 use Rattle.format.specs.Image.{Table}
 use Rattle.format.specs.Opening.{Opened, opened, openOf}
 use Rattle.format.specs.Cycle.{cycleOf}
-use Rattle.cycle.specs.Advances.{cycledOf}
+use Rattle.semantics.specs.Advances.{cycledOf}
 use Rattle.tracing.specs.Rows.{split}
 use Rattle.tracing.specs.Printing.{performedLine, refusedLine}
 use Rattle.tracing.specs.Trace.{rowValues}

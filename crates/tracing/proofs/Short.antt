@@ -1,16 +1,16 @@
 -- A line of the trace has at most 512 bytes, so that the program's buffer holds every line whole. Assumes nothing.
-use mathlib.Core.Path.{_≡_, refl, sym, _∙_, ap, subst}
+use mathlib.Core.Path.{_≡_, refl}
 use mathlib.Core.Bool.{Bool, true, false, cond}
 use mathlib.Core.Option.{Option, none, some}
 use mathlib.Core.List.{List, [], _∷_, _++_}
-use Prim.Native.Nat.{ℕ, zero, suc, _+_, _*_, _/_, _%_, _≤_, min}
+use Prim.Native.Nat.{ℕ, zero, suc, _+_, _*_, _/_, _%_, _≤_}
 use native.Mathlib.Omega.{arith}
-use lib.ListN.{length, length-append, length-replicate, replicate, getD}
+use lib.ListN.{length, length-append, length-replicate, replicate}
 use lib.IntN.{ℤ, pos, negsuc}
 use lib.Dec.{ltb}
 use Rattle.answers.specs.declared.State.{State}
 use Rattle.semantics.specs.Calls.{Answer, performed, not-performed, Call, Called}
-use Rattle.cycle.specs.Advances.{cycledOf}
+use Rattle.semantics.specs.Advances.{cycledOf}
 use Rattle.language.specs.Bytes.{bytes}
 use Rattle.format.specs.Words.{Bytes}
 use Rattle.format.specs.Cycle.{cycleOf}

@@ -16,7 +16,7 @@ use Rattle.answers.specs.declared.Cycled.{Cycled}
 use Rattle.answers.specs.declared.Cycled.the-variants.{Performed, NotPerformed}
 use Rattle.format.specs.Cycle.{cycleOf}
 use Rattle.semantics.specs.Calls.{Called}
-use Rattle.cycle.specs.Advances.{cycledOf}
+use Rattle.semantics.specs.Advances.{cycledOf}
 use Rattle.tracing.specs.Printing.{performedLine, refusedLine}
 use Rattle.tracing.specs.Reading.{short, readsOf, Reads}
 use Rattle.tracing.specs.Stored.{Puts}

@@ -23,9 +23,9 @@ use Rattle.format.specs.State.{freshOf}
 use Rattle.semantics.specs.Records.{stateFor}
 use Rattle.format.specs.Cycle.{cycleOf, callsOf}
 use Rattle.semantics.specs.Calls.{Called, Call}
-use Rattle.runtime.specs.Calls.{startOf}
 use Rattle.theorems.specs.Compile.{written, compileOf}
 use Rattle.semantics.specs.Comparison.{fed, seen, equationCalls}
+use Rattle.semantics.specs.Advances.{startOf}
 use Rattle.theorems.proofs.Demand3.{wrote, demand3}
 use Rattle.tracing.specs.Rows.{rowsIn}
 use Rattle.tracing.specs.Printing.{refusedLine, refusedText}

@@ -21,8 +21,7 @@ use Rattle.format.specs.Opening.{Opened, opened, not-opened, openOf}
 use Rattle.format.specs.State.{freshOf}
 use Rattle.format.specs.Cycle.{cycleOf}
 use Rattle.semantics.specs.Calls.{Called}
-use Rattle.runtime.specs.Calls.{startOf}
-use Rattle.cycle.specs.Advances.{cycledOf}
+use Rattle.semantics.specs.Advances.{cycledOf, startOf}
 use Rattle.loader.specs.Open.{openedAs}
 use Rattle.lexer.specs.Places.{part}
 use Rattle.tracing.specs.Rows.{decimals, rowsIn}

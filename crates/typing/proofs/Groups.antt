@@ -15,11 +15,10 @@ use Rattle.language.specs.Declarations.{typeNamed, isInput, groups}
 use Rattle.language.specs.Values.{firstAt, missing, valuesOf, values}
 use Rattle.language.specs.Typing.{initialOf, initialsOf}
 use Rattle.language.proofs.Facts.{each-append}
-use Rattle.syntax.specs.Lowest.{number, lowestOf, lower}
+use Rattle.syntax.specs.Lowest.{number, lowestOf, lower, lowestFrom}
 use Rattle.syntax.specs.Arrays.{TokensIn}
 use Rattle.syntax.specs.Headings.{modeCode, typeCode, initCode, initToken, valueToken, Heading, namesOf, groupNames, groupsNames, headings, declIn, declsFrom, headingSeen, DeclsIn}
 use Rattle.syntax.proofs.Lowest.{lower-none, lowest-append}
-use Rattle.typing.specs.Running.{lowestFrom}
 use Rattle.typing.specs.Names.{valueThere, valueAt, valuesIn, initialFits, initialAt}
 use Rattle.typing.proofs.Places.{place-law, lower-self}
 

@@ -10,24 +10,23 @@ use lib.ListN.{length, getD, length-append, length-map}
 use Rattle.grammar.specs.Token.{Token, NAME}
 use Rattle.grammar.specs.Tree.{Expr, Stmt, output, assign, null, wait, if-then, if-else, while, Body, only, andThen, Text}
 use Rattle.grammar.specs.Limits.{Each, itemCount, stmtExprs, bodyExprs}
+use Rattle.grammar.proofs.Each.{each-split, each-join}
 use Rattle.design.specs.Types.{ExprTy, boolean}
 use Rattle.language.specs.Lists.{unless, each, lowest}
 use Rattle.language.specs.Declarations.{Decl, declared, find, typeIn, within, statements}
 use Rattle.language.specs.Typing.{typeOf, typesIn, wants, typesOf}
-use Rattle.language.proofs.WellTyped.{each-split, each-join}
 use Rattle.cursor.specs.Tokens.{tokenAt}
 use Rattle.expressions.specs.Postfix.{Item, itemOf, postfix}
 use Rattle.expressions.specs.Written.{itemAtIndex}
 use Rattle.statements.specs.Entries.{Entry, stmtEntries, bodyEntries, entryItems}
 use Rattle.statements.specs.Rows.{Row, Line, seen, linesFrom}
-use Rattle.syntax.specs.Lowest.{number, lowestOf, lower}
+use Rattle.syntax.specs.Lowest.{number, lowestOf, lower, lowestFrom}
 use Rattle.syntax.specs.Arrays.{placedFrom, rowIn, rowsFrom, TokensIn, OwnersIn, ItemsIn, RowsIn}
 use Rattle.syntax.specs.Headings.{headings, DeclsIn}
 use Rattle.syntax.specs.Kinded.{KindedExpr, KindedStmt, KindedBody}
 use Rattle.syntax.specs.Entries.{stmtEntry}
 use Rattle.syntax.proofs.Lowest.{lowest-append}
 use Rattle.syntax.proofs.Named.{IsNamed, postfix-named}
-use Rattle.typing.specs.Running.{lowestFrom}
 use Rattle.typing.specs.Operators.{codeOf, typeCodeOf}
 use Rattle.typing.specs.Expressions.{Sources, Work, work, nameAt, placeAt, stepWork, itemWork, itemsWork, topOf}
 use Rattle.typing.specs.Statements.{wantedCode, judgedAs, rowCode, statementAt}

@@ -2,9 +2,8 @@
 use mathlib.Core.Path.{_≡_, sym, _∙_}
 use Prim.Native.Nat.{ℕ, suc, _+_, _-_, _<_, _≤_}
 use native.Mathlib.Omega.{arith}
-use Rattle.syntax.specs.Lowest.{lower}
+use Rattle.syntax.specs.Lowest.{lower, lowestFrom}
 use Rattle.syntax.proofs.Lowest.{lower-none, lower-assoc}
-use Rattle.typing.specs.Running.{lowestFrom}
 
 -- with b found in the rows before j, the rows from j to d still to come
 pub record Rest (f : ℕ → ℕ) (d b j : ℕ) : Type 0 where

@@ -8,9 +8,8 @@ use Rattle.grammar.specs.Tree.{Text}
 use Rattle.language.specs.Lists.{each}
 use Rattle.language.specs.Declarations.{declared, groups, statements}
 use Rattle.language.specs.Typing.{initialsOf, typesOf, types}
-use Rattle.syntax.specs.Lowest.{lowestOf, lower}
+use Rattle.syntax.specs.Lowest.{lowestOf, lower, lowestFrom}
 use Rattle.syntax.proofs.Lowest.{lowest-append}
-use Rattle.typing.specs.Running.{lowestFrom}
 use Rattle.typing.specs.Names.{initialAt}
 use Rattle.typing.specs.Expressions.{Sources}
 use Rattle.typing.specs.Statements.{statementAt, typesIn, Laid}

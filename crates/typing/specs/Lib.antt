@@ -1,4 +1,3 @@
-pub mod Running
 pub mod Names
 pub mod Operators
 pub mod Expressions

@@ -6,9 +6,8 @@ use lib.Dec.{eqb, leb}
 use lib.ListN.{getD}
 use Rattle.grammar.specs.Reader.{choose}
 use Rattle.language.specs.Lists.{unless}
-use Rattle.syntax.specs.Lowest.{lowestOf}
+use Rattle.syntax.specs.Lowest.{lowestOf, lowestFrom}
 use Rattle.syntax.specs.Arrays.{numberIn}
-use Rattle.typing.specs.Running.{lowestFrom}
 
 -- "output or variable group without value": mode 0 is an input, kind 0 of initial value is none
 abbrev pub valueThere : ℕ → ℕ → Bool

@@ -11,11 +11,10 @@ use Rattle.language.specs.Lists.{unless}
 use Rattle.language.specs.Declarations.{declared, groups}
 use Rattle.statements.specs.Entries.{bodyEntries, entryItems}
 use Rattle.statements.specs.Rows.{Row}
-use Rattle.syntax.specs.Lowest.{lowestOf, lower}
+use Rattle.syntax.specs.Lowest.{lowestOf, lower, lowestFrom}
 use Rattle.syntax.specs.Arrays.{rowIn, TokensIn, OwnersIn, ItemsIn, RowsIn}
 use Rattle.syntax.specs.Headings.{headings, DeclsIn}
 use Rattle.syntax.specs.Kinded.{Kinded}
-use Rattle.typing.specs.Running.{lowestFrom}
 use Rattle.typing.specs.Names.{initialAt}
 use Rattle.typing.specs.Operators.{fitsCode}
 use Rattle.typing.specs.Expressions.{Sources, Work, nameAt, placeAt, exprWork, topOf}

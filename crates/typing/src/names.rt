@@ -2,8 +2,8 @@
 ghost use mathlib.Core.Path.{_≡_};
 ghost use Prim.Native.Nat.{_+_, _*_, _<_, _≤_};
 ghost use lib.ListN.{getD};
-ghost use Rattle.typing.specs.Running.{lowestFrom};
 ghost use Rattle.typing.specs.Names.{valueThere, valueAt, initialFits, initialAt};
+ghost use Rattle.syntax.specs.Lowest.{lowestFrom};
 
 // Number k of row j of the declared names.
 pub(crate) fn cell(decls: &[u16; 390], j: usize, k: usize) -> u16

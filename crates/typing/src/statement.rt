@@ -2,9 +2,9 @@
 ghost use mathlib.Core.Path.{_≡_};
 ghost use Prim.Native.Nat.{_+_, _*_, _<_, _≤_};
 ghost use lib.ListN.{getD};
-ghost use Rattle.typing.specs.Running.{lowestFrom};
 ghost use Rattle.typing.specs.Expressions.{nameCode, sources};
 ghost use Rattle.typing.specs.Statements.{wantedCode, statementAt};
+ghost use Rattle.syntax.specs.Lowest.{lowestFrom};
 use crate::expression::expression;
 use crate::expression::name_type;
 use crate::operators;

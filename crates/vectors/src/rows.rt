@@ -2,13 +2,13 @@
 ghost use mathlib.Core.Path.{_≡_};
 ghost use Prim.Native.Nat.{_≤_};
 ghost use Rattle.format.specs.Cycle.{cycleOf};
-ghost use Rattle.cycle.specs.Advances.{cycledOf};
+ghost use Rattle.semantics.specs.Advances.{cycledOf};
 use crate::print;
+use answers::Advanced;
 use answers::Cycled;
 use answers::Refusal;
 use answers::Started;
 use answers::State;
-use cycle::Advanced;
 use words::byte;
 use words::word4;
 

@@ -1,7 +1,6 @@
 -- `bench::direct_row` meets its contract: the lines of the call are added to those before it. Assumes nothing.
-use Rattle.direct.specs.Calls.{cycledOf}
 use Rattle.bench.specs.Rows.{directCycle}
-use Rattle.bench.proofs.RowLaws.{direct-lines, adds}
+use Rattle.bench.proofs.RowLaws.{adds}
 use borrow.Author.Needs.{needs}
 use Rattle.bench.proofs.direct_row.Statement.{statement}
 use Rattle.bench.proofs.direct_row.Tie as tie
@@ -36,7 +35,7 @@ same-length c = search needs
 returns : tie.Need-returns
 returns c =
     let a = c .before .before .before .before .before .before .before .before .before .args in
-    adds cycledOf direct-lines (directCycle (a .text .now)) (a .p .state) (a .inputs .now) (a .from) (a .width) (a .row .now) (c .before .before .before .before .run .result .answer) (c .before .lines-of .ensures) (c .before .before .before .before .run .ensures .0) (c .add .ensures) (c .before .before .before .before .run .ensures .1) (c .before .before .before .before .run .ensures .2)
+    adds (directCycle (a .text .now)) (a .p .state) (a .inputs .now) (a .from) (a .width) (a .row .now) (c .before .before .before .before .run .result .answer) (c .before .lines-of .ensures) (c .before .before .before .before .run .ensures .0) (c .add .ensures) (c .before .before .before .before .run .ensures .1) (c .before .before .before .before .run .ensures .2)
 
 pub direct-row-spec : {M : Type 1} → statement M
 direct-row-spec =

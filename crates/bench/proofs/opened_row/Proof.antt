@@ -1,7 +1,6 @@
 -- `bench::opened_row` meets its contract: the lines of the call are added to those before it. Assumes nothing.
-use Rattle.cycle.specs.Advances.{cycledOf}
 use Rattle.format.specs.Cycle.{cycleOf}
-use Rattle.bench.proofs.RowLaws.{table-lines, adds}
+use Rattle.bench.proofs.RowLaws.{adds}
 use borrow.Author.Needs.{needs}
 use Rattle.bench.proofs.opened_row.Statement.{statement}
 use Rattle.bench.proofs.opened_row.Tie as tie
@@ -36,7 +35,7 @@ same-length c = search needs
 returns : tie.Need-returns
 returns c =
     let a = c .before .before .before .before .before .before .before .before .before .args in
-    adds cycledOf table-lines (cycleOf (a .image .now)) (a .p .state) (a .inputs .now) (a .from) (a .width) (a .row .now) (c .before .before .before .before .cycle-opened .result .answer) (c .before .lines-of .ensures) (c .before .before .before .before .cycle-opened .ensures .answer) (c .add .ensures) (c .before .before .before .before .cycle-opened .ensures .state) (c .before .before .before .before .cycle-opened .ensures .row)
+    adds (cycleOf (a .image .now)) (a .p .state) (a .inputs .now) (a .from) (a .width) (a .row .now) (c .before .before .before .before .cycle-opened .result .answer) (c .before .lines-of .ensures) (c .before .before .before .before .cycle-opened .ensures .answer) (c .add .ensures) (c .before .before .before .before .cycle-opened .ensures .state) (c .before .before .before .before .cycle-opened .ensures .row)
 
 pub opened-row-spec : {M : Type 1} → statement M
 opened-row-spec =

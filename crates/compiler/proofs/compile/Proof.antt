@@ -1,7 +1,8 @@
 -- `compiler::compile` meets its contract. Assumes nothing.
 use mathlib.Core.Path.{refl}
 use denote.Ref.{now}
-use Rattle.compiler.proofs.Accepted.{design-of, compiled-accepted, compiled-refused}
+use Rattle.frontend.proofs.Told.{design-of}
+use Rattle.compiler.proofs.Accepted.{compiled-accepted, compiled-refused}
 use borrow.Author.Needs.{needs}
 use Rattle.compiler.proofs.compile.Statement.{statement}
 use Rattle.compiler.proofs.compile.Tie as tie

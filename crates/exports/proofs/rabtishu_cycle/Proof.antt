@@ -1,9 +1,7 @@
 -- `exports::rabtishu_cycle` meets its contract: the new state is stored where the cycle was performed. Assumes nothing.
-use mathlib.Core.Path.{refl}
 use Rattle.answers.specs.declared.State.{State}
 use Rattle.format.specs.Cycle.{cycleOf}
 use Rattle.semantics.specs.Calls.{Called}
-use Rattle.cycle.specs.Advances.{cycledOf}
 use Rattle.exports.proofs.CallLaws.{cycled-stored, cycled-kept}
 use native.Mathlib.Omega.{arith}
 use Rattle.runtime.proofs.OpenedImage.{all-bytes}
@@ -36,7 +34,7 @@ same-length c = search needs
 returns : tie.Need-returns
 returns c =
     let call : State → Called = (λ s. cycleOf (c .before .before .before .before .before .before .before .before .before .before .before .args .image .now) s (c .before .before .before .before .before .before .before .before .before .before .before .args .inputs .now) (c .before .before .before .before .before .before .before .before .before .before .before .args .row .now)) in
-    cycled-stored cycledOf (λ w. refl) (λ q k. refl) call (c .before .before .before .before .before .before .before .before .before .before .before .args .state .now) _ _ _ _ _ _ _ (c .before .before .before .before .before .before .before .before .to-state .ensures)
+    cycled-stored call (c .before .before .before .before .before .before .before .before .before .before .before .args .state .now) _ _ _ _ _ _ _ (c .before .before .before .before .before .before .before .before .to-state .ensures)
     (c .before .before .before .before .before .before .cycle .ensures .0) (c .before .before .before .before .before .before .cycle .ensures .1) (c .before .before .before .before .before .before .cycle .ensures .2) (c .before .before .before .before .cycled .ensures) (c .before .before .before .is-performed .ensures) (c .before .before .if1 .taken) (c .from-state .ensures)
 
 same-length-2 : tie.Need-same-length-2
@@ -45,7 +43,7 @@ same-length-2 c = search needs
 returns-2 : tie.Need-returns-2
 returns-2 c =
     let call : State → Called = (λ s. cycleOf (c .before .before .before .before .before .before .before .before .before .args .image .now) s (c .before .before .before .before .before .before .before .before .before .args .inputs .now) (c .before .before .before .before .before .before .before .before .before .args .row .now)) in
-    cycled-kept cycledOf (λ w. refl) (λ q k. refl) call (c .before .before .before .before .before .before .before .before .before .args .state .now) _ _ _ _ _ (c .before .before .before .before .before .before .to-state .ensures)
+    cycled-kept call (c .before .before .before .before .before .before .before .before .before .args .state .now) _ _ _ _ _ (c .before .before .before .before .before .before .to-state .ensures)
     (c .before .before .before .before .cycle .ensures .0) (c .before .before .before .before .cycle .ensures .2) (c .before .before .cycled .ensures) (c .before .is-performed .ensures) (c .if1 .left)
 
 pub rabtishu-cycle-spec : {M : Type 1} → statement M

@@ -1,9 +1,7 @@
 -- `exports::rabtishu_direct` meets its contract: the new state is stored where the cycle was performed. Assumes nothing.
-use mathlib.Core.Path.{refl}
 use Rattle.answers.specs.declared.State.{State}
 use Rattle.semantics.specs.Calls.{Called}
 use Rattle.behaviour.specs.Direct.{directOf}
-use Rattle.interpreter.specs.Answering.{cycledOf}
 use Rattle.direct.specs.Calls.{callOf}
 use Rattle.exports.proofs.CallLaws.{cycled-stored, cycled-kept}
 use Rattle.exports.proofs.NarrowLaws.{direct-narrow}
@@ -34,7 +32,7 @@ same-length c = search needs
 returns : tie.Need-returns
 returns c =
     let call : State → Called = (λ s. directOf (c .before .before .before .before .before .before .before .before .before .before .before .args .text .now) s (callOf (c .before .before .before .before .before .before .before .before .before .before .before .args .inputs .now) (c .before .before .before .before .before .before .before .before .before .before .before .args .row .now))) in
-    cycled-stored cycledOf (λ w. refl) (λ q k. refl) call (c .before .before .before .before .before .before .before .before .before .before .before .args .state .now) _ _ _ _ _ _ _ (c .before .before .before .before .before .before .before .before .to-state .ensures)
+    cycled-stored call (c .before .before .before .before .before .before .before .before .before .before .before .args .state .now) _ _ _ _ _ _ _ (c .before .before .before .before .before .before .before .before .to-state .ensures)
     (c .before .before .before .before .before .before .run .ensures .0) (c .before .before .before .before .before .before .run .ensures .1) (c .before .before .before .before .before .before .run .ensures .2) (c .before .before .before .before .cycled .ensures) (c .before .before .before .is-performed .ensures) (c .before .before .if1 .taken) (c .from-state .ensures)
 
 same-length-2 : tie.Need-same-length-2
@@ -43,7 +41,7 @@ same-length-2 c = search needs
 returns-2 : tie.Need-returns-2
 returns-2 c =
     let call : State → Called = (λ s. directOf (c .before .before .before .before .before .before .before .before .before .args .text .now) s (callOf (c .before .before .before .before .before .before .before .before .before .args .inputs .now) (c .before .before .before .before .before .before .before .before .before .args .row .now))) in
-    cycled-kept cycledOf (λ w. refl) (λ q k. refl) call (c .before .before .before .before .before .before .before .before .before .args .state .now) _ _ _ _ _ (c .before .before .before .before .before .before .to-state .ensures)
+    cycled-kept call (c .before .before .before .before .before .before .before .before .before .args .state .now) _ _ _ _ _ (c .before .before .before .before .before .before .to-state .ensures)
     (c .before .before .before .before .run .ensures .0) (c .before .before .before .before .run .ensures .2) (c .before .before .cycled .ensures) (c .before .is-performed .ensures) (c .if1 .left)
 
 pub rabtishu-direct-spec : {M : Type 1} → statement M

@@ -1,8 +1,8 @@
 -- `exports::rabtishu_direct_fresh` meets its contract: the fresh state of the text is stored where there is one. Assumes nothing.
-use mathlib.Core.Path.{refl, ap, _∙_}
-use Rattle.interpreter.specs.Answering.{startedOf, startOf}
+use mathlib.Core.Path.{ap, _∙_}
 use Rattle.behaviour.specs.Direct.{directFresh}
-use Rattle.exports.specs.Numbers.{isFresh, startedNumbers}
+use Rattle.exports.specs.Numbers.{startedNumbers}
+use Rattle.answers.specs.Answers.{isFresh}
 use Rattle.exports.proofs.CallLaws.{started-stored, started-kept}
 use Rattle.exports.proofs.NarrowLaws.{direct-fresh-narrow}
 use borrow.Author.Needs.{needs}
@@ -25,14 +25,14 @@ returns : tie.Need-returns
 returns c =
     let f = directFresh (c .before .before .before .before .before .before .before .args .text .now) in (
       c .before .before .before .before .started .ensures ∙ ap startedNumbers (c .before .before .before .before .before .fresh .ensures .0),
-      started-stored startedOf startOf (λ s. refl) (λ q k. refl) (λ s. refl) f _ _ _ _ (c .before .before .before .is-fresh .ensures ∙ ap isFresh (c .before .before .before .before .before .fresh .ensures .0)) (c .before .before .if1 .taken) (c .before .before .before .before .before .fresh .ensures .1) (c .from-state .ensures),
+      started-stored f _ _ _ _ (c .before .before .before .is-fresh .ensures ∙ ap isFresh (c .before .before .before .before .before .fresh .ensures .0)) (c .before .before .if1 .taken) (c .before .before .before .before .before .fresh .ensures .1) (c .from-state .ensures),
     )
 
 returns-2 : tie.Need-returns-2
 returns-2 c =
     let f = directFresh (c .before .before .before .before .before .args .text .now) in (
       c .before .before .started .ensures ∙ ap startedNumbers (c .before .before .before .fresh .ensures .0),
-      started-kept startedOf startOf (λ s. refl) (λ q k. refl) (λ s. refl) f _ _ (c .before .is-fresh .ensures ∙ ap isFresh (c .before .before .before .fresh .ensures .0)) (c .if1 .left),
+      started-kept f _ _ (c .before .is-fresh .ensures ∙ ap isFresh (c .before .before .before .fresh .ensures .0)) (c .if1 .left),
     )
 
 pub rabtishu-direct-fresh-spec : {M : Type 1} → statement M

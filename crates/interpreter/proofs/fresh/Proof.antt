@@ -1,6 +1,7 @@
 -- `interpreter::fresh` meets its contract: the front end refuses the text, or its design gives the fresh state. Assumes nothing.
 use mathlib.Core.Path.{refl}
-use Rattle.interpreter.proofs.Texts.{design-of, turned-of, bounds, fresh-accepted, fresh-refused}
+use Rattle.frontend.proofs.Told.{design-of, turned-of}
+use Rattle.interpreter.proofs.Texts.{bounds, fresh-accepted, fresh-refused}
 use borrow.Author.Needs.{needs}
 use Rattle.interpreter.proofs.fresh.Statement.{statement}
 use Rattle.interpreter.proofs.fresh.Tie as tie

@@ -1,7 +1,8 @@
 -- `interpreter::run` meets its contract: the front end refuses the text, or a call on its design is the call on the text. Assumes nothing.
 use mathlib.Core.Path.{refl}
 use Rattle.direct.specs.Calls.{callOf}
-use Rattle.interpreter.proofs.Texts.{design-of, turned-of, bounds, run-accepted, run-refused}
+use Rattle.frontend.proofs.Told.{design-of, turned-of}
+use Rattle.interpreter.proofs.Texts.{bounds, run-accepted, run-refused}
 use borrow.Author.Needs.{needs}
 use Rattle.interpreter.proofs.run.Statement.{statement}
 use Rattle.interpreter.proofs.run.Tie as tie

@@ -1,7 +1,7 @@
 -- `runtime::cycle_outcome` meets its contract: a refused cycle hands back the state. Assumes nothing.
 use mathlib.Core.Path.{sym, ap}
 use borrow.Author.Needs.{needs}
-use Rattle.cycle.specs.Advances.{isPerformed}
+use Rattle.answers.specs.Answers.{isPerformed}
 use Rattle.runtime.proofs.Stored.{outcome-of}
 use Rattle.runtime.proofs.cycle_outcome.Statement.{statement}
 use Rattle.runtime.proofs.cycle_outcome.Tie as tie

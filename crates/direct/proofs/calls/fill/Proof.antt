@@ -10,8 +10,8 @@ use mir.Syntax.{w32}
 use mir.Val.{SFits}
 use mir.Facts.{toZ-ofZ}
 use Rattle.semantics.specs.Records.{pad}
-use Rattle.semantics.proofs.Slots.{pad-length}
-use Rattle.direct.proofs.CallLaws.{row-more, row-whole, padded-at}
+use Rattle.semantics.proofs.Slots.{pad-length, row-more, row-whole}
+use Rattle.direct.proofs.CallLaws.{padded-at}
 use Rattle.direct.proofs.calls.fill.Statement.{statement}
 use Rattle.direct.proofs.calls.fill.Tie as tie
 

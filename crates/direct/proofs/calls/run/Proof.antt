@@ -2,7 +2,8 @@
 use mathlib.Core.Path.{_≡_}
 use native.Mathlib.Omega.{arith}
 use lib.ListN.{length}
-use Rattle.direct.proofs.CallLaws.{placed, run-passed, run-reached, run-refused}
+use Rattle.semantics.proofs.Described.{parts}
+use Rattle.direct.proofs.CallLaws.{run-passed, run-reached, run-refused}
 use borrow.Author.Needs.{needs}
 use Rattle.direct.proofs.calls.run.Statement.{statement}
 use Rattle.direct.proofs.calls.run.Tie as tie
@@ -68,7 +69,7 @@ returns-3 : tie.Need-returns-3
 returns-3 c =
     λ p d oc vc room f.
     run-passed p (c .before .before .before .before .before .before .before .before .before .before .before .before .before .before .before .before .before .before .args .s) f (d .well-formed) (c .before .before .before .before .before .before .before .before .before .before .before .before .before .before .before .before .before .before .args .inputs .now) (c .before .before .before .before .before .before .before .before .before .before .before .before .before .before .before .before .before .before .args .row .now) room (c .before .before .before .before .before .before .before .before .before .before .before .before .before .before .before .before .before .before .args .output-count) (c .before .before .before .before .before .before .before .before .before .before .before .before .before .before .before .before .before .before .args .variable-count) oc vc _ _ (c .before .before .before .before .before .before .before .before .cycle .result) (c .before .before .before .before .r .given .0 .0) (c .before .performed .result) _
-    (c .before .before .before .before .before .before .before .before .cycle .ensures (p .body) (d .body) (d .block) (let b = d .well-formed .statements in let e = d .body .end in omega arith) (placed p (c .before .before .before .before .before .before .before .before .before .before .before .before .before .before .before .before .before .before .args .s) f)) (c .before .before .before .before .r .given .1) (c .before .performed .ensures) (search needs) (search needs)
+    (c .before .before .before .before .before .before .before .before .cycle .ensures (p .body) (d .body) (d .block) (let b = d .well-formed .statements in let e = d .body .end in omega arith) (parts p (c .before .before .before .before .before .before .before .before .before .before .before .before .before .before .before .before .before .before .args .s) f .0)) (c .before .before .before .before .r .given .1) (c .before .performed .ensures) (search needs) (search needs)
 
 same-length-2 : tie.Need-same-length-2
 same-length-2 c = search needs
@@ -77,13 +78,13 @@ returns-4 : tie.Need-returns-4
 returns-4 c =
     λ p d oc vc room f.
     run-reached p (c .before .before .before .before .before .before .before .before .before .before .before .before .before .before .before .before .before .before .args .s) f (d .well-formed) (c .before .before .before .before .before .before .before .before .before .before .before .before .before .before .before .before .before .before .args .inputs .now) (c .before .before .before .before .before .before .before .before .before .before .before .before .before .before .before .before .before .before .args .row .now) room (c .before .before .before .before .before .before .before .before .before .before .before .before .before .before .before .before .before .before .args .output-count) (c .before .before .before .before .before .before .before .before .before .before .before .before .before .before .before .before .before .before .args .variable-count) oc vc _ _ (c .before .before .before .before .before .before .before .before .cycle .result) (c .before .before .before .before .r2 .given .0 .0) (c .before .before .before .before .r2 .given .0 .1 .0) (c .before .performed2 .result) _
-    (c .before .before .before .before .before .before .before .before .cycle .ensures (p .body) (d .body) (d .block) (let b = d .well-formed .statements in let e = d .body .end in omega arith) (placed p (c .before .before .before .before .before .before .before .before .before .before .before .before .before .before .before .before .before .before .args .s) f)) (c .before .before .before .before .r2 .given .1) (c .before .performed2 .ensures) (search needs) (search needs)
+    (c .before .before .before .before .before .before .before .before .cycle .ensures (p .body) (d .body) (d .block) (let b = d .well-formed .statements in let e = d .body .end in omega arith) (parts p (c .before .before .before .before .before .before .before .before .before .before .before .before .before .before .before .before .before .before .args .s) f .0)) (c .before .before .before .before .r2 .given .1) (c .before .performed2 .ensures) (search needs) (search needs)
 
 returns-5 : tie.Need-returns-5
 returns-5 c =
     λ p d oc vc room f.
     run-refused p (c .before .before .before .before .before .before .before .before .before .before .before .before .before .before .before .before .args .s) f (d .well-formed) (c .before .before .before .before .before .before .before .before .before .before .before .before .before .before .before .before .args .inputs .now) (c .before .before .before .before .before .before .before .before .before .before .before .before .before .before .before .before .args .row .now) room (c .before .before .before .before .before .before .before .before .before .before .before .before .before .before .before .before .args .output-count) (c .before .before .before .before .before .before .before .before .before .before .before .before .before .before .before .before .args .variable-count) oc vc _ _ (c .before .before .before .before .before .before .cycle .result) (c .before .before .r3 .given .0 .0) (c .refused3 .result)
-    (c .before .before .before .before .before .before .cycle .ensures (p .body) (d .body) (d .block) (let b = d .well-formed .statements in let e = d .body .end in omega arith) (placed p (c .before .before .before .before .before .before .before .before .before .before .before .before .before .before .before .before .args .s) f)) (c .before .before .r3 .given .1) (c .refused3 .ensures)
+    (c .before .before .before .before .before .before .cycle .ensures (p .body) (d .body) (d .block) (let b = d .well-formed .statements in let e = d .body .end in omega arith) (parts p (c .before .before .before .before .before .before .before .before .before .before .before .before .before .before .before .before .args .s) f .0)) (c .before .before .r3 .given .1) (c .refused3 .ensures)
 
 pub run-spec : {M : Type 1} → statement M
 run-spec =

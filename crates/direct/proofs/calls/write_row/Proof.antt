@@ -9,7 +9,7 @@ use lib.IntN.{pos}
 use mir.Syntax.{w32}
 use mir.Val.{SFits}
 use mir.Facts.{toZ-ofZ}
-use Rattle.direct.proofs.CallLaws.{row-more, row-whole}
+use Rattle.semantics.proofs.Slots.{row-more, row-whole}
 use Rattle.direct.proofs.calls.write_row.Statement.{statement}
 use Rattle.direct.proofs.calls.write_row.Tie as tie
 

@@ -1,6 +1,6 @@
 -- `entry::calls::direct_outcome` meets its contract: a refused cycle hands back the state. Assumes nothing.
 use mathlib.Core.Path.{sym, ap}
-use Rattle.cycle.specs.Advances.{isPerformed}
+use Rattle.answers.specs.Answers.{isPerformed}
 use Rattle.entry.proofs.CallingLaws.{outcome-of}
 use borrow.Author.Needs.{needs}
 use Rattle.entry.proofs.calls.direct_outcome.Statement.{statement}

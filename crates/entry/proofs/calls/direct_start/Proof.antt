@@ -1,7 +1,5 @@
 -- `entry::calls::direct_start` meets its contract: the state is there, or it is refused. Assumes nothing.
-use mathlib.Core.Path.{refl}
 use Rattle.behaviour.specs.Direct.{directFresh}
-use Rattle.interpreter.specs.Answering.{startedOf, startOf}
 use Rattle.entry.proofs.CallingLaws.{start-of}
 use borrow.Author.Needs.{needs}
 use Rattle.entry.proofs.calls.direct_start.Statement.{statement}
@@ -15,7 +13,7 @@ is-fresh-requires c κs = search needs
 
 returns : tie.Need-returns
 returns c =
-    start-of startedOf startOf (λ s. refl) (λ q k. refl) (λ s. refl) (directFresh (c .before .before .before .before .args .text .now)) _ _ _ (c .before .before .fresh .ensures) (c .is-fresh .ensures)
+    start-of (directFresh (c .before .before .before .before .args .text .now)) _ _ _ (c .before .before .fresh .ensures) (c .is-fresh .ensures)
 
 pub direct-start-spec : {M : Type 1} → statement M
 direct-start-spec = tie.close (tie.spec fresh-requires is-fresh-requires returns)

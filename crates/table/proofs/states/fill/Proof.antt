@@ -10,9 +10,9 @@ use mir.Syntax.{w32}
 use mir.Val.{SFits}
 use mir.Facts.{toZ-ofZ}
 use Rattle.semantics.specs.Records.{pad}
-use Rattle.semantics.proofs.Slots.{pad-length}
+use Rattle.semantics.proofs.Slots.{pad-length, row-more, row-whole}
 use Rattle.table.specs.Places.{initialsAt}
-use Rattle.table.proofs.Steps.{row-more, row-whole, filled-at}
+use Rattle.table.proofs.Steps.{filled-at}
 use Rattle.table.proofs.states.fill.Statement.{statement}
 use Rattle.table.proofs.states.fill.Tie as tie
 

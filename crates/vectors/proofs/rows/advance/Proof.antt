@@ -51,15 +51,15 @@ use Rattle.answers.specs.declared.State.{State}
 use Rattle.answers.specs.declared.Cycled.{Cycled}
 use Rattle.format.specs.Cycle.{cycleOf}
 use Rattle.semantics.specs.Calls.{Called}
-use Rattle.cycle.specs.Advances.{cycledOf}
+use Rattle.semantics.specs.Advances.{cycledOf}
 use Rattle.runtime.specs.Calls.{wayOf, firstReach}
 use Rattle.answers.proofs.State as S
 use Rattle.answers.proofs.State.Laws as S′
 use Rattle.answers.proofs.Cycled as N
 use Rattle.answers.proofs.Cycled.Laws as N′
-use Rattle.cycle.specs.declared.Advanced.{Advanced}
-use Rattle.cycle.proofs.Advanced as D
-use Rattle.cycle.proofs.Advanced.Laws as D′
+use Rattle.answers.specs.declared.Advanced.{Advanced}
+use Rattle.answers.proofs.Advanced as D
+use Rattle.answers.proofs.Advanced.Laws as D′
 use Rattle.runtime.proofs.advance_state as callee
 use Rattle.runtime.proofs.advance_state.Symbol as callee-def
 use Rattle.runtime.proofs.advance_state.Symbol.{name as #runtime·advance-state}

@@ -1,7 +1,7 @@
--- `cycle::is_performed` meets its contract: a case for each kind of answer. Assumes nothing.
+-- `answers::is_performed` meets its contract: a case for each kind of answer. Assumes nothing.
 use borrow.Author.Needs.{needs}
-use Rattle.cycle.proofs.is_performed.Statement.{statement}
-use Rattle.cycle.proofs.is_performed.Tie as tie
+use Rattle.answers.proofs.is_performed.Statement.{statement}
+use Rattle.answers.proofs.is_performed.Tie as tie
 
 enum-told : tie.Need-enum-told
 enum-told c = search needs

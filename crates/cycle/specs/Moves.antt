@@ -1,0 +1,20 @@
+-- What a cycle answers and leaves, as the format's definition of a call has it (document 01, "State", "Turned back"). Assumes nothing.
+use mathlib.Core.Path.{_≡_}
+use mathlib.Core.Bool.{cond}
+use mathlib.Core.List.{List, _++_}
+use lib.ListN.{length, take, drop}
+use lib.IntN.{ℤ}
+use Rattle.answers.specs.declared.Cycled.{Cycled}
+use Rattle.answers.specs.Answers.{isPerformed}
+use Rattle.semantics.specs.Calls.{Called}
+use Rattle.semantics.specs.Advances.{cycledOf}
+use Rattle.answers.specs.declared.Advanced.{Advanced}
+
+-- "the output row gets all outputs": the row o after a cycle that answers c and leaves the output slots v; "Buffers .. are untouched" where it is refused
+abbrev pub rowAfter : Cycled → List ℤ → List ℤ → List ℤ
+rowAfter c v o = cond (isPerformed c) (take (length o) v ++ drop (length v) o) o
+
+-- the answer and the state r are those of the call c
+pub record Moves (c : Called) (r : Advanced) : Type 0 where
+  pub answer : r .answer ≡ cycledOf (c .answer)
+  pub state : r .state ≡ c .state
