@@ -1,3 +1,4 @@
+pub mod Stages
 pub mod Large
 pub mod Equations
 pub mod Images

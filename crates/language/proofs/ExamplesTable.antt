@@ -1,16 +1,14 @@
--- Document 01's examples and their neighbours, stage by stage, as one table; one test of it, computed; and the theorem that every one of them holds.
--- Assumes nothing.
+-- Examples of tokens and of operators' types as one table; one test of it, computed; and the theorem that every one of them holds. The examples of the
+-- other stages are computed in the crate examples. Assumes nothing.
 use mathlib.Core.List.{List, _++_}
 use lib.Dec.{T}
 use Rattle.grammar.specs.Limits.{Each}
 use Rattle.language.proofs.Examples.{Example, Holds, passes, all-pass}
 use Rattle.language.proofs.ExamplesTokens as Tokens
-use Rattle.language.proofs.ExamplesGrammar as Grammar
-use Rattle.language.proofs.ExamplesLimits as Limits
 use Rattle.language.proofs.ExamplesRules as Rules
 
 abbrev pub examples : List Example
-examples = Tokens.examples ++ (Grammar.examples ++ (Limits.examples ++ (Rules.names ++ (Rules.operators ++ (Rules.types ++ Rules.others)))))
+examples = Tokens.examples ++ Rules.operators
 
 tested : T (passes examples)
 unfolding passes

@@ -1,0 +1,19 @@
+-- Document 01's examples and their neighbours, stage by stage, as one table; one test of it, computed; and the theorem that every one of them holds.
+-- Those of tokens and of operators' types stand in language/proofs/ExamplesTable.antt. Assumes nothing.
+use mathlib.Core.List.{List, _++_}
+use lib.Dec.{T}
+use Rattle.grammar.specs.Limits.{Each}
+use Rattle.language.proofs.Examples.{Example, Holds, passes, all-pass}
+use Rattle.language.proofs.ExamplesGrammar as Grammar
+use Rattle.language.proofs.ExamplesLimits as Limits
+use Rattle.language.proofs.ExamplesRules as Rules
+
+abbrev pub examples : List Example
+examples = Grammar.examples ++ (Limits.examples ++ (Rules.names ++ (Rules.types ++ Rules.others)))
+
+tested : T (passes examples)
+unfolding passes
+tested = tt
+
+pub stages-hold : Each Holds examples
+stages-hold = all-pass examples tested
