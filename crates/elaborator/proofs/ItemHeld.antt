@@ -21,7 +21,7 @@ use Rattle.language.specs.Lists.{filter}
 use Rattle.language.specs.Declarations.{Decl, scopeFor, declared, find, isInput, isOutput, isVariable, isClock, isData}
 use Rattle.language.specs.Elaboration.{position}
 use Rattle.language.proofs.Facts.{find-name}
-use Rattle.lexer.specs.Places.{part}
+use Rattle.scanner.specs.Places.{part}
 use Rattle.lexer.specs.TokenValues.{Valued, tokenValue}
 use Rattle.lexer.proofs.TokenValues.{number-token}
 use Rattle.cursor.specs.Tokens.{tokenAt, noToken}

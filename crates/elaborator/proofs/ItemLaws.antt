@@ -4,7 +4,7 @@ use mathlib.Core.List.{List}
 use Prim.Native.Nat.{ℕ, _≤_, _<_}
 use borrow.Author.Tests.{eq-eqb, ne-eqb, le-leb, lt-leb}
 use Rattle.language.specs.Words.{value}
-use Rattle.lexer.specs.Places.{part}
+use Rattle.scanner.specs.Places.{part}
 use Rattle.offences.specs.Positions.{modeIn}
 use Rattle.elaborator.specs.Positions.{numberAt, slotAt, within, literalAt, nameCode, nameArg, bitAt, codeAt, argAt}
 

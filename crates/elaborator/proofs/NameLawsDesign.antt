@@ -23,7 +23,7 @@ use Rattle.language.specs.Words.{value}
 use Rattle.language.specs.Lists.{filter}
 use Rattle.language.specs.Declarations.{Decl, declare, spread, groups, declared, clockOf, scopeFor, scopeOf}
 use Rattle.language.specs.Elaboration.{minus, bitValue, source, initial, slot, processFor, elaborate}
-use Rattle.lexer.specs.Places.{part}
+use Rattle.scanner.specs.Places.{part}
 use Rattle.lexer.specs.TokenValues.{tokenValue, Valued}
 use Rattle.lexer.proofs.TokenValues.{number-token}
 use Rattle.cursor.specs.Tokens.{noToken, tokenAt}

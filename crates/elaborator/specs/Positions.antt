@@ -8,7 +8,7 @@ use lib.Seq.{sets}
 use lib.IntN.{ℤ, pos}
 use Rattle.grammar.specs.Reader.{choose}
 use Rattle.language.specs.Words.{value}
-use Rattle.lexer.specs.Places.{part}
+use Rattle.scanner.specs.Places.{part}
 use Rattle.offences.specs.Positions.{modeIn}
 use Rattle.statements.specs.Rows.{Row, row}
 use Rattle.ir.specs.Operations.{Op, op}

@@ -16,7 +16,7 @@ use Rattle.semantics.specs.Answer.{Answers}
 use Rattle.semantics.specs.Answer as A
 use Rattle.semantics.specs.Calls.{Answer, performed, not-performed, Called, Call}
 use Rattle.semantics.specs.Comparison.{fed, laid, told}
-use Rattle.answers.specs.Answers.{isPerformed}
+use Rattle.answers.specs.Answers.{isPerformed, isFresh}
 use Rattle.theorems.specs.Promises.{RunsText}
 use Rattle.theorems.specs.Promises as P
 use Rattle.behaviour.specs.Direct.{directOf}
@@ -25,7 +25,6 @@ use Rattle.direct.specs.Calls.{callOf}
 use Rattle.answers.specs.declared.Advanced.{Advanced}
 use Rattle.semantics.specs.Advances.{cycledOf, startedOf, startOf}
 use Rattle.entry.specs.Calling.{DirectOutcomes, Starting}
-use Rattle.answers.specs.Answers.{isFresh}
 
 -- a row of the equations that is refused keeps what was kept
 row-untouched : (d : Process) (k : Kept) (c : Call) (r : Outcome × Kept) (q x : ℕ) → Answers d k (fed c) r → told (r .0) ≡ not-performed q x → laid (r .1) ≡ laid k

@@ -7,13 +7,12 @@ use mathlib.Core.List.{List, []}
 use lib.ListN.{length, take, drop}
 use borrow.Author.Tests.{le-leb, lt-leb}
 use denote.Ref.{RefT, now}
-use Rattle.answers.specs.Answers.{numberOf, placeOf}
+use Rattle.answers.specs.Answers.{numberOf, placeOf, refusalOf}
 use Rattle.answers.specs.declared.Refusal.{Refusal}
 use Rattle.answers.specs.declared.Sections.{Sections}
 use Rattle.answers.specs.declared.Opened.the-variants.{Image, NotOpened}
 use Rattle.format.specs.Opening.{Opened, opened, not-opened, openOf}
 use Rattle.loader.specs.Open.{placesOf, openedAs}
-use Rattle.answers.specs.Answers.{refusalOf}
 use Rattle.loader.proofs.OpenLaws.{image-opened}
 use Rattle.entry.specs.Lending.{noSections, openingOf, within, Lends}
 use Rattle.entry.specs.declared.Opening.{Opening}

@@ -10,9 +10,8 @@ use Rattle.semantics.proofs.Basic.{false-true}
 use Rattle.semantics.specs.Records.{Started, fresh, not-started}
 use Rattle.semantics.specs.Calls.{Answer, performed, not-performed, Called}
 use Rattle.semantics.specs.Advances.{cycledOf, startedOf, startOf}
-use Rattle.answers.specs.Answers.{isPerformed}
+use Rattle.answers.specs.Answers.{isPerformed, isFresh}
 use Rattle.exports.specs.Numbers.{cycledNumbers}
-use Rattle.answers.specs.Answers.{isFresh}
 use Rattle.exports.specs.Slots.{stateOfC, cOfState, cycledSlots, slotsAfter, startedSlots}
 
 -- a fresh state asked for: t is what the code asks before it stores

@@ -20,10 +20,9 @@ use Rattle.behaviour.specs.Direct.{directOf, directFresh}
 use Rattle.ir.specs.Arrays.{NamesIn}
 use Rattle.frontend.specs.declared.layout.Counts.{Counts}
 use Rattle.frontend.proofs.Told.{Design, Turned}
-use Rattle.semantics.specs.Advances.{Advances, startOf, startedOf}
+use Rattle.semantics.specs.Advances.{Advances, startOf, startedOf, cycledOf}
 use Rattle.direct.specs.Calls as D
 use Rattle.answers.specs.declared.Advanced.{Advanced}
-use Rattle.semantics.specs.Advances.{cycledOf}
 
 -- the counts of names
 pub bounds : {text ops : List ℕ} {args : List ℤ} {lines is os vs : List ℕ} {ps qs : List ℤ} {c : Counts} → Design text ops args lines is os vs ps qs c → (c .inputs ≤ 16) × (c .outputs ≤ 16) × (c .variables ≤ 32)

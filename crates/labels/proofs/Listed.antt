@@ -17,7 +17,7 @@ use Rattle.language.specs.Bytes.{bytes, lower}
 use Rattle.language.specs.Lists.{filter}
 use Rattle.language.specs.Declarations.{Decl, declare, spread, groups, declared, isOutput, scopeFor, scopeOf}
 use Rattle.language.specs.Elaboration.{slot, processFor, elaborate}
-use Rattle.lexer.specs.Places.{part}
+use Rattle.scanner.specs.Places.{part}
 use Rattle.lexer.specs.TokenValues.{Valued}
 use Rattle.cursor.specs.Tokens.{noToken, tokenAt}
 use Rattle.parser.specs.declared.Parsed.{Parsed}

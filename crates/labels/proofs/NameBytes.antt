@@ -13,7 +13,7 @@ use Rattle.language.specs.Words.{folded}
 use Rattle.language.specs.Lexing.{all}
 use Rattle.language.proofs.Facts.{and-true-both}
 use Rattle.language.proofs.Folding.{lower-range}
-use Rattle.lexer.specs.Places.{part}
+use Rattle.scanner.specs.Places.{part}
 use Rattle.lexer.specs.TokenValues.{tokenValue, Valued}
 use Rattle.labels.specs.Header.{digits, nameBytes}
 

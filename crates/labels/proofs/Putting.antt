@@ -11,7 +11,7 @@ use lib.Dec.{eqb}
 use borrow.Author.Tests.{eq-eqb, ne-eqb}
 use Rattle.grammar.specs.Reader.{choose}
 use Rattle.language.specs.Bytes.{bytes, lower}
-use Rattle.lexer.specs.Places.{part}
+use Rattle.scanner.specs.Places.{part}
 use Rattle.syntax.specs.Arrays.{numberIn}
 use Rattle.offences.specs.Positions.{modeIn}
 use Rattle.scope.specs.Positions.{foldedAt}

@@ -15,13 +15,13 @@ use Rattle.language.specs.Lexer as L
 use Rattle.language.proofs.Lexing.{Here, gap, token, bad, none, starts}
 use Rattle.language.proofs.LexExact.{gap-something, token-something, piece-some}
 use Rattle.language.specs.Bytes.{kindCode, elem}
-use Rattle.lexer.specs.declared.pieces.Piece.{Piece}
-use Rattle.lexer.specs.declared.pieces.Piece.the-variants as P
-use Rattle.lexer.specs.Places.{part}
-use Rattle.lexer.specs.Pieces.{placed, pieceFrom, pieceAt}
+use Rattle.scanner.specs.declared.pieces.Piece.{Piece}
+use Rattle.scanner.specs.declared.pieces.Piece.the-variants as P
+use Rattle.scanner.specs.Places.{part}
+use Rattle.scanner.specs.Pieces.{placed, pieceFrom, pieceAt}
 use Rattle.lexer.specs.Tokens.{foundFrom}
-use Rattle.lexer.proofs.ByteKinds.{blank-is}
-use Rattle.lexer.proofs.PieceLaws.{piece-blank}
+use Rattle.scanner.proofs.ByteKinds.{blank-is}
+use Rattle.scanner.proofs.PieceLaws.{piece-blank}
 
 -- a piece has a byte, and is no longer than the text
 abbrev Sized : ℕ → Start → Type 0

@@ -1,8 +1,3 @@
-pub mod ByteKinds
-pub mod RunLaws
-pub mod WordLaws
-pub mod MarkLaws
-pub mod PieceLaws
 pub mod Advance
 pub mod Filling
 pub mod PartLaws

@@ -12,7 +12,7 @@ use Rattle.language.specs.Bytes.{lower}
 use Rattle.language.specs.Words.{value}
 use Rattle.language.specs.Lexing.{equal}
 use Rattle.language.proofs.Lexing.{equal-is}
-use Rattle.lexer.specs.Places.{part}
+use Rattle.scanner.specs.Places.{part}
 
 -- a part of a text, by where it ends
 pub part-past : (text : List ℕ) (start size : ℕ) → length text ≤ start → [] ≡ part text start size

@@ -19,9 +19,9 @@ use Rattle.language.specs.Lexing as S
 use Rattle.language.proofs.Facts.{and-true-both}
 use Rattle.language.proofs.LexExact.{token-something, piece-some}
 use Rattle.language.proofs.Folding.{between-le}
-use Rattle.lexer.specs.Places.{part}
+use Rattle.scanner.specs.Places.{part}
 use Rattle.lexer.specs.TokenValues.{tokenValue, Valued}
-use Rattle.lexer.proofs.WordLaws.{folded-equal}
+use Rattle.scanner.proofs.WordLaws.{folded-equal}
 
 -- what a string of bytes that means a token is
 data Token-is (w : List ℕ) (k v : ℕ) : Type 0 where

@@ -9,7 +9,7 @@ use Rattle.grammar.specs.Token.{Token, NAME, NUMBER, ZERO, ONE, GE}
 use Rattle.language.specs.Bytes.{between, inWord}
 use Rattle.language.specs.Words.{folded, value}
 use Rattle.language.specs.Lexing.{Meaning, all, meaning}
-use Rattle.lexer.specs.Places.{part}
+use Rattle.scanner.specs.Places.{part}
 
 -- the value of a token of the kind k that has the bytes w: a number's value, 1 for '1', 0 for '0' and the marks, a word's folded number
 unfoldable pub tokenValue : ℕ → List ℕ → ℕ

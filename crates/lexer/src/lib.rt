@@ -4,19 +4,15 @@ ghost use mathlib.Core.List.{[]};
 ghost use Prim.Native.Nat.{_-_, _≤_};
 ghost use lib.ListN.{length};
 ghost use Rattle.language.specs.Lexer.{tokenAt};
-ghost use Rattle.lexer.specs.Places.{part};
+ghost use Rattle.scanner.specs.Places.{part};
 ghost use Rattle.lexer.specs.Tokens.{Lexing};
 
-mod bytes;
-mod marks;
 pub mod parts;
-mod pieces;
-mod runs;
-pub mod token;
-mod words;
 
 use answers::Refusal;
-use pieces::Piece;
+use scanner::bytes;
+use scanner::pieces;
+use scanner::pieces::Piece;
 
 // The number of tokens, or refusal 1 or 2.
 pub enum Lexed {

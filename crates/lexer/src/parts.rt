@@ -5,8 +5,8 @@ ghost use Prim.Native.Nat.{_+_, _-_, _*_, min, _≤_, _<_};
 ghost use Rattle.language.specs.Bytes.{lower};
 ghost use Rattle.language.specs.Words.{value};
 ghost use Rattle.language.specs.Lexing.{equal};
-ghost use Rattle.lexer.specs.Places.{part};
-use crate::bytes;
+ghost use Rattle.scanner.specs.Places.{part};
+use scanner::bytes;
 
 // So many bytes from a place; past the text's end there are none.
 pub fn part_of<'a>(text: &'a [u8], start: usize, size: usize) -> &'a [u8]

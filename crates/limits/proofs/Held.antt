@@ -20,7 +20,7 @@ use Rattle.language.proofs.LexExact.{lex-tokens}
 use Rattle.language.proofs.Room.{lexes-room}
 use Rattle.lexer.specs.declared.Lexed.{Lexed}
 use Rattle.lexer.specs.declared.Lexed.the-variants.{Tokens, NotLexed}
-use Rattle.lexer.specs.Places.{part}
+use Rattle.scanner.specs.Places.{part}
 use Rattle.lexer.specs.Answered.{Answered, read, too-long, stops}
 use Rattle.lexer.specs.TokenValues.{Valued}
 use Rattle.lexer.specs.Tokens.{lexed, found, write, Lexing}

@@ -7,7 +7,7 @@ use lib.Seq.{sets}
 use Rattle.grammar.specs.Token.{NAME, NUMBER}
 use Rattle.grammar.specs.Reader.{choose}
 use Rattle.language.specs.Words.{value}
-use Rattle.lexer.specs.Places.{part}
+use Rattle.scanner.specs.Places.{part}
 
 -- "name 32 bytes": 1 for a name of more bytes
 abbrev pub nameFlag : ℕ → ℕ

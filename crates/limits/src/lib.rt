@@ -2,11 +2,11 @@
 ghost use mathlib.Core.Path.{_≡_};
 ghost use Prim.Native.Nat.{min};
 ghost use Rattle.language.specs.Words.{value};
-ghost use Rattle.lexer.specs.Places.{part};
+ghost use Rattle.scanner.specs.Places.{part};
 ghost use Rattle.limits.specs.Flags.{numberFlag, flagOf, marked};
 use lexer::parts::number_value;
-use lexer::token::NAME;
-use lexer::token::NUMBER;
+use scanner::token::NAME;
+use scanner::token::NUMBER;
 
 // The longest name, and the largest literal.
 const MOST_BYTES: u16 = 32;

@@ -7,14 +7,13 @@ use lib.Dec.{T}
 use lib.ListN.{length}
 use lib.IntN.{ℤ}
 use Rattle.semantics.proofs.Basic.{false-true}
-use Rattle.answers.specs.Answers.{linesOf}
+use Rattle.answers.specs.Answers.{linesOf, isPerformed}
 use Rattle.answers.specs.declared.State.{State}
 use Rattle.format.specs.Cycle.{cycleOf}
 use Rattle.semantics.specs.Calls.{Answer, performed, not-performed}
 use Rattle.format.proofs.Calls.{refused-untouched}
 use Rattle.answers.specs.declared.Advanced.{Advanced}
 use Rattle.semantics.specs.Advances.{cycledOf}
-use Rattle.answers.specs.Answers.{isPerformed}
 use Rattle.runtime.specs.Calls.{wayOf, firstReach}
 use Rattle.runtime.specs.Outcomes.{Outcomes}
 

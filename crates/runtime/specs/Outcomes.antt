@@ -5,11 +5,10 @@ use mathlib.Core.List.{List}
 use Prim.Native.Nat.{ℕ, _+_, _≤_}
 use lib.ListN.{length}
 use lib.IntN.{ℤ}
-use Rattle.answers.specs.Answers.{linesOf}
+use Rattle.answers.specs.Answers.{linesOf, isPerformed}
 use Rattle.answers.specs.declared.State.{State}
 use Rattle.format.specs.Cycle.{cycleOf}
 use Rattle.semantics.specs.Advances.{cycledOf}
-use Rattle.answers.specs.Answers.{isPerformed}
 use Rattle.runtime.specs.Calls.{wayOf, firstReach}
 use Rattle.runtime.specs.declared.Outcome.{Outcome}
 

@@ -18,7 +18,7 @@ use Rattle.language.specs.Bytes as B
 use Rattle.language.specs.Lexing.{equal}
 use Rattle.language.specs.Declarations.{Decl, declare, spread, groups, declared}
 use Rattle.language.specs.Elaboration.{position}
-use Rattle.lexer.specs.Places.{part}
+use Rattle.scanner.specs.Places.{part}
 use Rattle.lexer.specs.TokenValues.{Valued}
 use Rattle.lexer.proofs.TokenValues.{same-names}
 use Rattle.cursor.specs.Tokens.{noToken, tokenAt}

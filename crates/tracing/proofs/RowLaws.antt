@@ -11,7 +11,7 @@ use lib.ListN.{length, set, take, drop, length-drop, length-append}
 use lib.Seq.{sets, drop-drop, take-length, take-all, drop-length}
 use borrow.Author.Tests.{le-leb, lt-leb, ltb-true, ltb-false}
 use Rattle.language.specs.Lexer.{run}
-use Rattle.lexer.specs.Places.{part}
+use Rattle.scanner.specs.Places.{part}
 use Rattle.tracing.proofs.Storing.{sets-one}
 use Rattle.tracing.specs.Rows.{longer, split, rowsIn, parted, decimalOf, before, all, decimals}
 use Rattle.tracing.specs.Reading.{other, partEnd, readAs, short, Reads, partsFrom, after, joined, Reading}

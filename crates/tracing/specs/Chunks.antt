@@ -23,7 +23,7 @@ use Rattle.format.specs.Cycle.{cycleOf}
 use Rattle.semantics.specs.Calls.{Called}
 use Rattle.semantics.specs.Advances.{cycledOf, startOf}
 use Rattle.loader.specs.Open.{openedAs}
-use Rattle.lexer.specs.Places.{part}
+use Rattle.scanner.specs.Places.{part}
 use Rattle.tracing.specs.Rows.{decimals, rowsIn}
 use Rattle.tracing.specs.Reading.{partEnd, short}
 use Rattle.tracing.specs.Printing.{performedLine, refusedLine, refusedText}

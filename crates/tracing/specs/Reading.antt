@@ -8,7 +8,7 @@ use lib.ListN.{length, drop}
 use lib.Seq.{sets}
 use lib.IntN.{ℤ}
 use lib.Dec.{eqb, leb}
-use Rattle.lexer.specs.Places.{runEnd}
+use Rattle.scanner.specs.Places.{runEnd}
 use Rattle.tracing.specs.Rows.{parted, all, decimals}
 use Rattle.tracing.specs.declared.rows.Decimal.{Decimal}
 use Rattle.tracing.specs.declared.rows.Decimal.the-variants.{Value}

@@ -5,7 +5,7 @@ use native.Mathlib.Omega.{arith}
 use lib.ListN.{length}
 use Rattle.lexer.proofs.Advance.{gapped, blank-gapped, tokened, stopped}
 use Rattle.lexer.proofs.Filling.{Filled, fill-first, fill-gap, fill-token, fill-end, fill-stop, too-long}
-use Rattle.lexer.proofs.ByteKinds.{flag}
+use Rattle.scanner.proofs.ByteKinds.{flag}
 use borrow.Author.Needs.{needs}
 use Rattle.lexer.proofs.lex.Statement.{statement}
 use Rattle.lexer.proofs.lex.Tie as tie

@@ -2,7 +2,7 @@
 use mathlib.Core.Path.{_≡_, refl, sym, _∙_}
 use Prim.Native.Nat.{_-_}
 use lib.ListN.{length}
-use Rattle.lexer.proofs.RunLaws.{run-pass, run-stop, run-end}
+use Rattle.scanner.proofs.RunLaws.{run-pass, run-stop, run-end}
 use Rattle.tracing.specs.Reading.{other, partEnd}
 use Rattle.tracing.proofs.ReadingLaws.{other-is, other-not}
 use borrow.Author.Needs.{needs}

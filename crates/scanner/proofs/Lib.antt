@@ -1,0 +1,5 @@
+pub mod ByteKinds
+pub mod RunLaws
+pub mod WordLaws
+pub mod MarkLaws
+pub mod PieceLaws

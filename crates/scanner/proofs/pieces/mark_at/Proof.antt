@@ -1,0 +1,49 @@
+-- `scanner::pieces::mark_at` meets its contract. Assumes nothing.
+use mathlib.Core.Path.{sym, _∙_, ap}
+use mathlib.Core.List.{List}
+use Prim.Native.Nat.{ℕ}
+use lib.Seq.{drop-cons}
+use Rattle.language.specs.Words.{fixed}
+use Rattle.language.specs.Lexer.{fixedStart}
+use Rattle.scanner.specs.Pieces.{placed}
+use Rattle.scanner.proofs.ByteKinds.{flag}
+use Rattle.scanner.proofs.PieceLaws.{mark-comment, mark-fixed}
+use borrow.Author.Needs.{needs}
+use Rattle.scanner.proofs.pieces.mark_at.Statement.{statement}
+use Rattle.scanner.proofs.pieces.mark_at.Tie as tie
+
+opens-comment-requires : tie.Need-opens-comment-requires
+opens-comment-requires c κs = search needs
+
+add-comment-end : tie.Need-add-comment-end
+add-comment-end c = search needs
+
+comment-end-requires : tie.Need-comment-end-requires
+comment-end-requires c κs = search needs
+
+returns : tie.Need-returns
+returns c = mark-comment _ (c .before .before .before .before .args .at) _ _
+    (flag (c .before .before .opens-comment .ensures) (c .before .if1 .taken)) (c .comment-end .ensures)
+
+fixed-at-requires : tie.Need-fixed-at-requires
+fixed-at-requires c κs = search needs
+
+returns-2 : tie.Need-returns-2
+returns-2 c =
+    (c .fixed-at .ensures)
+    ∙ (ap (λ (l : List ℕ). placed (fixedStart fixed l) (c .before .before .before .before .args .at))
+    (drop-cons (c .before .before .before .before .args .text .now) (c .before .before .before .before .args .at) 0
+    (c .before .before .before .before .pre))
+    ∙ sym (mark-fixed (c .before .before .before .before .args .text .now) (c .before .before .before .before .args .at) _
+    (flag (c .before .before .opens-comment .ensures) (c .before .if1 .left))))
+
+pub mark-at-spec : {M : Type 1} → statement M
+mark-at-spec =
+    tie.close
+    (tie.spec
+    opens-comment-requires
+    add-comment-end
+    comment-end-requires
+    returns
+    fixed-at-requires
+    returns-2)

@@ -1,0 +1,14 @@
+-- `scanner::pieces::number_at` meets its contract. Assumes nothing.
+use Rattle.scanner.proofs.PieceLaws.{number-good}
+use borrow.Author.Needs.{needs}
+use Rattle.scanner.proofs.pieces.number_at.Statement.{statement}
+use Rattle.scanner.proofs.pieces.number_at.Tie as tie
+
+digits-end-requires : tie.Need-digits-end-requires
+digits-end-requires c κs = search needs
+
+returns : tie.Need-returns
+returns c = number-good _ _ _ (c .digits-end .ensures)
+
+pub number-at-spec : {M : Type 1} → statement M
+number-at-spec = tie.close (tie.spec digits-end-requires returns)

@@ -1,0 +1,4 @@
+pub mod Places
+pub mod Reserved
+pub mod Fixed
+pub mod Pieces

@@ -1,0 +1,7 @@
+// The scanner: what starts at a place of a text, a gap or a token with its kind, and the bytes that decide it.
+pub mod bytes;
+mod marks;
+pub mod pieces;
+mod runs;
+pub mod token;
+mod words;

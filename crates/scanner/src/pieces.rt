@@ -1,0 +1,87 @@
+// What starts at a place of a text.
+ghost use mathlib.Core.Path.{_≡_};
+ghost use Prim.Native.Nat.{suc, _≤_, _<_};
+ghost use lib.ListN.{length, getD, drop};
+ghost use Rattle.language.specs.Bytes.{mark, inWord, isDigit};
+ghost use Rattle.language.specs.Words.{isDashes};
+ghost use Rattle.language.specs.Lexer.{run, wordStart, numberStart, startFrom};
+ghost use Rattle.scanner.specs.Pieces.{placed, pieceAt};
+use crate::bytes;
+use crate::marks;
+use crate::runs;
+use crate::token;
+use crate::words;
+
+// A gap (a blank or a comment) up to an end, a token with its kind up to an end, or no token.
+pub enum Piece {
+    Gap(usize),
+    Token(u8, usize),
+    Nothing,
+}
+
+// A word: a malformed one is no token.
+fn word_at(text: &[u8], at: usize) -> Piece
+    requires { ⌜ at ≤ length (now text) ⌝ }
+    ensures { λ r. ⌜ r ≡ placed (wordStart (run inWord (drop at (now (text .entry))))) at ⌝ }
+{
+    let end = runs::word_end(text, at);
+    if !words::well_made(text, at, end) {
+        return Piece::Nothing;
+    }
+    Piece::Token(words::word_kind(text, at, end - at), end)
+}
+
+// A number: digits only.
+fn number_at(text: &[u8], at: usize) -> Piece
+    ensures { λ r. ⌜ r ≡ placed (numberStart (run isDigit (drop at (now (text .entry))))) at ⌝ }
+{
+    Piece::Token(token::NUMBER, runs::digits_end(text, at))
+}
+
+// "-- opens a comment".
+fn opens_comment(text: &[u8], at: usize) -> bool
+    requires { ⌜ at < length (now text) ⌝ }
+    ensures { λ r. ⌜ r ≡ isDashes (getD (now (text .entry)) at 0) (drop (suc at) (now (text .entry))) ⌝ }
+{
+    if text[at] != b'-' {
+        return false;
+    }
+    bytes::byte_at(text, at + 1) == b'-'
+}
+
+// A comment or a mark.
+fn mark_at(text: &[u8], at: usize) -> Piece
+    requires { ⌜ at < length (now text) ⌝ }
+    ensures { λ r. ⌜ r ≡ placed (startFrom mark (getD (now (text .entry)) at 0) (drop (suc at) (now (text .entry)))) at ⌝ }
+{
+    if opens_comment(text, at) {
+        return Piece::Gap(runs::comment_end(text, at + 1));
+    }
+    marks::fixed_at(text, at)
+}
+
+// What starts at a place, by the kind of the byte there; past the text's end, nothing.
+pub fn piece_at(text: &[u8], at: usize) -> Piece
+    ensures { λ r. ⌜ r ≡ pieceAt (now (text .entry)) at ⌝ }
+{
+    if at >= text.len() {
+        return Piece::Nothing;
+    }
+    let kind = bytes::kind_of(text[at]);
+    if kind == bytes::LETTER {
+        return word_at(text, at);
+    }
+    if kind == bytes::BLANK {
+        return Piece::Gap(at + 1);
+    }
+    if kind == bytes::MARK {
+        return mark_at(text, at);
+    }
+    if kind == bytes::DIGIT {
+        return number_at(text, at);
+    }
+    if kind == bytes::QUOTE {
+        return marks::fixed_at(text, at);
+    }
+    Piece::Nothing
+}
