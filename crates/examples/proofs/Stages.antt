@@ -1,5 +1,5 @@
 -- Document 01's examples and their neighbours, stage by stage, as one table; one test of it, computed; and the theorem that every one of them holds.
--- Those of tokens and of operators' types stand in language/proofs/ExamplesTable.antt. Assumes nothing.
+-- Those of tokens and of types stand in language/proofs/ExamplesTable.antt. Assumes nothing.
 use mathlib.Core.List.{List, _++_}
 use lib.Dec.{T}
 use Rattle.grammar.specs.Limits.{Each}
@@ -9,7 +9,7 @@ use Rattle.language.proofs.ExamplesLimits as Limits
 use Rattle.language.proofs.ExamplesRules as Rules
 
 abbrev pub examples : List Example
-examples = Grammar.examples ++ (Limits.examples ++ (Rules.names ++ (Rules.types ++ Rules.others)))
+examples = Grammar.examples ++ (Limits.examples ++ (Rules.names ++ (Rules.operators ++ Rules.others)))
 
 tested : T (passes examples)
 unfolding passes

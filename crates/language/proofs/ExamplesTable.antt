@@ -1,4 +1,4 @@
--- Examples of tokens and of operators' types as one table; one test of it, computed; and the theorem that every one of them holds. The examples of the
+-- Examples of tokens and of types as one table; one test of it, computed; and the theorem that every one of them holds. The examples of the
 -- other stages are computed in the crate examples. Assumes nothing.
 use mathlib.Core.List.{List, _++_}
 use lib.Dec.{T}
@@ -8,7 +8,7 @@ use Rattle.language.proofs.ExamplesTokens as Tokens
 use Rattle.language.proofs.ExamplesRules as Rules
 
 abbrev pub examples : List Example
-examples = Tokens.examples ++ Rules.operators
+examples = Tokens.examples ++ Rules.types
 
 tested : T (passes examples)
 unfolding passes
