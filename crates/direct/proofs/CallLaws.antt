@@ -347,8 +347,6 @@ module _ (p : Process) (s : State) (i o : List ℤ) where
           let g : Right ≡ WrongAt j = sym f ∙ (e ∙ ap (λ (x : Option ℕ). checkOf x) z) in
           absurd (let d : _≡_ {A = ℕ} 0 1 = cc in omega arith)
 
--- THE OUTPUT ROW
-
 -- THE TESTS
 pub names-count : (p : Process) (is os vs : List ℕ) → Names p is os vs → (length os ≡ length (p .outputs)) × (length vs ≡ length (p .variables))
 names-count p is os vs n = (

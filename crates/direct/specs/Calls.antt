@@ -1,4 +1,4 @@
--- What one call of the direct run answers and leaves, for a design that the arrays hold (document 01, "State", "Turned back"). Assumes nothing.
+-- What one call of the direct run is given: the arrays that hold a design, and the rows. Assumes nothing.
 use mathlib.Core.Path.{_≡_}
 use mathlib.Core.List.{List, map}
 use Prim.Native.Nat.{ℕ}

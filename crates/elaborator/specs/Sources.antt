@@ -1,4 +1,4 @@
--- What the elaborator's arrays must hold besides those of the stages: sizes and bytes of tokens, and names' indices. Assumes nothing.
+-- What the elaborator's arrays must hold besides those of the stages: names' indices; and the items of an accepted text. Assumes nothing.
 use mathlib.Core.Path.{_≡_}
 use mathlib.Core.Bool.{true, false}
 use mathlib.Core.Option.{Option, some}

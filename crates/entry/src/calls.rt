@@ -10,6 +10,7 @@ use answers::Cycled;
 use answers::Started;
 use answers::State;
 use answers::is_fresh;
+use answers::is_performed;
 
 // A cycle's answer, the state after it, and whether it was performed.
 struct Outcome {
@@ -32,18 +33,11 @@ fn direct_outcome(text: &[u8], s: State, inputs: &[i32], row: &mut [i32]) -> Out
     let a = interpreter::run(text, s, inputs, row);
     let state = a.state;
     let answer = a.answer;
-    if let Cycled::Performed(_) = answer {
-        Outcome {
-            performed: true,
-            state: state,
-            answer: answer,
-        }
-    } else {
-        Outcome {
-            performed: false,
-            state: state,
-            answer: answer,
-        }
+    let performed = is_performed(answer);
+    Outcome {
+        performed: performed,
+        state: state,
+        answer: answer,
     }
 }
 

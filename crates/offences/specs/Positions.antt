@@ -1,4 +1,4 @@
--- What the stages of names and of the clock look at, by position: the lowest over positions, and what is declared under a number. Assumes nothing.
+-- What the stages of names and of the clock look at, by position: what is declared under a number. Assumes nothing.
 use mathlib.Core.List.{List}
 use Prim.Native.Nat.{ℕ, _+_, _*_}
 use lib.Dec.{ltb}

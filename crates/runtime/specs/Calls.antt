@@ -1,4 +1,4 @@
--- What a call on a whole image answers, beside format's definitions: the way that is counted, its bound, and the fresh state (document 01, "State").
+-- What a call on a whole image answers, beside format's definitions: the way that is counted, and its bound (document 01, "State").
 -- Assumes nothing.
 use mathlib.Core.List.{List, []}
 use Prim.Native.Nat.{ℕ}

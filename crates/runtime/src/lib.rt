@@ -20,6 +20,7 @@ use answers::Opened;
 use answers::Sections;
 use answers::Started;
 use answers::State;
+use answers::is_performed;
 
 // A cycle's answer, the state after it, and whether it was performed.
 struct Outcome {
@@ -78,18 +79,11 @@ fn cycle_outcome(image: &[u8], s: State, inputs: &[i32], row: &mut [i32]) -> Out
     let a = cycle(image, s, inputs, row);
     let state = a.state;
     let answer = a.answer;
-    if let Cycled::Performed(_) = answer {
-        Outcome {
-            performed: true,
-            state: state,
-            answer: answer,
-        }
-    } else {
-        Outcome {
-            performed: false,
-            state: state,
-            answer: answer,
-        }
+    let performed = is_performed(answer);
+    Outcome {
+        performed: performed,
+        state: state,
+        answer: answer,
     }
 }
 

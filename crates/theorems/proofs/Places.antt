@@ -91,6 +91,7 @@ image-place image q k (line-refused n x s σ g l) = go l
     go (bad-line h b a) = let w = whole-lines-back (x .lines) (s .lines) in let c = raws-count (length (x .lines) / 12) (x .lines) in omega arith
     go (not-filled h a b) = let w = whole-lines-back (x .lines) (s .lines) in let c = raws-count (length (x .lines) / 12) (x .lines) in omega arith
 
+-- 14: an index of the input row, which has at most 16 values
 row-place : (σ : Signature) → GoodSignature σ → (i : List ℤ) (n k : ℕ) → Meets14 σ i n k → k ≤ 512
 unfolding Meets14 Wrong
 row-place σ g i n k m = ⊎-elim (λ h. omega (arith, h .1)) (λ h. omega (arith, g .inputs, nth-below (σ .inputs) k (h .1 .0) (h .1 .2))) m
