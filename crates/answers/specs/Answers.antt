@@ -1,11 +1,13 @@
--- Document 01's number, place and values for each case of an answer. Assumes nothing.
-use mathlib.Core.Bool.{Bool, true, false, cond}
+-- Document 01's number, place and values for each case of an answer: what every contract says of an answer, it says through these. Assumes nothing.
+use mathlib.Core.Bool.{Bool, true, false}
 use Prim.Native.Nat.{ℕ}
-use lib.Dec.{eqb}
 use Rattle.answers.specs.declared.Refusal.{Refusal}
 use Rattle.answers.specs.declared.Refusal.the-variants.{TextTooLong, NoToken, NoSentence, LimitPassed, WrongName, WrongType, NoValue, WrongClock, WrongClass, BufferTooShort, BadSections, BadSignature, BadLine, BadRow, BadState, OutOfRange}
 use Rattle.answers.specs.declared.Compiled.{Compiled}
 use Rattle.answers.specs.declared.Compiled.the-variants.{Written, NotCompiled}
+use Rattle.answers.specs.declared.Sections.{Sections}
+use Rattle.answers.specs.declared.Opened.{Opened}
+use Rattle.answers.specs.declared.Opened.the-variants.{Image, NotOpened}
 use Rattle.answers.specs.declared.Cycled.{Cycled}
 use Rattle.answers.specs.declared.Cycled.the-variants.{Performed, NotPerformed}
 use Rattle.answers.specs.declared.Started.{Started}
@@ -49,30 +51,57 @@ placeOf (BadRow p) = p
 placeOf BadState = 0
 placeOf (OutOfRange p) = p
 
--- the row of the table with that number of 1 to 16, at that place; 16 for any other number
-abbrev pub refusalOf : ℕ → ℕ → Refusal
-refusalOf n p =
-    cond (eqb n 1) TextTooLong (cond (eqb n 2) (NoToken p) (cond (eqb n 3) (NoSentence p) (cond (eqb n 4) (LimitPassed p)
-    (cond (eqb n 5) (WrongName p) (cond (eqb n 6) (WrongType p) (cond (eqb n 7) (NoValue p) (cond (eqb n 8) (WrongClock p)
-    (cond (eqb n 9) (WrongClass p) (cond (eqb n 10) (BufferTooShort p) (cond (eqb n 11) BadSections (cond (eqb n 12) BadSignature
-    (cond (eqb n 13) (BadLine p) (cond (eqb n 14) (BadRow p) (cond (eqb n 15) BadState (OutOfRange p)))))))))))))))
+-- an answer in document 01's terms: done, with what is counted or lent; or turned back, by the number and the place of a row of the table
+pub data Told (A : Type 0) : Type 0 where
+  done : A → Told A
+  refusal : (number place : ℕ) → Told A
+
+-- whether it is done
+abbrev pub isDone : {A : Type 0} → Told A → Bool
+isDone (done x) = true
+isDone (refusal number place) = false
+
+-- what is counted; of a refused call, nothing
+abbrev pub countOf : Told ℕ → ℕ
+countOf (done n) = n
+countOf (refusal number place) = 0
+
+-- a refused call, by the columns "No" and "Place"
+abbrev pub refusedBy : {A : Type 0} → Refusal → Told A
+refusedBy r = refusal (numberOf r) (placeOf r)
+
+-- a compile: the number of image bytes written
+abbrev pub compileTold : Compiled → Told ℕ
+compileTold (Written n) = done n
+compileTold (NotCompiled r) = refusedBy r
+
+-- an image opened: its sections
+abbrev pub openTold : Opened → Told Sections
+openTold (Image at) = done at
+openTold (NotOpened r) = refusedBy r
+
+-- a fresh state asked for
+abbrev pub freshTold : Started → Told (Unit {0})
+freshTold Fresh = done tt
+freshTold (NotStarted r) = refusedBy r
+
+-- a cycle: "the number of lines performed, the wait it ends on included"
+abbrev pub cycleTold : Cycled → Told ℕ
+cycleTold (Performed n) = done n
+cycleTold (NotPerformed r) = refusedBy r
 
 -- how many bytes a compile wrote; a refused one writes none
 abbrev pub bytesOf : Compiled → ℕ
-bytesOf (Written n) = n
-bytesOf (NotCompiled r) = 0
+bytesOf c = countOf (compileTold c)
 
--- "the number of lines performed, the wait it ends on included"; "A refused cycle answers 0 lines."
+-- how many lines a cycle performed: "A refused cycle answers 0 lines."
 abbrev pub linesOf : Cycled → ℕ
-linesOf (Performed n) = n
-linesOf (NotPerformed r) = 0
+linesOf c = countOf (cycleTold c)
 
 -- whether a cycle was performed
 abbrev pub isPerformed : Cycled → Bool
-isPerformed (Performed n) = true
-isPerformed (NotPerformed r) = false
+isPerformed c = isDone (cycleTold c)
 
 -- whether a fresh state is there
 abbrev pub isFresh : Started → Bool
-isFresh Fresh = true
-isFresh (NotStarted r) = false
+isFresh s = isDone (freshTold s)

@@ -13,12 +13,13 @@ use borrow.Author.Tests.{ltb-true, leb-true, leb-false, lt-ltb, le-leb, lt-leb}
 use Rattle.semantics.proofs.Basic.{false-true, and-left, and-right}
 use Rattle.answers.specs.declared.State.{State}
 use Rattle.answers.specs.declared.Cycled.{Cycled}
-use Rattle.answers.specs.Answers.{linesOf}
-use Rattle.semantics.specs.Calls.{Answer, performed, not-performed, Called, turnedBack}
-use Rattle.semantics.specs.Advances.{cycledOf}
+use Rattle.answers.specs.Answers.{linesOf, cycleTold, countOf}
+use Rattle.semantics.specs.Calls.{Called, turnedBack}
+use Rattle.semantics.specs.Advances.{cycleAnswer}
 use Rattle.format.specs.Opening.{not-opened, openOf}
 use Rattle.format.specs.Cycle.{cycleOf}
 use Rattle.runtime.specs.Calls.{wayOf}
+use Rattle.runtime.proofs.Whole.{count-way}
 use Rattle.bench.specs.Rows.{Cycle, rowsOf, calledOn, linesIn, rowAfter, told, Runs, Adds}
 use Rattle.bench.specs.declared.Progress.{Progress}
 
@@ -139,19 +140,15 @@ module _ (f : Cycle) (l : List ℤ) (w : ℕ) (s₀ : State) (n₀ : ℕ) (o₀ 
 
 -- The lines of one call.
 
-cycled-lines : (a : Answer) → linesOf (cycledOf a) ≡ length (wayOf a)
-cycled-lines (performed way) = refl
-cycled-lines (not-performed q k) = refl
-
 -- the call of the part from .. from + w, whose lines n are put to those before it
 pub adds : (f : Cycle) (s : State) (l : List ℤ) (from w : ℕ) (o : List ℤ)
-    → {before n k : ℕ} (a : Cycled) {t : State} {u : List ℤ} → n ≡ linesOf a → a ≡ cycledOf (f s (take (from + w - from) (drop from l)) o .answer) → k ≡ told (before + n)
+    → {before n k : ℕ} (a : Cycled) {t : State} {u : List ℤ} → n ≡ linesOf a → cycleTold a ≡ cycleAnswer (f s (take (from + w - from) (drop from l)) o .answer) → k ≡ told (before + n)
     → t ≡ f s (take (from + w - from) (drop from l)) o .state → u ≡ f s (take (from + w - from) (drop from l)) o .row
     → Adds (f s (take w (drop from l)) o) before (record { lines = k; state = t }) u
 adds f s l from w o {before} {n} {k} a {t} {u} e g h i j =
     let z : from + w - from ≡ w = omega arith in
     subst (λ (m : ℕ). Adds (f s (take m (drop from l)) o) before (record { lines = k; state = t }) u) z
-    (record { lines = h ∙ ap (λ (x : ℕ). told (before + x)) (e ∙ ap linesOf g ∙ cycled-lines (f s (take (from + w - from) (drop from l)) o .answer)); state = i; row = j })
+    (record { lines = h ∙ ap (λ (x : ℕ). told (before + x)) (e ∙ ap countOf g ∙ count-way (f s (take (from + w - from) (drop from l)) o .answer)); state = i; row = j })
 
 -- rows from a state that is another one's name
 pub runs-from : {f : Cycle} {s t : State} {l : List ℤ} {w n : ℕ} {o : List ℤ} {k : ℕ} {u : List ℤ} → s ≡ t → Runs f s l w n o k u → Runs f t l w n o k u

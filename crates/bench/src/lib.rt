@@ -5,13 +5,13 @@ ghost use mathlib.Core.Bool.{_&&_};
 ghost use Prim.Native.Nat.{_+_, _≤_};
 ghost use lib.Dec.{ltb, leb};
 ghost use lib.ListN.{length, take, drop};
-ghost use Rattle.answers.specs.Answers.{linesOf};
+ghost use Rattle.answers.specs.Answers.{linesOf, done};
 ghost use Rattle.answers.specs.declared.Opened.the-variants.{Image};
 ghost use Rattle.format.specs.Opening.{openOf};
 ghost use Rattle.format.specs.State.{freshOf};
 ghost use Rattle.format.specs.Cycle.{cycleOf};
 ghost use Rattle.semantics.specs.Advances.{startOf};
-ghost use Rattle.loader.specs.Open.{openedAs};
+ghost use Rattle.loader.specs.Open.{openAnswer};
 ghost use Rattle.behaviour.specs.Direct.{directFresh};
 ghost use Rattle.bench.specs.Rows.{directCycle, told, Runs, Adds};
 use answers::Cycled;
@@ -65,7 +65,7 @@ fn opened_row(
     width: usize,
     row: &mut [i32],
 ) -> Progress
-    requires { ⌜ (Image at ≡ openedAs (now image) (openOf (now image))) × (from + width ≤ length (now inputs)) ⌝ }
+    requires { ⌜ (done at ≡ openAnswer (now image) (openOf (now image))) × (from + width ≤ length (now inputs)) ⌝ }
     ensures { λ r. ⌜ Adds (cycleOf (now (image .entry)) (p .state) (take width (drop from (now (inputs .entry)))) (now (row .entry))) (p .lines) r (now (row .exit)) ⌝ }
 {
     let end = from + width;
@@ -87,7 +87,7 @@ fn opened_rows(
     count: usize,
     row: &mut [i32],
 ) -> usize
-    requires { ⌜ Image at ≡ openedAs (now image) (openOf (now image)) ⌝ }
+    requires { ⌜ done at ≡ openAnswer (now image) (openOf (now image)) ⌝ }
     ensures { λ r. ⌜ Runs (cycleOf (now (image .entry))) s (now (inputs .entry)) width count (now (row .entry)) r (now (row .exit)) ⌝ }
 {
     let mut p = Progress { lines: 0, state: s };

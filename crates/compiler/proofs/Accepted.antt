@@ -10,9 +10,10 @@ use lib.IntN.{ℤ}
 use Rattle.answers.specs.declared.Refusal.{Refusal}
 use Rattle.answers.specs.declared.Refusal.the-variants.{BufferTooShort}
 use Rattle.answers.specs.declared.Compiled.the-variants.{Written, NotCompiled}
+use Rattle.answers.specs.Answers.{done, refusal, compileTold}
 use Rattle.language.specs.Verdict.{Verdict, verdict}
 use Rattle.format.specs.Encode.{encode}
-use Rattle.theorems.specs.Compile.{Compile, written, not-compiled, onVerdict, compileOf, written-into}
+use Rattle.theorems.specs.Compile.{Compile, written, not-compiled, onVerdict, compileOf, written-into, compileAnswer}
 use Rattle.encoder.specs.declared.Encoded.{Encoded}
 use Rattle.encoder.specs.declared.Encoded.the-variants as E
 use Rattle.encoder.specs.Outcome.{answerFor, bufferFor}
@@ -21,7 +22,6 @@ use Rattle.frontend.specs.declared.Front.the-variants.{Refused}
 use Rattle.frontend.specs.declared.layout.Counts.{Counts}
 use Rattle.frontend.specs.Fronts.{DesignArrays, FrontAs}
 use Rattle.frontend.proofs.Told.{Design, turned-of}
-use Rattle.compiler.specs.Compiles.{compiledOf}
 
 pub compiled-accepted : {text ops : List ℕ} {args : List ℤ} {lines is os vs : List ℕ} {ps qs : List ℤ} {c : Counts} (d : Design text ops args lines is os vs ps qs c) (b : List ℕ) → compileOf text b ≡ written-into (encode (d .process)) b
 unfolding compileOf
@@ -29,28 +29,28 @@ compiled-accepted d b = ap (λ (v : Verdict). onVerdict v b) (d .is-verdict)
 
 -- a refused text
 pub compiled-refused : (text : List ℕ) {r : Front} {x : Refusal} (before after : DesignArrays) (b : List ℕ) → FrontAs (verdict text) r before after → r ≡ Refused x
-    → (NotCompiled x ≡ compiledOf (compileOf text b .answer)) × (b ≡ compileOf text b .buffer)
+    → (compileTold (NotCompiled x) ≡ compileAnswer (compileOf text b .answer)) × (b ≡ compileOf text b .buffer)
 unfolding compileOf
-compiled-refused text before after b f e = let t = turned-of text before after f e in rw (t .is-verdict) (ap NotCompiled (t .is-refusal), refl)
+compiled-refused text before after b f e = rw (turned-of text before after f e) (refl, refl)
 
 -- the encoder's answer is the compile's
-pub written-answer : {n : ℕ} {x : Encoded} (i b : List ℕ) → x ≡ answerFor i b → x ≡ E.Written n → Written n ≡ compiledOf (written-into i b .answer)
+pub written-answer : {n : ℕ} {x : Encoded} (i b : List ℕ) → x ≡ answerFor i b → x ≡ E.Written n → compileTold (Written n) ≡ compileAnswer (written-into i b .answer)
 unfolding written-into
 written-answer {n} {x} i b e w = go (leb (length i) (length b)) (sym w ∙ e)
   where
     go : (t : Bool) → E.Written n ≡ cond t (E.Written (length i)) (E.TooShort (length i))
-        → Written n ≡ compiledOf (cond {A = Compile} t (record { answer = written (length i); buffer = i ++ drop (length i) b }) (record { answer = not-compiled 10 (length i); buffer = b }) .answer)
-    go true q = let z : n ≡ length i = cc in ap Written z
+        → compileTold (Written n) ≡ compileAnswer (cond {A = Compile} t (record { answer = written (length i); buffer = i ++ drop (length i) b }) (record { answer = not-compiled 10 (length i); buffer = b }) .answer)
+    go true q = let z : n ≡ length i = cc in ap done z
     go false q = absurd (let z : _≡_ {A = ℕ} 0 1 = cc in omega arith)
 
-pub short-answer : {n : ℕ} {x : Encoded} (i b : List ℕ) → x ≡ answerFor i b → x ≡ E.TooShort n → NotCompiled (BufferTooShort n) ≡ compiledOf (written-into i b .answer)
+pub short-answer : {n : ℕ} {x : Encoded} (i b : List ℕ) → x ≡ answerFor i b → x ≡ E.TooShort n → compileTold (NotCompiled (BufferTooShort n)) ≡ compileAnswer (written-into i b .answer)
 unfolding written-into
 short-answer {n} {x} i b e w = go (leb (length i) (length b)) (sym w ∙ e)
   where
     go : (t : Bool) → E.TooShort n ≡ cond t (E.Written (length i)) (E.TooShort (length i))
-        → NotCompiled (BufferTooShort n) ≡ compiledOf (cond {A = Compile} t (record { answer = written (length i); buffer = i ++ drop (length i) b }) (record { answer = not-compiled 10 (length i); buffer = b }) .answer)
+        → compileTold (NotCompiled (BufferTooShort n)) ≡ compileAnswer (cond {A = Compile} t (record { answer = written (length i); buffer = i ++ drop (length i) b }) (record { answer = not-compiled 10 (length i); buffer = b }) .answer)
     go true q = absurd (let z : _≡_ {A = ℕ} 0 1 = cc in omega arith)
-    go false q = let z : n ≡ length i = cc in ap (λ (m : ℕ). NotCompiled (BufferTooShort m)) z
+    go false q = let z : n ≡ length i = cc in ap (refusal 10) z
 
 pub same-buffer : (i b : List ℕ) → bufferFor i b ≡ written-into i b .buffer
 unfolding written-into

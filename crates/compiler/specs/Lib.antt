@@ -1,2 +1,1 @@
-pub mod Compiles
 pub mod Written

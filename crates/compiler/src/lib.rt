@@ -1,10 +1,10 @@
 // The compiler: a text to the image of its design in the caller's buffer, or its refusal.
 ghost use mathlib.Core.Path.{_≡_};
+ghost use Rattle.answers.specs.Answers.{compileTold};
 ghost use Rattle.design.specs.Process.{Process, WellFormed};
 ghost use Rattle.format.specs.Encode.{encode};
-ghost use Rattle.theorems.specs.Compile.{compileOf, written-into};
+ghost use Rattle.theorems.specs.Compile.{compileOf, written-into, compileAnswer};
 ghost use Rattle.frontend.specs.Designs.{Holds};
-ghost use Rattle.compiler.specs.Compiles.{compiledOf};
 use answers::Compiled;
 use answers::Refusal;
 use encoder::Encoded;
@@ -25,7 +25,7 @@ fn write_image(
     image: &mut [u8],
 ) -> Compiled
     ensures { λ r. ⌜ ((p : Process) → Holds p (now (ops .entry)) (now (args .entry)) (now (lines .entry)) is os vs «at_outputs» «at_variables» c → WellFormed p
-        → (r ≡ compiledOf (written-into (encode p) (now (image .entry)) .answer)) × (now (image .exit) ≡ written-into (encode p) (now (image .entry)) .buffer)) ⌝ }
+        → (compileTold r ≡ compileAnswer (written-into (encode p) (now (image .entry)) .answer)) × (now (image .exit) ≡ written-into (encode p) (now (image .entry)) .buffer)) ⌝ }
 {
     let encoded = encoder::write(
         ops,
@@ -51,7 +51,7 @@ fn write_image(
 
 // Any text and any buffer: refusals 1 to 9, then 10, or the image. A refused call alters no byte; an accepted one writes only the image's own bytes.
 pub fn compile(text: &[u8], image: &mut [u8]) -> Compiled
-    ensures { λ r. ⌜ (r ≡ compiledOf (compileOf (now (text .entry)) (now (image .entry)) .answer)) × (now (image .exit) ≡ compileOf (now (text .entry)) (now (image .entry)) .buffer) ⌝ }
+    ensures { λ r. ⌜ (compileTold r ≡ compileAnswer (compileOf (now (text .entry)) (now (image .entry)) .answer)) × (now (image .exit) ≡ compileOf (now (text .entry)) (now (image .entry)) .buffer) ⌝ }
 {
     let mut ops = [0u8; 16384];
     let mut args = [0i32; 16384];

@@ -32,9 +32,10 @@ use Rattle.table.specs.declared.RowCheck.{RowCheck}
 use Rattle.table.specs.declared.RowCheck.the-variants.{Right, WrongAt}
 use Rattle.table.specs.Answers.{checkOf}
 use Rattle.answers.specs.declared.Advanced.{Advanced}
+use Rattle.answers.specs.Answers.{done, refusal, cycleTold}
 use Rattle.cycle.specs.Ran.{Checked, went, ranFor}
 use Rattle.cycle.specs.Moves.{rowAfter, Moves}
-use Rattle.semantics.specs.Advances.{cycledOf, Advances}
+use Rattle.semantics.specs.Advances.{Advances, cycleAnswer}
 use Rattle.cycle.proofs.Runs.{cycle-ran}
 
 module _ (s l c : List ℕ) (t : Table) (h : Checked s l c t) (x : State) (i o : List ℤ)
@@ -87,7 +88,7 @@ module _ (s l c : List ℕ) (t : Table) (h : Checked s l c t) (x : State) (i o :
           let lt : p < 65536 = omega (arith, w .inside, h .held .good .few-lines) in (
             lt,
             λ A ea. subst (λ (k : Called). Moves k A) (sym q) (record {
-              answer = ap (λ (k : Advanced). k .answer) ea ∙ ap Performed ne;
+              answer = ap (λ (k : Advanced). cycleTold (k .answer)) ea ∙ ap done ne;
               state = ap (λ (k : Advanced). k .state) ea ∙ (λ j. record { place = pe j; outputs = oe j; variables = ve j });
             }),
           )
@@ -105,7 +106,7 @@ module _ (s l c : List ℕ) (t : Table) (h : Checked s l c t) (x : State) (i o :
           let f : Stopped z y ≡ Stopped 16 y′ = ap (λ (k : Went). k .answer) e ∙ w in
           let ye : y ≡ y′ = cc in
           subst (λ (k : Called). Moves k a) (sym q) (record {
-            answer = ap (λ (k : Advanced). k .answer) ea ∙ ap (λ (k : ℕ). NotPerformed (OutOfRange k)) ye;
+            answer = ap (λ (k : Advanced). cycleTold (k .answer)) ea ∙ ap (refusal 16) ye;
             state = ap (λ (k : Advanced). k .state) ea;
           })
       on r q (performs p τ m g u w d gs lo) =
@@ -142,7 +143,7 @@ module _ (t : Table) (x : State) (i o : List ℤ) where
       on (some j) z =
           let g : WrongAt k ≡ WrongAt j = sym f ∙ e ∙ ap checkOf z in
           let y : k ≡ j = cc in
-          rw z (record { answer = ap (λ (u : Advanced). u .answer) ea ∙ ap (λ (n : ℕ). NotPerformed (BadRow n)) y; state = ap (λ (u : Advanced). u .state) ea; row = refl })
+          rw z (record { answer = ap (λ (u : Advanced). cycleTold (u .answer)) ea ∙ ap (refusal 14) y; state = ap (λ (u : Advanced). u .state) ea; row = refl })
 
   pub row-is-right : (q : RowCheck) → q ≡ checkOf (rowPlace (t .signature) i (length o)) → q ≡ Right → rowPlace (t .signature) i (length o) ≡ none
   row-is-right q e f = on (rowPlace (t .signature) i (length o)) refl
@@ -157,16 +158,16 @@ module _ (t : Table) (x : State) (i o : List ℤ) where
   pub state-moves : rowPlace (t .signature) i (length o) ≡ none → stateOk t x ≡ false → (a : Advanced) → a ≡ record { state = x; answer = NotPerformed BadState }
       → Moves (rowOf t x i o) a
   unfolding rowOf
-  state-moves z f a ea = rw (z, f) (record { answer = ap (λ (u : Advanced). u .answer) ea; state = ap (λ (u : Advanced). u .state) ea })
+  state-moves z f a ea = rw (z, f) (record { answer = ap (λ (u : Advanced). cycleTold (u .answer)) ea; state = ap (λ (u : Advanced). u .state) ea })
 
   -- the row that is left with answer and state: by cases on what the row came to
-  pub row-shown : GoodTable t → rowPlace (t .signature) i (length o) ≡ none → (a r : Advanced) (u : List ℤ) → Moves (rowOf t x i o) a → r ≡ a → u ≡ rowAfter (a .answer) (a .state .outputs) o
-      → (r .answer ≡ cycledOf (rowOf t x i o .answer)) × (r .state ≡ rowOf t x i o .state) × (u ≡ rowOf t x i o .row)
+  pub row-shown : GoodTable t → rowPlace (t .signature) i (length o) ≡ none → (a r : Advanced) (u : List ℤ) → Moves (rowOf t x i o) a → r ≡ a → u ≡ rowAfter (cycleTold (a .answer)) (a .state .outputs) o
+      → (cycleTold (r .answer) ≡ cycleAnswer (rowOf t x i o .answer)) × (r .state ≡ rowOf t x i o .state) × (u ≡ rowOf t x i o .row)
   unfolding stateFor
   row-shown g right a r u m e f =
-      (ap (λ (k : Advanced). k .answer) e ∙ m .answer, ap (λ (k : Advanced). k .state) e ∙ m .state, f ∙ rw (m .answer, m .state) (on (rowOf t x i o) (row-outcome t g x i o)))
+      (ap (λ (k : Advanced). cycleTold (k .answer)) e ∙ m .answer, ap (λ (k : Advanced). k .state) e ∙ m .state, f ∙ rw (m .answer, m .state) (on (rowOf t x i o) (row-outcome t g x i o)))
     where
-      on : (c : Called) → Outcome t x i o c → rowAfter (cycledOf (c .answer)) (c .state .outputs) o ≡ c .row
+      on : (c : Called) → Outcome t x i o c → rowAfter (cycleAnswer (c .answer)) (c .state .outputs) o ≡ c .row
       on c (row-refused k m) = refl
       on c (state-refused m w) = refl
       on c (operator-refused y m w b z) = refl

@@ -9,10 +9,11 @@ ghost use Rattle.format.specs.Image.{Table};
 ghost use mathlib.Core.Bool.{true};
 ghost use Rattle.format.specs.State.{placeOk};
 ghost use Rattle.answers.specs.declared.Cycled.the-variants.{Performed};
+ghost use Rattle.answers.specs.Answers.{cycleTold};
 ghost use Rattle.format.specs.Cycle.{rowPlace, rowOf};
 ghost use Rattle.format.specs.State.{stateOk};
 ghost use Rattle.cycle.specs.Moves.{rowAfter, Moves};
-ghost use Rattle.semantics.specs.Advances.{cycledOf};
+ghost use Rattle.semantics.specs.Advances.{cycleAnswer};
 ghost use Rattle.cycle.specs.Ran.{Checked, went, ranFor};
 use answers::Advanced;
 use answers::Cycled;
@@ -123,7 +124,7 @@ fn judged(signature: &[u8], lines: &[u8], code: &[u8], inputs: &[i32], s: State)
 
 // The output row of a cycle: it gets the outputs where the cycle was performed.
 fn show(a: Advanced, row: &mut [i32]) -> Advanced
-    ensures { λ r. ⌜ (r ≡ a) × (now (row .exit) ≡ rowAfter (a .answer) (a .state .outputs) (now (row .entry))) ⌝ }
+    ensures { λ r. ⌜ (r ≡ a) × (now (row .exit) ≡ rowAfter (cycleTold (a .answer)) (a .state .outputs) (now (row .entry))) ⌝ }
 {
     let answer = a.answer;
     let done = is_performed(answer);
@@ -146,7 +147,7 @@ pub fn advance(
     row: &mut [i32],
 ) -> Advanced
     ensures { λ a. ⌜ ((t : Table) → Checked (now (signature .entry)) (now (lines .entry)) (now (code .entry)) t
-        → (a .answer ≡ cycledOf (rowOf t s (now (inputs .entry)) (now (row .entry)) .answer))
+        → (cycleTold (a .answer) ≡ cycleAnswer (rowOf t s (now (inputs .entry)) (now (row .entry)) .answer))
         × (a .state ≡ rowOf t s (now (inputs .entry)) (now (row .entry)) .state)
         × (now (row .exit) ≡ rowOf t s (now (inputs .entry)) (now (row .entry)) .row)) ⌝ }
 {

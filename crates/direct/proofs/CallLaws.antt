@@ -39,12 +39,13 @@ use Rattle.direct.specs.Checks.{checkOf, rowIs, slotsIn, placeIn, stateI
 use Rattle.semantics.specs.Calls.{Called}
 use Rattle.semantics.proofs.Described.{used-outputs, used-variables, outputs-long, variables-long, kept-laid}
 use Rattle.direct.specs.Calls.{Design, Names, callOf, fedOf}
-use Rattle.semantics.specs.Advances.{cycledOf, Advances}
+use Rattle.semantics.specs.Advances.{Advances, cycleAnswer}
 use Rattle.execution.specs.declared.Progress.{Progress}
 use Rattle.execution.specs.declared.Progress.the-variants.{Passed, Reached, Refused}
 use Rattle.direct.specs.declared.RowCheck.{RowCheck}
 use Rattle.direct.specs.declared.RowCheck.the-variants.{Right, WrongAt}
 use Rattle.answers.specs.declared.Advanced.{Advanced}
+use Rattle.answers.specs.Answers.{done, refusal, cycleTold}
 use Rattle.execution.proofs.ResumeLaws.{not-below, not-above}
 use Rattle.direct.proofs.CheckLaws.{wrong-values, slots-types}
 
@@ -231,7 +232,7 @@ module _ (p : Process) (s : State) (f : fitsText p s ≡ true) where
     reached-advances x k o′ v′ t a b A row e q =
         rw (t .is .1 .1)
         (record {
-          answer = ap (λ (y : Advanced). y .answer) e ∙ ap (λ (n : ℕ). Performed n) (sym (t .is .1 .0));
+          answer = ap (λ (y : Advanced). cycleTold (y .answer)) e ∙ ap done (sym (t .is .1 .0));
           state = ap (λ (y : Advanced). y .state) e ∙ made x o′ v′ a b;
           row = q ∙ made-row o′ a;
         })
@@ -243,7 +244,7 @@ module _ (p : Process) (s : State) (f : fitsText p s ≡ true) where
     passed-advances k o′ v′ t a b A row e q =
         rw (t .is .1 .1)
         (record {
-          answer = ap (λ (y : Advanced). y .answer) e ∙ ap (λ (n : ℕ). Performed n) (sym (t .is .1 .0));
+          answer = ap (λ (y : Advanced). cycleTold (y .answer)) e ∙ ap done (sym (t .is .1 .0));
           state = ap (λ (y : Advanced). y .state) e ∙ made 512 o′ v′ a b;
           row = q ∙ made-row o′ a;
         })
@@ -252,7 +253,7 @@ module _ (p : Process) (s : State) (f : fitsText p s ≡ true) where
         → Advances (cycled p (keptOf p s) (callOf i o)) a o
     unfolding keptOf concluded
     refused-advances x o′ v′ t A e =
-        rw (t .is .1) (record { answer = ap (λ (y : Advanced). y .answer) e; state = ap (λ (y : Advanced). y .state) e ∙ sym (kept-laid p s f); row = refl })
+        rw (t .is .1) (record { answer = ap (λ (y : Advanced). cycleTold (y .answer)) e; state = ap (λ (y : Advanced). y .state) e ∙ sym (kept-laid p s f); row = refl })
 
 -- THE CYCLE ON COPIES OF THE SLOTS IN USE
 
@@ -322,7 +323,7 @@ module _ (p : Process) (s : State) (i o : List ℤ) where
 
   pub call-state : rowRefusal p (fedOf i (length o)) ≡ none → fitsText p s ≡ false → (a : Advanced) → a ≡ record { state = s; answer = NotPerformed BadState } → Advances (directRow p s (callOf i o)) a o
   unfolding directRow
-  call-state z f a e = rw (z, f) (record { answer = ap (λ (y : Advanced). y .answer) e; state = ap (λ (y : Advanced). y .state) e; row = refl })
+  call-state z f a e = rw (z, f) (record { answer = ap (λ (y : Advanced). cycleTold (y .answer)) e; state = ap (λ (y : Advanced). y .state) e; row = refl })
 
   pub call-row : (k : ℕ) (q : RowCheck) → q ≡ checkOf (rowRefusal p (fedOf i (length o))) → q ≡ WrongAt k → (a : Advanced) → a ≡ record { state = s; answer = NotPerformed (BadRow k) }
       → Advances (directRow p s (callOf i o)) a o
@@ -336,7 +337,7 @@ module _ (p : Process) (s : State) (i o : List ℤ) where
       on (some j) z =
           let g : WrongAt k ≡ WrongAt j = sym f ∙ (e ∙ ap (λ (x : Option ℕ). checkOf x) z) in
           let y : k ≡ j = cc in
-          rw z (record { answer = ap (λ (u : Advanced). u .answer) ea ∙ ap (λ (n : ℕ). NotPerformed (BadRow n)) y; state = ap (λ (u : Advanced). u .state) ea; row = refl })
+          rw z (record { answer = ap (λ (u : Advanced). cycleTold (u .answer)) ea ∙ ap (refusal 14) y; state = ap (λ (u : Advanced). u .state) ea; row = refl })
 
   pub row-right : (q : RowCheck) → q ≡ checkOf (rowRefusal p (fedOf i (length o))) → q ≡ Right → rowRefusal p (fedOf i (length o)) ≡ none
   row-right q e f = on (rowRefusal p (fedOf i (length o))) refl
@@ -386,5 +387,5 @@ unfolding atFirst stateFor
 fresh-law p o v r a b e x y f g = e ∙ rw (x, y, f, g)
 
 -- the equations of a call one by one
-pub advances-parts : {c : Called} {a : Advanced} {o : List ℤ} → Advances c a o → (a .answer ≡ cycledOf (c .answer)) × (a .state ≡ c .state) × (o ≡ c .row)
+pub advances-parts : {c : Called} {a : Advanced} {o : List ℤ} → Advances c a o → (cycleTold (a .answer) ≡ cycleAnswer (c .answer)) × (a .state ≡ c .state) × (o ≡ c .row)
 advances-parts h = (h .answer, h .state, h .row)

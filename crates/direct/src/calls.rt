@@ -7,12 +7,13 @@ ghost use Prim.Native.Nat.{ℕ, _≤_, _<_};
 ghost use lib.ListN.{length, take};
 ghost use Rattle.design.specs.Process.{Process, initials};
 ghost use Rattle.answers.specs.declared.Cycled.the-variants.{Performed};
+ghost use Rattle.answers.specs.Answers.{cycleTold};
 ghost use Rattle.semantics.specs.Rows.{rowRefusal, atFirst};
 ghost use Rattle.semantics.specs.Records.{pad};
 ghost use Rattle.semantics.specs.Comparison.{laid};
 ghost use Rattle.semantics.specs.DirectRow.{fitsText, keptOf, cycled, directRow};
 ghost use Rattle.direct.specs.Calls.{Design, Names, callOf, fedOf};
-ghost use Rattle.semantics.specs.Advances.{cycledOf, Advances};
+ghost use Rattle.semantics.specs.Advances.{Advances, cycleAnswer};
 use crate::RowCheck;
 use crate::checks::row_check;
 use crate::checks::state_check;
@@ -157,7 +158,7 @@ pub fn advance(
 ) -> Advanced
     ensures { λ a. ⌜ ((p : Process) → Design p (now (codes .entry)) (now (args .entry)) (now (rows .entry)) size
         → Names p (now («input_types» .entry)) (now («output_types» .entry)) (now («variable_types» .entry))
-        → (a .answer ≡ cycledOf (directRow p s (callOf (now (inputs .entry)) (now (row .entry))) .answer))
+        → (cycleTold (a .answer) ≡ cycleAnswer (directRow p s (callOf (now (inputs .entry)) (now (row .entry))) .answer))
         × (a .state ≡ directRow p s (callOf (now (inputs .entry)) (now (row .entry))) .state)
         × (now (row .exit) ≡ directRow p s (callOf (now (inputs .entry)) (now (row .entry))) .row)) ⌝ }
 {

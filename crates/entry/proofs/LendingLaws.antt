@@ -7,32 +7,23 @@ use mathlib.Core.List.{List, []}
 use lib.ListN.{length, take, drop}
 use borrow.Author.Tests.{le-leb, lt-leb}
 use denote.Ref.{RefT, now}
-use Rattle.answers.specs.Answers.{numberOf, placeOf, refusalOf}
+use Rattle.answers.specs.Answers.{done, refusedBy, numberOf, placeOf}
 use Rattle.answers.specs.declared.Refusal.{Refusal}
 use Rattle.answers.specs.declared.Sections.{Sections}
-use Rattle.answers.specs.declared.Opened.the-variants.{Image, NotOpened}
 use Rattle.format.specs.Opening.{Opened, opened, not-opened, openOf}
-use Rattle.loader.specs.Open.{placesOf, openedAs}
-use Rattle.loader.proofs.OpenLaws.{image-opened}
+use Rattle.loader.specs.Open.{placesOf, openAnswer}
+use Rattle.loader.proofs.OpenLaws.{image-opened, image-refused}
 use Rattle.entry.specs.Lending.{noSections, openingOf, within, Lends}
 use Rattle.entry.specs.declared.Opening.{Opening}
 
 -- an image that opens
-pub found-image : (b : List ℕ) (x : Sections) → Image x ≡ openedAs b (openOf b) → _≡_ {A = Opening} (record { number = 0; place = 0; sections = x }) (openingOf b)
+pub found-image : (b : List ℕ) (x : Sections) → done x ≡ openAnswer b (openOf b) → _≡_ {A = Opening} (record { number = 0; place = 0; sections = x }) (openingOf b)
 found-image b x e = let g = image-opened b x e in rw (g .1, g .2)
 
 -- an image that is refused
-pub found-none : (b : List ℕ) (r : Refusal) (n p : ℕ) → NotOpened r ≡ openedAs b (openOf b) → n ≡ numberOf r → p ≡ placeOf r
+pub found-none : (b : List ℕ) (r : Refusal) (n p : ℕ) → refusedBy r ≡ openAnswer b (openOf b) → n ≡ numberOf r → p ≡ placeOf r
     → _≡_ {A = Opening} (record { number = n; place = p; sections = noSections }) (openingOf b)
-found-none b r n p e f g = go (openOf b) refl
-  where
-    go : (w : Opened) → openOf b ≡ w → _≡_ {A = Opening} (record { number = n; place = p; sections = noSections }) (openingOf b)
-    go (opened t) m =
-        absurd (let z : NotOpened r ≡ Image (placesOf b) = e ∙ ap (openedAs b) m in let y : _≡_ {A = ℕ} 0 1 = cc in omega arith)
-    go (not-opened q k) m =
-        let z : NotOpened r ≡ NotOpened (refusalOf q k) = e ∙ ap (openedAs b) m in
-        let h : r ≡ refusalOf q k = cc in
-        rw (f, g, h, m)
+found-none b r n p e f g = rw (f, g, image-refused b r e)
 
 -- bounds that lie in the bytes, and bounds that do not
 pub lent : (s r : RefT (List ℕ)) (a e : ℕ) → a ≤ e → e ≤ length (now s) → now r ≡ take (e - a) (drop a (now s)) → r .ptr .0 ≡ s .ptr .0 → r .ptr .1 ≡ s .ptr .1 + a

@@ -5,10 +5,11 @@ use mathlib.Core.List.{List}
 use Prim.Native.Nat.{ℕ}
 use lib.IntN.{ℤ}
 use Rattle.answers.specs.declared.State.{State}
+use Rattle.answers.specs.Answers.{cycleTold, freshTold}
 use Rattle.semantics.specs.Records.{Started, fresh, not-started}
 use Rattle.behaviour.specs.Direct.{directOf}
 use Rattle.direct.specs.Calls.{callOf}
-use Rattle.semantics.specs.Advances.{cycledOf, startedOf}
+use Rattle.semantics.specs.Advances.{cycleAnswer, freshAnswer}
 use Rattle.entry.specs.declared.calls.Outcome.{Outcome}
 use Rattle.entry.specs.declared.calls.Start.{Start}
 
@@ -19,13 +20,13 @@ stateAfter (not-started q k) t = t
 
 -- the outcome r and the output row u as it is left are those of the direct run; `kept`: a cycle that was not performed leaves the state s
 pub record DirectOutcomes (text : List ℕ) (s : State) (i o : List ℤ) (r : Outcome) (u : List ℤ) : Type 0 where
-  pub answer : r .answer ≡ cycledOf (directOf text s (callOf i o) .answer)
+  pub answer : cycleTold (r .answer) ≡ cycleAnswer (directOf text s (callOf i o) .answer)
   pub state : r .state ≡ directOf text s (callOf i o) .state
   pub row : u ≡ directOf text s (callOf i o) .row
   pub kept : r .performed ≡ false → directOf text s (callOf i o) .state ≡ s
 
 -- r is the answer for the definition's f, with its state where there is one
 pub record Starting (f : Started) (r : Start) : Type 0 where
-  pub answer : r .answer ≡ startedOf f
+  pub answer : freshTold (r .answer) ≡ freshAnswer f
   pub stored : r .done ≡ true → (t : State) → r .state ≡ stateAfter f t
   pub kept : r .done ≡ false → (t : State) → t ≡ stateAfter f t

@@ -6,7 +6,6 @@ use Prim.Native.Nat.{ℕ, _+_, _-_}
 use lib.ListN.{length, take, drop}
 use lib.Dec.{leb}
 use denote.Ref.{RefT, now}
-use Rattle.answers.specs.Answers.{numberOf, placeOf, refusalOf}
 use Rattle.answers.specs.declared.Sections.{Sections}
 use Rattle.format.specs.Opening.{Opened, opened, not-opened, openOf}
 use Rattle.loader.specs.Open.{placesOf}
@@ -19,7 +18,7 @@ noSections = record { signature = 0; lines = 0; code = 0; end = 0 }
 -- an image opened: where its sections start, and where the last ends; or the number and the place of 11, 12 or 13, with three empty sections
 abbrev pub openingAs : List ℕ → Opened → Opening
 openingAs b (opened t) = record { number = 0; place = 0; sections = placesOf b }
-openingAs b (not-opened q k) = record { number = numberOf (refusalOf q k); place = placeOf (refusalOf q k); sections = noSections }
+openingAs b (not-opened q k) = record { number = q; place = k; sections = noSections }
 
 -- the same of the bytes b
 abbrev pub openingOf : List ℕ → Opening

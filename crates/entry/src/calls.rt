@@ -1,11 +1,12 @@
 // The calls on texts and images. Those that advance the caller's own state record store the new state only where the call was done; the cycle on an
 // image is `runtime::advance_state`.
 ghost use mathlib.Core.Path.{_≡_};
+ghost use Rattle.answers.specs.Answers.{cycleTold, freshTold};
 ghost use Rattle.format.specs.State.{freshOf};
 ghost use Rattle.behaviour.specs.Direct.{directOf, directFresh};
 ghost use Rattle.direct.specs.Calls.{callOf};
 ghost use Rattle.entry.specs.Calling.{DirectOutcomes, Starting, stateAfter};
-ghost use Rattle.semantics.specs.Advances.{cycledOf, startedOf};
+ghost use Rattle.semantics.specs.Advances.{cycleAnswer, freshAnswer};
 use answers::Cycled;
 use answers::Started;
 use answers::State;
@@ -43,7 +44,7 @@ fn direct_outcome(text: &[u8], s: State, inputs: &[i32], row: &mut [i32]) -> Out
 
 // One cycle from a text, without an image.
 pub fn direct(text: &[u8], state: &mut State, inputs: &[i32], row: &mut [i32]) -> Cycled
-    ensures { λ r. ⌜ (r ≡ cycledOf (directOf (now (text .entry)) (now (state .entry)) (callOf (now (inputs .entry)) (now (row .entry))) .answer))
+    ensures { λ r. ⌜ (cycleTold r ≡ cycleAnswer (directOf (now (text .entry)) (now (state .entry)) (callOf (now (inputs .entry)) (now (row .entry))) .answer))
         × (now (state .exit) ≡ directOf (now (text .entry)) (now (state .entry)) (callOf (now (inputs .entry)) (now (row .entry))) .state)
         × (now (row .exit) ≡ directOf (now (text .entry)) (now (state .entry)) (callOf (now (inputs .entry)) (now (row .entry))) .row) ⌝ }
 {
@@ -71,7 +72,7 @@ fn fresh_start(image: &[u8]) -> Start
 
 // The fresh state of an image.
 pub fn fresh(image: &[u8], state: &mut State) -> Started
-    ensures { λ r. ⌜ (r ≡ startedOf (freshOf (now (image .entry)))) × (now (state .exit) ≡ stateAfter (freshOf (now (image .entry))) (now (state .entry))) ⌝ }
+    ensures { λ r. ⌜ (freshTold r ≡ freshAnswer (freshOf (now (image .entry)))) × (now (state .exit) ≡ stateAfter (freshOf (now (image .entry))) (now (state .entry))) ⌝ }
 {
     let r = fresh_start(image);
     if r.done {
@@ -97,7 +98,7 @@ fn direct_start(text: &[u8]) -> Start
 
 // The fresh state of a text, without an image.
 pub fn direct_fresh(text: &[u8], state: &mut State) -> Started
-    ensures { λ r. ⌜ (r ≡ startedOf (directFresh (now (text .entry)))) × (now (state .exit) ≡ stateAfter (directFresh (now (text .entry))) (now (state .entry))) ⌝ }
+    ensures { λ r. ⌜ (freshTold r ≡ freshAnswer (directFresh (now (text .entry)))) × (now (state .exit) ≡ stateAfter (directFresh (now (text .entry))) (now (state .entry))) ⌝ }
 {
     let r = direct_start(text);
     if r.done {

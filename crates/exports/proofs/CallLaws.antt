@@ -1,56 +1,79 @@
--- The 49 numbers after a call: those of the new record where the call was done, and as they were where it was refused. Assumes nothing.
+-- What a call leaves at the C interface: its three numbers, and the 49 numbers, those of the new record where the call was done and as they were where it was
+-- refused. Assumes nothing.
 use Prim.Native.Nat.{ℕ}
 use mathlib.Core.Path.{_≡_, refl, sym, ap, _∙_}
 use mathlib.Core.Bool.{Bool, true, false}
 use mathlib.Core.List.{List}
 use lib.IntN.{ℤ}
 use Rattle.answers.specs.declared.State.{State}
+use Rattle.answers.specs.declared.Started as declared
 use Rattle.answers.specs.declared.Cycled.{Cycled}
+use Rattle.answers.specs.declared.Sections.{Sections}
+use Rattle.answers.specs.Answers.{Told, isDone, isPerformed, isFresh, freshTold, cycleTold}
 use Rattle.semantics.proofs.Basic.{false-true}
 use Rattle.semantics.specs.Records.{Started, fresh, not-started}
 use Rattle.semantics.specs.Calls.{Answer, performed, not-performed, Called}
-use Rattle.semantics.specs.Advances.{cycledOf, startedOf, startOf}
-use Rattle.answers.specs.Answers.{isPerformed, isFresh}
-use Rattle.exports.specs.Numbers.{cycledNumbers}
-use Rattle.exports.specs.Slots.{stateOfC, cOfState, cycledSlots, slotsAfter, startedSlots}
+use Rattle.semantics.specs.Advances.{cycleAnswer, freshAnswer, startOf}
+use Rattle.format.specs.Opening.{Opened, opened, not-opened}
+use Rattle.loader.specs.Open.{openAnswer}
+use Rattle.theorems.specs.CInterface.{numbersOf, uncounted, stateOfC, cOfState, cycledSlots, cycleLeft, startLeft, openNumbers}
+use Rattle.exports.specs.Numbers.{startedNumbers, cycledNumbers}
 
--- a fresh state asked for: t is what the code asks before it stores
-pub started-stored : (f : Started) (t : Bool) (s : State) (c l : List ℤ) → t ≡ isFresh (startedOf f) → t ≡ true → s ≡ startOf f → c ≡ cOfState s → c ≡ startedSlots f l
-started-stored (fresh x) t s c l e h g j = j ∙ ap cOfState g
-started-stored (not-started q k) t s c l e h g j = false-true (sym e ∙ h)
+-- an image opened
+pub opened-numbers : (b : List ℕ) (o : Opened) → numbersOf (uncounted (openAnswer b o)) ≡ openNumbers o
+opened-numbers b (opened t) = refl
+opened-numbers b (not-opened q k) = refl
 
-pub started-kept : (f : Started) (t : Bool) (l : List ℤ) → t ≡ isFresh (startedOf f) → t ≡ false → l ≡ startedSlots f l
-started-kept (fresh x) t l e h = false-true (sym h ∙ e)
-started-kept (not-started q k) t l e h = refl
+-- a fresh state asked for: a is the code's answer, t what the code asks before it stores, n the three numbers, l the 49 numbers before
+module _ (f : Started) (a : declared.Started) (t : Bool) (n : List ℕ) (l : List ℤ) (e : freshTold a ≡ freshAnswer f) (g : n ≡ startedNumbers a) (h : t ≡ isFresh a) where
+  numbers : (x : Started) → numbersOf (uncounted (freshAnswer x)) ≡ startLeft x l .0
+  numbers (fresh s) = refl
+  numbers (not-started q k) = refl
+
+  answered : n ≡ startLeft f l .0
+  answered = g ∙ (ap (λ (x : Told (Unit {0})). numbersOf (uncounted x)) e ∙ numbers f)
+
+  slots-stored : (x : Started) (s : State) (c : List ℤ) → t ≡ isDone (freshAnswer x) → t ≡ true → s ≡ startOf x → c ≡ cOfState s → c ≡ startLeft x l .1
+  slots-stored (fresh y) s c i j k m = m ∙ ap cOfState k
+  slots-stored (not-started q y) s c i j k m = false-true (sym i ∙ j)
+
+  slots-kept : (x : Started) → t ≡ isDone (freshAnswer x) → t ≡ false → l ≡ startLeft x l .1
+  slots-kept (fresh y) i j = false-true (sym j ∙ i)
+  slots-kept (not-started q y) i j = refl
+
+  pub started-stored : (s : State) (c : List ℤ) → t ≡ true → s ≡ startOf f → c ≡ cOfState s → (n ≡ startLeft f l .0) × (c ≡ startLeft f l .1)
+  started-stored s c i j k = (answered, slots-stored f s c (h ∙ ap isDone e) i j k)
+
+  pub started-kept : t ≡ false → (n ≡ startLeft f l .0) × (l ≡ startLeft f l .1)
+  started-kept i = (answered, slots-kept f (h ∙ ap isDone e) i)
 
 -- a cycle: `call` is what comes of a state record, l are the 49 numbers before it
 module _ (call : State → Called) (l : List ℤ) where
-  stored : (a : Answer) (t : Bool) (s : State) (c : List ℤ) → t ≡ isPerformed (cycledOf a) → t ≡ true → c ≡ cOfState s → c ≡ cycledSlots a s l
+  stored : (a : Answer) (t : Bool) (s : State) (c : List ℤ) → t ≡ isDone (cycleAnswer a) → t ≡ true → c ≡ cOfState s → c ≡ cycledSlots a s l
   stored (performed w) t s c e h j = j
   stored (not-performed q k) t s c e h j = false-true (sym e ∙ h)
 
-  kept : (a : Answer) (t : Bool) (s : State) → t ≡ isPerformed (cycledOf a) → t ≡ false → l ≡ cycledSlots a s l
+  kept : (a : Answer) (t : Bool) (s : State) → t ≡ isDone (cycleAnswer a) → t ≡ false → l ≡ cycledSlots a s l
   kept (performed w) t s e h = false-true (sym h ∙ e)
   kept (not-performed q k) t s e h = refl
 
   abbrev pub After : List ℕ → List ℤ → List ℤ → Type 0
-  After n c u =
-      (n ≡ cycledNumbers (cycledOf (call (stateOfC l) .answer))) × (c ≡ slotsAfter (call (stateOfC l)) l) × (u ≡ call (stateOfC l) .row)
+  After n c u = (n ≡ cycleLeft call l .answer) × (c ≡ cycleLeft call l .slots) × (u ≡ cycleLeft call l .row)
 
-  pub cycled-stored : (s x : State) (a : Cycled) (t : Bool) (n : List ℕ) (c u : List ℤ) → s ≡ stateOfC l → a ≡ cycledOf (call s .answer) → x ≡ call s .state → u ≡ call s .row
+  pub cycled-stored : (s x : State) (a : Cycled) (t : Bool) (n : List ℕ) (c u : List ℤ) → s ≡ stateOfC l → cycleTold a ≡ cycleAnswer (call s .answer) → x ≡ call s .state → u ≡ call s .row
       → n ≡ cycledNumbers a → t ≡ isPerformed a → t ≡ true → c ≡ cOfState x → After n c u
   cycled-stored s x a t n c u e f g h i j k m =
-      let f′ = f ∙ ap (λ s. cycledOf (call s .answer)) e in (
-        i ∙ ap cycledNumbers f′,
-        stored (call (stateOfC l) .answer) t (call (stateOfC l) .state) c (j ∙ ap isPerformed f′) k (m ∙ ap cOfState (g ∙ ap (λ s. call s .state) e)),
+      let f′ = f ∙ ap (λ s. cycleAnswer (call s .answer)) e in (
+        i ∙ ap numbersOf f′,
+        stored (call (stateOfC l) .answer) t (call (stateOfC l) .state) c (j ∙ ap isDone f′) k (m ∙ ap cOfState (g ∙ ap (λ s. call s .state) e)),
         h ∙ ap (λ s. call s .row) e,
       )
 
-  pub cycled-kept : (s : State) (a : Cycled) (t : Bool) (n : List ℕ) (u : List ℤ) → s ≡ stateOfC l → a ≡ cycledOf (call s .answer) → u ≡ call s .row
+  pub cycled-kept : (s : State) (a : Cycled) (t : Bool) (n : List ℕ) (u : List ℤ) → s ≡ stateOfC l → cycleTold a ≡ cycleAnswer (call s .answer) → u ≡ call s .row
       → n ≡ cycledNumbers a → t ≡ isPerformed a → t ≡ false → After n l u
   cycled-kept s a t n u e f h i j k =
-      let f′ = f ∙ ap (λ s. cycledOf (call s .answer)) e in (
-        i ∙ ap cycledNumbers f′,
-        kept (call (stateOfC l) .answer) t (call (stateOfC l) .state) (j ∙ ap isPerformed f′) k,
+      let f′ = f ∙ ap (λ s. cycleAnswer (call s .answer)) e in (
+        i ∙ ap numbersOf f′,
+        kept (call (stateOfC l) .answer) t (call (stateOfC l) .state) (j ∙ ap isDone f′) k,
         h ∙ ap (λ s. call s .row) e,
       )

@@ -14,7 +14,7 @@ use mir.Val.{SFits}
 use borrow.Author.Tests.{lt-ltb, le-ltb}
 use Rattle.semantics.specs.Twos.{signed32, unsigned32}
 use Rattle.answers.specs.declared.State.{State}
-use Rattle.exports.specs.Slots.{placeOfC, stateOfC, cOfState}
+use Rattle.theorems.specs.CInterface.{placeOfC, stateOfC, cOfState}
 
 -- a place within 16 bits is read as it is
 pub place-in : (x : ℤ) (b : ℕ) → SFits w32 x → b ≡ unsigned32 x → b < 65536 → b ≡ placeOfC x

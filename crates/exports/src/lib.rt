@@ -4,25 +4,12 @@ mod answer;
 mod record;
 
 ghost use mathlib.Core.Path.{_≡_};
-ghost use lib.ListN.{length};
-ghost use Rattle.language.specs.Lexer.{tokenAt};
-ghost use Rattle.format.specs.Opening.{openOf};
-ghost use Rattle.loader.specs.Open.{openedAs};
-ghost use Rattle.theorems.specs.Compile.{compileOf};
-ghost use Rattle.compiler.specs.Compiles.{compiledOf};
-ghost use Rattle.format.specs.State.{freshOf};
-ghost use Rattle.format.specs.Cycle.{cycleOf};
-ghost use Rattle.semantics.specs.Advances.{cycledOf, startedOf};
-ghost use Rattle.behaviour.specs.Direct.{directOf, directFresh};
-ghost use Rattle.direct.specs.Calls.{callOf};
-ghost use Rattle.exports.specs.Numbers.{compiledNumbers, openedNumbers, startedNumbers, cycledNumbers};
-ghost use Rattle.exports.specs.Slots.{stateOfC, slotsAfter, startedSlots};
+ghost use Rattle.theorems.specs.CInterface.{compileInC, openInC, freshInC, cycleInC, directFreshInC, directInC, tokenInC};
 
 // A text to an image in the caller's buffer.
 #[no_mangle]
 pub extern "C" fn rabtishu_compile(text: &[u8], image: &mut [u8], answer: &mut [u32; 3])
-    ensures { λ _. ⌜ (now (answer .exit) ≡ compiledNumbers (compiledOf (compileOf (now (text .entry)) (now (image .entry)) .answer)))
-        × (now (image .exit) ≡ compileOf (now (text .entry)) (now (image .entry)) .buffer) ⌝ }
+    ensures { λ _. ⌜ (now (answer .exit) ≡ compileInC (now (text .entry)) (now (image .entry)) .0) × (now (image .exit) ≡ compileInC (now (text .entry)) (now (image .entry)) .1) ⌝ }
 {
     let c = compiler::compile(text, image);
     let numbers = answer::compiled(c);
@@ -32,7 +19,7 @@ pub extern "C" fn rabtishu_compile(text: &[u8], image: &mut [u8], answer: &mut [
 // Any bytes checked as an image.
 #[no_mangle]
 pub extern "C" fn rabtishu_open(image: &[u8], answer: &mut [u32; 3])
-    ensures { λ _. ⌜ now (answer .exit) ≡ openedNumbers (openedAs (now (image .entry)) (openOf (now (image .entry)))) ⌝ }
+    ensures { λ _. ⌜ now (answer .exit) ≡ openInC (now (image .entry)) ⌝ }
 {
     let o = loader::open(image);
     let numbers = answer::opened(o);
@@ -42,8 +29,7 @@ pub extern "C" fn rabtishu_open(image: &[u8], answer: &mut [u32; 3])
 // The fresh state of an image.
 #[no_mangle]
 pub extern "C" fn rabtishu_fresh(image: &[u8], state: &mut [i32; 49], answer: &mut [u32; 3])
-    ensures { λ _. ⌜ (now (answer .exit) ≡ startedNumbers (startedOf (freshOf (now (image .entry)))))
-        × (now (state .exit) ≡ startedSlots (freshOf (now (image .entry))) (now (state .entry))) ⌝ }
+    ensures { λ _. ⌜ (now (answer .exit) ≡ freshInC (now (image .entry)) (now (state .entry)) .0) × (now (state .exit) ≡ freshInC (now (image .entry)) (now (state .entry)) .1) ⌝ }
 {
     let f = runtime::fresh(image);
     let started = f.answer;
@@ -65,9 +51,9 @@ pub extern "C" fn rabtishu_cycle(
     row: &mut [i32],
     answer: &mut [u32; 3],
 )
-    ensures { λ _. ⌜ (now (answer .exit) ≡ cycledNumbers (cycledOf (cycleOf (now (image .entry)) (stateOfC (now (state .entry))) (now (inputs .entry)) (now (row .entry)) .answer)))
-        × (now (state .exit) ≡ slotsAfter (cycleOf (now (image .entry)) (stateOfC (now (state .entry))) (now (inputs .entry)) (now (row .entry))) (now (state .entry)))
-        × (now (row .exit) ≡ cycleOf (now (image .entry)) (stateOfC (now (state .entry))) (now (inputs .entry)) (now (row .entry)) .row) ⌝ }
+    ensures { λ _. ⌜ (now (answer .exit) ≡ cycleInC (now (image .entry)) (now (state .entry)) (now (inputs .entry)) (now (row .entry)) .answer)
+        × (now (state .exit) ≡ cycleInC (now (image .entry)) (now (state .entry)) (now (inputs .entry)) (now (row .entry)) .slots)
+        × (now (row .exit) ≡ cycleInC (now (image .entry)) (now (state .entry)) (now (inputs .entry)) (now (row .entry)) .row) ⌝ }
 {
     let before = *state;
     let s = record::to_state(before);
@@ -85,8 +71,7 @@ pub extern "C" fn rabtishu_cycle(
 // The fresh state of a text.
 #[no_mangle]
 pub extern "C" fn rabtishu_direct_fresh(text: &[u8], state: &mut [i32; 49], answer: &mut [u32; 3])
-    ensures { λ _. ⌜ (now (answer .exit) ≡ startedNumbers (startedOf (directFresh (now (text .entry)))))
-        × (now (state .exit) ≡ startedSlots (directFresh (now (text .entry))) (now (state .entry))) ⌝ }
+    ensures { λ _. ⌜ (now (answer .exit) ≡ directFreshInC (now (text .entry)) (now (state .entry)) .0) × (now (state .exit) ≡ directFreshInC (now (text .entry)) (now (state .entry)) .1) ⌝ }
 {
     let f = interpreter::fresh(text);
     let started = f.answer;
@@ -108,9 +93,9 @@ pub extern "C" fn rabtishu_direct(
     row: &mut [i32],
     answer: &mut [u32; 3],
 )
-    ensures { λ _. ⌜ (now (answer .exit) ≡ cycledNumbers (cycledOf (directOf (now (text .entry)) (stateOfC (now (state .entry))) (callOf (now (inputs .entry)) (now (row .entry))) .answer)))
-        × (now (state .exit) ≡ slotsAfter (directOf (now (text .entry)) (stateOfC (now (state .entry))) (callOf (now (inputs .entry)) (now (row .entry)))) (now (state .entry)))
-        × (now (row .exit) ≡ directOf (now (text .entry)) (stateOfC (now (state .entry))) (callOf (now (inputs .entry)) (now (row .entry))) .row) ⌝ }
+    ensures { λ _. ⌜ (now (answer .exit) ≡ directInC (now (text .entry)) (now (state .entry)) (now (inputs .entry)) (now (row .entry)) .answer)
+        × (now (state .exit) ≡ directInC (now (text .entry)) (now (state .entry)) (now (inputs .entry)) (now (row .entry)) .slots)
+        × (now (row .exit) ≡ directInC (now (text .entry)) (now (state .entry)) (now (inputs .entry)) (now (row .entry)) .row) ⌝ }
 {
     let before = *state;
     let s = record::to_state(before);
@@ -128,7 +113,7 @@ pub extern "C" fn rabtishu_direct(
 // The length of the token that starts at a place, or 0.
 #[no_mangle]
 pub extern "C" fn rabtishu_token_at(text: &[u8], place: usize) -> usize
-    ensures { λ r. ⌜ r ≡ length (tokenAt (now (text .entry)) place) ⌝ }
+    ensures { λ r. ⌜ r ≡ tokenInC (now (text .entry)) place ⌝ }
 {
     let t = lexer::token_at(text, place);
     t.len()

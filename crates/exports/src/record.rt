@@ -2,7 +2,7 @@
 ghost use mathlib.Core.Path.{_≡_};
 ghost use lib.ListN.{length};
 ghost use lib.IntN.{pos};
-ghost use Rattle.exports.specs.Slots.{placeOfC, stateOfC, cOfState};
+ghost use Rattle.theorems.specs.CInterface.{placeOfC, stateOfC, cOfState};
 use answers::State;
 
 // A place; a number outside 0 to 65535 is read as 65535, which no state may have.

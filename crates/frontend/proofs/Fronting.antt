@@ -10,7 +10,7 @@ use lib.ListN.{length}
 use lib.IntN.{ℤ}
 use borrow.Author.Tests.{ltb-true, ltb-false, le-leb, lt-leb}
 use Rattle.answers.specs.declared.Refusal.{Refusal}
-use Rattle.answers.specs.declared.Refusal.the-variants.{TextTooLong, NoToken}
+use Rattle.answers.specs.declared.Refusal.the-variants.{TextTooLong, NoToken, NoSentence, LimitPassed}
 use Rattle.grammar.specs.Token.{Token}
 use Rattle.grammar.specs.Tree.{Text}
 use Rattle.grammar.specs.Acceptance as P
@@ -56,17 +56,19 @@ use Rattle.frontend.specs.declared.rules.Ruling.the-variants.{Free, Offe
 use Rattle.frontend.specs.declared.Front.{Front}
 use Rattle.frontend.specs.declared.Front.the-variants.{Accepted, Refused}
 use Rattle.frontend.specs.declared.layout.Counts.{Counts}
-use Rattle.answers.specs.Answers.{refusalOf}
+use Rattle.answers.specs.Answers as A
+use Rattle.answers.proofs.Refusals.{told-again}
+use Rattle.answers.specs.Answers.{Told, done, refusal, refusedBy, numberOf}
 use Rattle.frontend.specs.Answered.{placeIn}
-use Rattle.frontend.specs.Stages.{ruledAs, Ruled}
+use Rattle.frontend.specs.Stages.{ruledAs, Ruled, rulingTold}
 use Rattle.frontend.specs.Designs.{Holds, LaidOut}
 use Rattle.frontend.specs.Fronts.{TreeIn, countsOf, DesignArrays, designArrays, FrontAs}
 use Rattle.frontend.proofs.Declared.{decls-held}
 
 -- THE RULES
 
-not-free : {A : Type 0} (x : Refusal) → Free ≡ Offended x → A
-not-free x e = absurd (let z : _≡_ {A = ℕ} 0 1 = cc in omega arith)
+not-free : {A : Type 0} (q k : ℕ) → _≡_ {A = Told (Unit {0})} (done tt) (refusal q k) → A
+not-free q k e = absurd (let z : _≡_ {A = ℕ} 0 1 = cc in omega arith)
 
 lowest-none : (l : List ℕ) → lowest l ≡ none → l ≡ []
 unfolding lowest
@@ -74,23 +76,23 @@ lowest-none [] e = refl
 lowest-none (p ∷ l) e = absurd (let z : _≡_ {A = ℕ} 0 1 = cc in omega arith)
 
 -- where the rules leave nothing, none is offended
-free-rules : (rs : List Rule) (t : Text) → Free ≡ ruledAs (ruled rs t) → W.Free rs t × (ruled rs t ≡ accepted (elaborate t))
+free-rules : (rs : List Rule) (t : Text) → rulingTold Free ≡ ruledAs (ruled rs t) → W.Free rs t × (ruled rs t ≡ accepted (elaborate t))
 unfolding ruled judged
 free-rules [] t e = (tt, refl)
 free-rules (r ∷ rs) t e = go (lowest (r .offences t)) refl e (free-rules rs t)
   where
-    go : (o : Option ℕ) → lowest (r .offences t) ≡ o → Free ≡ ruledAs (judged (r .number) o (ruled rs t)) → (Free ≡ ruledAs (ruled rs t) → W.Free rs t × (ruled rs t ≡ accepted (elaborate t)))
+    go : (o : Option ℕ) → lowest (r .offences t) ≡ o → rulingTold Free ≡ ruledAs (judged (r .number) o (ruled rs t)) → (rulingTold Free ≡ ruledAs (ruled rs t) → W.Free rs t × (ruled rs t ≡ accepted (elaborate t)))
         → ((r .offences t ≡ []) × W.Free rs t) × (judged (r .number) o (ruled rs t) ≡ accepted (elaborate t))
     go none q f ih = let s = ih f in ((lowest-none (r .offences t) q, s .0), s .1)
-    go (some p) q f ih = not-free (refusalOf (r .number) p) f
+    go (some p) q f ih = not-free (r .number) p f
 
-pub free-text : (t : Text) → Free ≡ ruledAs (ruled table t) → Clean t × (ruled table t ≡ accepted (elaborate t))
+pub free-text : (t : Text) → rulingTold Free ≡ ruledAs (ruled table t) → Clean t × (ruled table t ≡ accepted (elaborate t))
 free-text t e = let s = free-rules table t e in (clean t (s .0), s .1)
 
 -- an offence is the verdict's
-pub offended-as : (x : Refusal) (v : Verdict) → Offended x ≡ ruledAs v → (before after : DesignArrays) → after ≡ before → FrontAs v (Refused x) before after
-offended-as x (accepted p) e before after u = not-free x (sym e)
-offended-as x (refused n k) e before after u = let z : x ≡ refusalOf n k = cc in (ap Refused z, u)
+pub offended-as : (x : Refusal) (v : Verdict) → rulingTold (Offended x) ≡ ruledAs v → (before after : DesignArrays) → after ≡ before → FrontAs v (Refused x) before after
+offended-as x (accepted p) e before after u = not-free (numberOf x) (A.placeOf x) (sym e)
+offended-as x (refused n k) e before after u = (told-again x n k e, u)
 
 -- THE PARSER
 
@@ -163,22 +165,22 @@ module _ {text kinds starts sizes codes indices rows decls owners₀ owners : Li
         kinded = I .kinded;
       }
 
-  decided : x ≡ ruledAs (ruled table t)
+  decided : rulingTold x ≡ ruledAs (ruled table t)
   decided = R .is ts t kinds all-laid (I .words) (I .heads) (I .process) (I .limits)
 
   -- no rule is offended: the arrays of the design
   pub front-free : {ops : List ℕ} {args : List ℤ} {lines is os vs : List ℕ} {ps qs : List ℤ} {c : Counts} (before : DesignArrays) → x ≡ Free → LaidOut text kinds starts sizes n p codes indices rows decls owners ops args lines is os vs ps qs c
       → FrontAs (ruled table t) (Accepted c) before (designArrays ops args lines is os vs ps qs)
   front-free {ops} {args} {lines} {is} {os} {vs} {ps} {qs} {c} before e l =
-      let s = free-text t (sym e ∙ decided) in
+      let s = free-text t (sym (ap rulingTold e) ∙ decided) in
       let q = s .0 in
       let h = l .holds ts t all-laid (I .words) (I .limits) (q .names) (q .clock) (well-formed t (I .moded) (I .limits) q) in
       let w = same-counts (elaborate t) ops args lines is os vs ps qs c h in
-      rw (s .1) (ap Accepted w, subst (λ (u : Counts). Holds (elaborate t) ops args lines is os vs ps qs u) w h)
+      rw (s .1) (ap done w, subst (λ (u : Counts). Holds (elaborate t) ops args lines is os vs ps qs u) w h)
 
   -- a rule is offended: its refusal
   pub front-offended : (y : Refusal) (before after : DesignArrays) → after ≡ before → x ≡ Offended y → FrontAs (ruled table t) (Refused y) before after
-  front-offended y before after u e = offended-as y (ruled table t) (sym e ∙ decided) before after u
+  front-offended y before after u e = offended-as y (ruled table t) (sym (ap rulingTold e) ∙ decided) before after u
 
 not-tree : {A : Type 0} {p : Parsed} {k i : ℕ} → Tree p ≡ NotParsed k i → A
 not-tree e = absurd (let z : _≡_ {A = ℕ} 0 1 = cc in omega arith)
@@ -204,7 +206,7 @@ module _ {text kinds starts sizes codes₀ codes indices₀ indices rows₀ rows
 module _ {kinds starts codes₀ codes indices₀ indices rows₀ rows decls₀ decls : List ℕ} {n : ℕ} {x : Parsing} (l : ℕ) (ts : List Token)
     (P₁ : Parses ts (lent (output (arrays codes₀ indices₀) rows₀) decls₀) (lent (output (arrays codes indices) rows) decls) x) (T : TokensIn ts kinds starts n) where
   -- no tree was read: refusal 3 or 4 at the token's place
-  pub front-unread : {k i w : ℕ} (y : Refusal) (before after : DesignArrays) → after ≡ before → x ≡ NotParsed k i → w ≡ placeIn starts n l i → ((k ≡ 3) → y ≡ refusalOf 3 w) × ((k ≡ 4) → y ≡ refusalOf 4 w)
+  pub front-unread : {k i w : ℕ} (y : Refusal) (before after : DesignArrays) → after ≡ before → x ≡ NotParsed k i → w ≡ placeIn starts n l i → ((k ≡ 3) → y ≡ NoSentence w) × ((k ≡ 4) → y ≡ LimitPassed w)
       → FrontAs (parsed l ts (answer ts)) (Refused y) before after
   unfolding parsed
   front-unread {k} {i} {w} y before after u e hw hy = go (answer ts) (P₁ .is)
@@ -218,12 +220,12 @@ module _ {kinds starts codes₀ codes indices₀ indices rows₀ rows decls₀ d
           let z : NotParsed k i ≡ NotParsed 3 j = sym e ∙ g in
           let a : k ≡ 3 = cc in
           let b : i ≡ j = cc in
-          (ap Refused (hy .0 a ∙ ap (refusalOf 3) (at j b)), u)
+          (ap refusedBy (hy .0 a ∙ ap NoSentence (at j b)), u)
       go (P.past-limit j) g =
           let z : NotParsed k i ≡ NotParsed 4 j = sym e ∙ g in
           let a : k ≡ 4 = cc in
           let b : i ≡ j = cc in
-          (ap Refused (hy .1 a ∙ ap (refusalOf 4) (at j b)), u)
+          (ap refusedBy (hy .1 a ∙ ap LimitPassed (at j b)), u)
 
 not-tokens : {A : Type 0} {n : ℕ} {x : Refusal} → Tokens n ≡ NotLexed x → A
 not-tokens e = absurd (let z : _≡_ {A = ℕ} 0 1 = cc in omega arith)
@@ -247,9 +249,9 @@ front-not-lexed text x before after u e = go (ltb 16384 (length text)) refl (lex
   where
     go : (b : Bool) → ltb 16384 (length text) ≡ b → (k : L.Lexed) → NotLexed x ≡ cond b (NotLexed TextTooLong) (counted 0 k)
         → FrontAs (cond (leb (length text) 16384) (lexed (length text) k) (refused 1 0)) (Refused x) before after
-    go true q k g = let z : x ≡ TextTooLong = cc in rw (lt-leb (length text) 16384 (ltb-true 16384 (length text) q)) (ap Refused z, u)
+    go true q k g = let z : x ≡ TextTooLong = cc in rw (lt-leb (length text) 16384 (ltb-true 16384 (length text) q)) (ap refusedBy z, u)
     go false q (tokens ts) g = not-tokens (sym g)
-    go false q (malformed p) g = let z : x ≡ NoToken p = cc in rw (le-leb (length text) 16384 (let y = ltb-false 16384 (length text) q in omega arith)) (ap Refused z, u)
+    go false q (malformed p) g = let z : x ≡ NoToken p = cc in rw (le-leb (length text) 16384 (let y = ltb-false 16384 (length text) q in omega arith)) (ap refusedBy z, u)
 
 -- the text was lexed and its tokens marked: the parser decides
 pub front-lexed : (text kinds₀ kinds starts₀ starts sizes₀ sizes long₀ long : List ℕ) (n : ℕ) {x : Lexed} (r : Front) (before after : DesignArrays) → x ≡ Tokens n

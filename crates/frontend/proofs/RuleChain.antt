@@ -11,12 +11,12 @@ use Rattle.language.specs.Clock.{clock}
 use Rattle.language.specs.Classes.{loops}
 use Rattle.language.specs.Verdict.{ruled}
 use Rattle.answers.specs.declared.Refusal.the-variants.{WrongName, WrongType, NoValue, WrongClock, WrongClass}
+use Rattle.answers.specs.Answers.{Told}
 use Rattle.syntax.specs.declared.Finding.{Finding}
 use Rattle.syntax.specs.declared.Finding.the-variants.{Nothing, Offence}
 use Rattle.syntax.specs.Lowest.{findingOf}
-use Rattle.frontend.specs.declared.rules.Ruling.{Ruling}
 use Rattle.frontend.specs.declared.rules.Ruling.the-variants.{Free, Offended}
-use Rattle.frontend.specs.Stages.{ruledAs, from6, from7, from8, from9}
+use Rattle.frontend.specs.Stages.{ruledAs, from6, from7, from8, from9, rulingTold}
 use Rattle.frontend.proofs.Ruled.{offended, kept, kept-none}
 
 rule5 : Rule
@@ -27,7 +27,7 @@ module _ (t : Text) where
   unfolding table rule5
   all = refl
 
-  pub at-5 : {x : Finding} {p : ℕ} → x ≡ findingOf (names t) → x ≡ Offence p → Offended (WrongName p) ≡ ruledAs (ruled table t)
+  pub at-5 : {x : Finding} {p : ℕ} → x ≡ findingOf (names t) → x ≡ Offence p → rulingTold (Offended (WrongName p)) ≡ ruledAs (ruled table t)
   unfolding rule5
   at-5 {x} {p} f n = sym (ap ruledAs (all ∙ offended rule5 from6 t p f n))
 
@@ -36,31 +36,31 @@ module _ (t : Text) where
   unfolding rule5
   no-5 f n = kept-none rule5 t f n
 
-  pub past-5 : {x : Finding} {r : Ruling} → x ≡ findingOf (names t) → x ≡ Nothing → r ≡ ruledAs (ruled from6 t) → r ≡ ruledAs (ruled table t)
+  pub past-5 : {x : Finding} {r : Told (Unit {0})} → x ≡ findingOf (names t) → x ≡ Nothing → r ≡ ruledAs (ruled from6 t) → r ≡ ruledAs (ruled table t)
   unfolding rule5
   past-5 f n e = e ∙ sym (ap ruledAs (all ∙ kept rule5 from6 t f n))
 
-  pub at-6 : {x : Finding} {p : ℕ} → x ≡ findingOf (types t) → x ≡ Offence p → Offended (WrongType p) ≡ ruledAs (ruled from6 t)
+  pub at-6 : {x : Finding} {p : ℕ} → x ≡ findingOf (types t) → x ≡ Offence p → rulingTold (Offended (WrongType p)) ≡ ruledAs (ruled from6 t)
   at-6 {x} {p} f n = sym (ap ruledAs (offended (record { number = 6; offences = types }) from7 t p f n))
 
-  pub past-6 : {x : Finding} {r : Ruling} → x ≡ findingOf (types t) → x ≡ Nothing → r ≡ ruledAs (ruled from7 t) → r ≡ ruledAs (ruled from6 t)
+  pub past-6 : {x : Finding} {r : Told (Unit {0})} → x ≡ findingOf (types t) → x ≡ Nothing → r ≡ ruledAs (ruled from7 t) → r ≡ ruledAs (ruled from6 t)
   past-6 f n e = e ∙ sym (ap ruledAs (kept (record { number = 6; offences = types }) from7 t f n))
 
-  pub at-7 : {x : Finding} {p : ℕ} → x ≡ findingOf (values t) → x ≡ Offence p → Offended (NoValue p) ≡ ruledAs (ruled from7 t)
+  pub at-7 : {x : Finding} {p : ℕ} → x ≡ findingOf (values t) → x ≡ Offence p → rulingTold (Offended (NoValue p)) ≡ ruledAs (ruled from7 t)
   at-7 {x} {p} f n = sym (ap ruledAs (offended (record { number = 7; offences = values }) from8 t p f n))
 
-  pub past-7 : {x : Finding} {r : Ruling} → x ≡ findingOf (values t) → x ≡ Nothing → r ≡ ruledAs (ruled from8 t) → r ≡ ruledAs (ruled from7 t)
+  pub past-7 : {x : Finding} {r : Told (Unit {0})} → x ≡ findingOf (values t) → x ≡ Nothing → r ≡ ruledAs (ruled from8 t) → r ≡ ruledAs (ruled from7 t)
   past-7 f n e = e ∙ sym (ap ruledAs (kept (record { number = 7; offences = values }) from8 t f n))
 
-  pub at-8 : {x : Finding} {p : ℕ} → x ≡ findingOf (clock t) → x ≡ Offence p → Offended (WrongClock p) ≡ ruledAs (ruled from8 t)
+  pub at-8 : {x : Finding} {p : ℕ} → x ≡ findingOf (clock t) → x ≡ Offence p → rulingTold (Offended (WrongClock p)) ≡ ruledAs (ruled from8 t)
   at-8 {x} {p} f n = sym (ap ruledAs (offended (record { number = 8; offences = clock }) from9 t p f n))
 
-  pub past-8 : {x : Finding} {r : Ruling} → x ≡ findingOf (clock t) → x ≡ Nothing → r ≡ ruledAs (ruled from9 t) → r ≡ ruledAs (ruled from8 t)
+  pub past-8 : {x : Finding} {r : Told (Unit {0})} → x ≡ findingOf (clock t) → x ≡ Nothing → r ≡ ruledAs (ruled from9 t) → r ≡ ruledAs (ruled from8 t)
   past-8 f n e = e ∙ sym (ap ruledAs (kept (record { number = 8; offences = clock }) from9 t f n))
 
-  pub at-9 : {x : Finding} {p : ℕ} → x ≡ findingOf (loops t) → x ≡ Offence p → Offended (WrongClass p) ≡ ruledAs (ruled from9 t)
+  pub at-9 : {x : Finding} {p : ℕ} → x ≡ findingOf (loops t) → x ≡ Offence p → rulingTold (Offended (WrongClass p)) ≡ ruledAs (ruled from9 t)
   at-9 {x} {p} f n = sym (ap ruledAs (offended (record { number = 9; offences = loops }) [] t p f n))
 
-  pub past-9 : {x : Finding} → x ≡ findingOf (loops t) → x ≡ Nothing → Free ≡ ruledAs (ruled from9 t)
+  pub past-9 : {x : Finding} → x ≡ findingOf (loops t) → x ≡ Nothing → rulingTold Free ≡ ruledAs (ruled from9 t)
   unfolding ruled
   past-9 f n = sym (ap ruledAs (kept (record { number = 9; offences = loops }) [] t f n))

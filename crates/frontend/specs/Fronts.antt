@@ -22,7 +22,7 @@ use Rattle.ir.specs.Entries.{entries, entryOps}
 use Rattle.frontend.specs.declared.Front.{Front}
 use Rattle.frontend.specs.declared.Front.the-variants.{Accepted, Refused}
 use Rattle.frontend.specs.declared.layout.Counts.{Counts}
-use Rattle.answers.specs.Answers.{refusalOf}
+use Rattle.answers.specs.Answers.{Told, done, refusal, refusedBy}
 use Rattle.frontend.specs.Stages.{headsOf}
 use Rattle.frontend.specs.Designs.{Holds}
 
@@ -50,10 +50,15 @@ countsOf p =
       variables = length (slotTypes (p .variables));
     }
 
--- the answer for a verdict: the counts of an accepted text's process, or the refusal
-abbrev pub frontOf : Verdict → Front
-frontOf (accepted p) = Accepted (countsOf p)
-frontOf (refused n k) = Refused (refusalOf n k)
+-- what the front end tells
+abbrev pub frontTold : Front → Told Counts
+frontTold (Accepted c) = done c
+frontTold (Refused r) = refusedBy r
+
+-- what is told of a verdict: the counts of an accepted text's process; or number and place
+abbrev pub frontAnswer : Verdict → Told Counts
+frontAnswer (accepted p) = done (countsOf p)
+frontAnswer (refused n k) = refusal n k
 
 -- the arrays that are lent
 pub record DesignArrays : Type 0 where
@@ -77,4 +82,4 @@ LeftAs (refused n k) a b = b ≡ a
 
 -- both
 abbrev pub FrontAs : Verdict → Front → DesignArrays → DesignArrays → Type 0
-FrontAs v r a b = (r ≡ frontOf v) × LeftAs v a b
+FrontAs v r a b = (frontTold r ≡ frontAnswer v) × LeftAs v a b

@@ -20,22 +20,27 @@ use Rattle.offences.specs.Laid.{Laid}
 use Rattle.scope.specs.declared.Heads.{Heads}
 use Rattle.limits.specs.Words.{WordsIn}
 use Rattle.scope.specs.Judges.{HeadsIn}
-use Rattle.answers.specs.Answers.{refusalOf}
+use Rattle.answers.specs.Answers.{Told, done, refusal, refusedBy}
 use Rattle.frontend.specs.declared.rules.Ruling.{Ruling}
 use Rattle.frontend.specs.declared.rules.Ruling.the-variants.{Free, Offended}
 
 abbrev pub headsOf : Parsed → Heads
 headsOf p = record { entity = p .entity; «entity_end» = p .«entity_end»; arch = p .arch; «arch_of» = p .«arch_of»; «arch_end» = p .«arch_end» }
 
+-- what a ruling tells
+abbrev pub rulingTold : Ruling → Told (Unit {0})
+rulingTold Free = done tt
+rulingTold (Offended r) = refusedBy r
+
 -- what the rules leave of a verdict
-abbrev pub ruledAs : Verdict → Ruling
-ruledAs (accepted p) = Free
-ruledAs (refused n k) = Offended (refusalOf n k)
+abbrev pub ruledAs : Verdict → Told (Unit {0})
+ruledAs (accepted p) = done tt
+ruledAs (refused n k) = refusal n k
 
 -- for every tree that the arrays hold, the answer is the rules' own
 pub record Ruled (text starts sizes : List ℕ) (n : ℕ) (p : Parsed) (codes indices rows decls owners : List ℕ) (r : Ruling) : Type 0 where
   pub is : (ts : List Token) (t : Text) (kinds : List ℕ) → Laid ts t kinds starts n codes indices (p .items) rows (p .statements) decls (p .names) owners → WordsIn text ts sizes n
-      → HeadsIn ts t (headsOf p) → tokenAt ts (p .process) ≡ t .process → WithinLimits t → r ≡ ruledAs (ruled table t)
+      → HeadsIn ts t (headsOf p) → tokenAt ts (p .process) ≡ t .process → WithinLimits t → rulingTold r ≡ ruledAs (ruled table t)
 
 -- "Stages in table order": the rules from 9, 8, 7 and 6 on
 abbrev pub from9 : List Rule
@@ -53,9 +58,9 @@ from6 = record { number = 6; offences = types } ∷ from7
 -- the same for the rules rs alone, where no name is wrong
 pub record RuledBy (rs : List Rule) (starts : List ℕ) (n : ℕ) (p : Parsed) (codes indices rows decls owners : List ℕ) (r : Ruling) : Type 0 where
   pub is : (ts : List Token) (t : Text) (kinds : List ℕ) → Laid ts t kinds starts n codes indices (p .items) rows (p .statements) decls (p .names) owners
-      → tokenAt ts (p .process) ≡ t .process → WithinLimits t → names t ≡ [] → r ≡ ruledAs (ruled rs t)
+      → tokenAt ts (p .process) ≡ t .process → WithinLimits t → names t ≡ [] → rulingTold r ≡ ruledAs (ruled rs t)
 
 -- the same for the last rule, which asks for tokens and statements alone
 pub record RuledLast (starts : List ℕ) (n : ℕ) (p : Parsed) (rows : List ℕ) (r : Ruling) : Type 0 where
   pub is : (ts : List Token) (t : Text) (kinds : List ℕ) → TokensIn ts kinds starts n → RowsIn ts (bodyEntries (t .body)) rows (p .statements)
-      → tokenAt ts (p .process) ≡ t .process → r ≡ ruledAs (ruled from9 t)
+      → tokenAt ts (p .process) ≡ t .process → rulingTold r ≡ ruledAs (ruled from9 t)

@@ -11,10 +11,10 @@ ghost use Rattle.language.specs.Verdict.{parsed as parsedAs};
 ghost use Rattle.cursor.specs.Tokens.{Holds};
 ghost use Rattle.syntax.specs.Arrays.{TokensIn};
 ghost use Rattle.limits.specs.Words.{WordsIn};
-ghost use Rattle.answers.specs.Answers.{refusalOf};
+ghost use Rattle.answers.specs.declared.Refusal.the-variants.{NoSentence, LimitPassed};
 ghost use Rattle.frontend.specs.Answered.{placeIn};
 ghost use Rattle.frontend.specs.Designs.{Sized};
-ghost use Rattle.frontend.specs.Fronts.{TreeIn, designArrays, frontOf, LeftAs, FrontAs};
+ghost use Rattle.frontend.specs.Fronts.{TreeIn, designArrays, frontTold, frontAnswer, LeftAs, FrontAs};
 
 pub mod layout;
 mod rules;
@@ -44,7 +44,7 @@ fn place_of(starts: &[u16; 16384], n: usize, length: usize, i: usize) -> usize
 
 // Refusal 3 or 4.
 fn unread(number: u8, place: usize) -> Refusal
-    ensures { λ r. ⌜ ((number ≡ 3) → r ≡ refusalOf 3 place) × ((number ≡ 4) → r ≡ refusalOf 4 place) ⌝ }
+    ensures { λ r. ⌜ ((number ≡ 3) → r ≡ NoSentence place) × ((number ≡ 4) → r ≡ LimitPassed place) ⌝ }
 {
     if number == 3 {
         return Refusal::NoSentence(place);
@@ -197,7 +197,7 @@ pub fn accept(
     variable_values: &mut [i32; 32],
 ) -> Front
     ensures { λ r. ⌜ (Sized (now (ops .entry)) (now (args .entry)) (now (lines .entry)) (now («input_types» .entry)) (now («output_types» .entry)) (now («variable_types» .entry)) (now («output_values» .entry)) (now («variable_values» .entry))
-        → (r ≡ frontOf (verdict (now (text .entry))))
+        → (frontTold r ≡ frontAnswer (verdict (now (text .entry))))
         × LeftAs (verdict (now (text .entry))) (designArrays (now (ops .entry)) (now (args .entry)) (now (lines .entry)) (now («input_types» .entry)) (now («output_types» .entry)) (now («variable_types» .entry)) (now («output_values» .entry)) (now («variable_values» .entry)))
         (designArrays (now (ops .exit)) (now (args .exit)) (now (lines .exit)) (now («input_types» .exit)) (now («output_types» .exit)) (now («variable_types» .exit)) (now («output_values» .exit)) (now («variable_values» .exit)))) ⌝ }
 {

@@ -10,7 +10,7 @@ use Rattle.answers.specs.declared.Refusal.{Refusal}
 use Rattle.answers.specs.declared.Cycled.the-variants.{NotPerformed}
 use Rattle.answers.specs.declared.Started.the-variants.{Fresh, NotStarted}
 use Rattle.design.specs.Process.{Source, Slot, Process}
-use Rattle.language.specs.Verdict.{accepted, verdict}
+use Rattle.language.specs.Verdict.{accepted, refused, verdict}
 use Rattle.semantics.specs.Rows.{atFirst}
 use Rattle.semantics.specs.Records.{stateFor}
 use Rattle.semantics.specs.Calls.{Call}
@@ -19,10 +19,11 @@ use Rattle.semantics.specs.DirectRow.{directRow}
 use Rattle.behaviour.specs.Direct.{directOf, directFresh}
 use Rattle.ir.specs.Arrays.{NamesIn}
 use Rattle.frontend.specs.declared.layout.Counts.{Counts}
-use Rattle.frontend.proofs.Told.{Design, Turned}
-use Rattle.semantics.specs.Advances.{Advances, startOf, startedOf, cycledOf}
+use Rattle.frontend.proofs.Told.{Design}
+use Rattle.semantics.specs.Advances.{Advances, startOf, cycleAnswer, freshAnswer}
 use Rattle.direct.specs.Calls as D
 use Rattle.answers.specs.declared.Advanced.{Advanced}
+use Rattle.answers.specs.Answers.{numberOf, placeOf, cycleTold, freshTold}
 
 -- the counts of names
 pub bounds : {text ops : List ℕ} {args : List ℤ} {lines is os vs : List ℕ} {ps qs : List ℤ} {c : Counts} → Design text ops args lines is os vs ps qs c → (c .inputs ≤ 16) × (c .outputs ≤ 16) × (c .variables ≤ 32)
@@ -44,25 +45,25 @@ bounds d =
 
 module _ (text : List ℕ) (s : State) (c : Call) where
   pub run-accepted : (p : Process) → verdict text ≡ accepted p → (a : Advanced) (o : List ℤ) → Advances (directRow p s c) a o
-      → (a .answer ≡ cycledOf (directOf text s c .answer)) × (a .state ≡ directOf text s c .state) × (o ≡ directOf text s c .row)
+      → (cycleTold (a .answer) ≡ cycleAnswer (directOf text s c .answer)) × (a .state ≡ directOf text s c .state) × (o ≡ directOf text s c .row)
   unfolding directOf
   run-accepted p e a o h = rw e (h .answer, h .state, h .row)
 
-  pub run-refused : (x : Refusal) → Turned text x
-      → (NotPerformed x ≡ cycledOf (directOf text s c .answer)) × (s ≡ directOf text s c .state) × (c .outputs ≡ directOf text s c .row)
+  pub run-refused : (x : Refusal) → verdict text ≡ refused (numberOf x) (placeOf x)
+      → (cycleTold (NotPerformed x) ≡ cycleAnswer (directOf text s c .answer)) × (s ≡ directOf text s c .state) × (c .outputs ≡ directOf text s c .row)
   unfolding directOf
-  run-refused x t = rw (t .is-verdict) (ap NotPerformed (t .is-refusal), refl, refl)
+  run-refused x e = rw e (refl, refl, refl)
 
 -- THE FRESH STATE
 module _ (text : List ℕ) where
-  pub fresh-accepted : (p : Process) → verdict text ≡ accepted p → (r : State) → r ≡ laid (atFirst p) → (Fresh ≡ startedOf (directFresh text)) × (r ≡ startOf (directFresh text))
+  pub fresh-accepted : (p : Process) → verdict text ≡ accepted p → (r : State) → r ≡ laid (atFirst p) → (freshTold Fresh ≡ freshAnswer (directFresh text)) × (r ≡ startOf (directFresh text))
   unfolding directFresh
   fresh-accepted p e r h = rw e (refl, h)
 
-  pub fresh-refused : (x : Refusal) → Turned text x → (r : State) → r ≡ stateFor 512 (record { outputs = []; variables = [] })
-      → (NotStarted x ≡ startedOf (directFresh text)) × (r ≡ startOf (directFresh text))
+  pub fresh-refused : (x : Refusal) → verdict text ≡ refused (numberOf x) (placeOf x) → (r : State) → r ≡ stateFor 512 (record { outputs = []; variables = [] })
+      → (freshTold (NotStarted x) ≡ freshAnswer (directFresh text)) × (r ≡ startOf (directFresh text))
   unfolding directFresh
-  fresh-refused x t r h = rw (t .is-verdict) (ap NotStarted (t .is-refusal), h)
+  fresh-refused x e r h = rw e (refl, h)
 
 -- THE PARTS OF THE ARRAYS IN USE
 pub part : {A : Type 0} (l : List A) (n : ℕ) → take (n - 0) (drop 0 l) ≡ take n l

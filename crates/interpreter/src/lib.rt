@@ -4,6 +4,7 @@ ghost use mathlib.Core.List.{List, []};
 ghost use Prim.Native.Nat.{_≤_};
 ghost use lib.IntN.{ℤ};
 ghost use lib.ListN.{take};
+ghost use Rattle.answers.specs.Answers.{cycleTold, freshTold};
 ghost use Rattle.design.specs.Process.{Process, WellFormed, initials};
 ghost use Rattle.semantics.specs.Rows.{atFirst};
 ghost use Rattle.semantics.specs.Records.{stateFor};
@@ -12,7 +13,7 @@ ghost use Rattle.semantics.specs.DirectRow.{directRow};
 ghost use Rattle.behaviour.specs.Direct.{directOf, directFresh};
 ghost use Rattle.frontend.specs.Designs.{Holds};
 ghost use Rattle.direct.specs.Calls.{callOf};
-ghost use Rattle.semantics.specs.Advances.{Advances, startOf, startedOf, cycledOf};
+ghost use Rattle.semantics.specs.Advances.{Advances, startOf, cycleAnswer, freshAnswer};
 use answers::Advanced;
 use answers::Cycled;
 use answers::FreshState;
@@ -57,7 +58,7 @@ fn run_design(
 
 // One call on any text: refusals 1 to 9, then 14, 15, 16, or the cycle performed. A refused one hands back the state, and the row is as it was.
 pub fn run(text: &[u8], s: State, inputs: &[i32], row: &mut [i32]) -> Advanced
-    ensures { λ a. ⌜ (a .answer ≡ cycledOf (directOf (now (text .entry)) s (callOf (now (inputs .entry)) (now (row .entry))) .answer))
+    ensures { λ a. ⌜ (cycleTold (a .answer) ≡ cycleAnswer (directOf (now (text .entry)) s (callOf (now (inputs .entry)) (now (row .entry))) .answer))
         × (a .state ≡ directOf (now (text .entry)) s (callOf (now (inputs .entry)) (now (row .entry))) .state)
         × (now (row .exit) ≡ directOf (now (text .entry)) s (callOf (now (inputs .entry)) (now (row .entry))) .row) ⌝ }
 {
@@ -112,7 +113,7 @@ fn blank() -> State
 
 // The fresh state of any text, or refusal 1 to 9.
 pub fn fresh(text: &[u8]) -> FreshState
-    ensures { λ r. ⌜ (r .answer ≡ startedOf (directFresh (now (text .entry)))) × (r .state ≡ startOf (directFresh (now (text .entry)))) ⌝ }
+    ensures { λ r. ⌜ (freshTold (r .answer) ≡ freshAnswer (directFresh (now (text .entry)))) × (r .state ≡ startOf (directFresh (now (text .entry)))) ⌝ }
 {
     let mut ops = [0u8; 16384];
     let mut args = [0i32; 16384];

@@ -39,7 +39,7 @@ use Rattle.limits.specs.Words.{WordsIn}
 use Rattle.frontend.specs.declared.Front.{Front}
 use Rattle.frontend.specs.declared.Front.the-variants.{Accepted, Refused}
 use Rattle.frontend.specs.declared.layout.Counts.{Counts}
-use Rattle.frontend.specs.Fronts.{frontOf}
+use Rattle.frontend.specs.Fronts.{frontTold, frontAnswer}
 use Rattle.frontend.proofs.Fronting.{tree-in}
 use Rattle.frontend.proofs.Told.{not-accepted}
 use Rattle.labels.specs.declared.Line.{Line}
@@ -50,18 +50,18 @@ use Rattle.labels.proofs.Listed.{header-is, header-short}
 
 -- THE FRONT END'S ANSWER
 
-pub front-yes : (text : List ℕ) {r : Front} {c : Counts} → r ≡ frontOf (verdict text) → r ≡ Accepted c → true ≡ isAccepted (verdict text)
+pub front-yes : (text : List ℕ) {r : Front} {c : Counts} → frontTold r ≡ frontAnswer (verdict text) → r ≡ Accepted c → true ≡ isAccepted (verdict text)
 front-yes text {r} {c} f e = go (verdict text) f
   where
-    go : (v : Verdict) → r ≡ frontOf v → true ≡ isAccepted v
+    go : (v : Verdict) → frontTold r ≡ frontAnswer v → true ≡ isAccepted v
     go (accepted p) g = refl
-    go (refused n k) g = not-accepted (sym e ∙ g)
+    go (refused n k) g = not-accepted (sym (ap frontTold e) ∙ g)
 
-pub front-no : (text : List ℕ) {r : Front} {x : Refusal} → r ≡ frontOf (verdict text) → r ≡ Refused x → false ≡ isAccepted (verdict text)
+pub front-no : (text : List ℕ) {r : Front} {x : Refusal} → frontTold r ≡ frontAnswer (verdict text) → r ≡ Refused x → false ≡ isAccepted (verdict text)
 front-no text {r} {x} f e = go (verdict text) f
   where
-    go : (v : Verdict) → r ≡ frontOf v → false ≡ isAccepted v
-    go (accepted p) g = not-accepted (sym g ∙ e)
+    go : (v : Verdict) → frontTold r ≡ frontAnswer v → false ≡ isAccepted v
+    go (accepted p) g = not-accepted (sym g ∙ ap frontTold e)
     go (refused n k) g = refl
 
 -- WHAT AN ACCEPTED TEXT HAS

@@ -9,11 +9,10 @@ use lib.ListN.{length, take, drop}
 use lib.Dec.{leb, eqb}
 use borrow.Author.Tests.{leb-true}
 use Rattle.semantics.proofs.Basic.{false-true, and-left, and-right}
-use Rattle.answers.specs.Answers.{numberOf, placeOf, refusalOf}
+use Rattle.answers.specs.Answers.{Told, done, refusedBy, numberOf, placeOf}
 use Rattle.answers.specs.declared.Refusal.the-variants.{BadSections, BadSignature, BadLine}
-use Rattle.answers.specs.declared.Opened as declared
 use Rattle.answers.specs.declared.Sections as declared-sections
-use Rattle.answers.specs.declared.Opened.the-variants.{Image, NotOpened}
+use Rattle.answers.specs.declared.Refusal.{Refusal}
 use Rattle.format.specs.Words.{onlyIf}
 use Rattle.format.specs.Image.{Sections, Table}
 use Rattle.format.specs.Signature.{Signature, signatureOf}
@@ -21,18 +20,18 @@ use Rattle.format.specs.Opening.{raws, sectionsOf, Lined, lined, bad-at, openLi
 use Rattle.loader.specs.Sections.{isSome, signatureLength, linesLength, codeLength, linesStart, codeStart, parts, headed, paired, whole, sectioned}
 use Rattle.loader.specs.Code.{orEmpty, signatureAt}
 use Rattle.loader.specs.Lines.{storedReaches, judged, linesFrom}
-use Rattle.loader.specs.Open.{placesOf, openedAs}
+use Rattle.loader.specs.Open.{placesOf, openAnswer}
 use Rattle.loader.specs.declared.lines.Judgement.{Judgement}
 use Rattle.loader.specs.declared.lines.Judgement.the-variants.{Good, BadAt}
 use Rattle.loader.proofs.SectionLaws.{Lengths, paired-lengths, sections-read, sections-test}
 use Rattle.loader.proofs.LineLaws.{raws-length, run-same}
 
 -- an image without its sections is refused by 11; ..
-pub open-11 : (b : List ℕ) → isSome (sectionsOf b) ≡ false → NotOpened BadSections ≡ openedAs b (openOf b)
+pub open-11 : (b : List ℕ) → isSome (sectionsOf b) ≡ false → refusedBy BadSections ≡ openAnswer b (openOf b)
 unfolding openOf
 open-11 b h = go (sectionsOf b) h
   where
-    go : (o : Option Sections) → isSome o ≡ false → NotOpened BadSections ≡ openedAs b (unless11 o openSections)
+    go : (o : Option Sections) → isSome o ≡ false → refusedBy BadSections ≡ openAnswer b (unless11 o openSections)
     go none e = refl
     go (some x) e = false-true (sym e)
 
@@ -59,30 +58,30 @@ module _ (b : List ℕ) (h : isSome (sectionsOf b) ≡ true) where
   opened-parts = ap (λ o. unless11 o openSections) sections-there
 
   -- .. one whose signature section is none by 12; ..
-  pub open-12 : (s : List ℕ) → s ≡ parts b .signature → isSome (signatureOf s) ≡ false → NotOpened BadSignature ≡ openedAs b (openOf b)
+  pub open-12 : (s : List ℕ) → s ≡ parts b .signature → isSome (signatureOf s) ≡ false → refusedBy BadSignature ≡ openAnswer b (openOf b)
   unfolding openSections
   open-12 s e q = go (signatureOf (parts b .signature)) refl (ap (λ z. isSome (signatureOf z)) (sym e) ∙ q)
     where
-      go : (o : Option Signature) → signatureOf (parts b .signature) ≡ o → isSome o ≡ false → NotOpened BadSignature ≡ openedAs b (openOf b)
-      go none m r = sym (ap (openedAs b) (opened-parts ∙ ap (λ o. unless12 o (λ σ. openTable σ (rawLines (parts b)) (parts b .code))) m))
+      go : (o : Option Signature) → signatureOf (parts b .signature) ≡ o → isSome o ≡ false → refusedBy BadSignature ≡ openAnswer b (openOf b)
+      go none m r = sym (ap (openAnswer b) (opened-parts ∙ ap (λ o. unless12 o (λ σ. openTable σ (rawLines (parts b)) (parts b .code))) m))
       go (some σ) m r = false-true (sym r)
 
   -- .. and the others by 13, or not at all
-  abbrev answered : Judgement → declared.Opened
-  answered Good = Image (placesOf b)
-  answered (BadAt x) = NotOpened (BadLine x)
+  abbrev answered : Judgement → Told declared-sections.Sections
+  answered Good = done (placesOf b)
+  answered (BadAt x) = refusedBy (BadLine x)
 
-  tabled-answer : (σ : Signature) (rs : List ℕ) (l : Lined) → answered (judged l) ≡ openedAs b (tabled σ rs l)
+  tabled-answer : (σ : Signature) (rs : List ℕ) (l : Lined) → answered (judged l) ≡ openAnswer b (tabled σ rs l)
   tabled-answer σ rs (lined ls) = refl
   tabled-answer σ rs (bad-at x) = refl
 
   table-answer : (σ : Signature) (lines code : List ℕ) (n : ℕ) → n ≡ length lines / 12
-      → answered (judged (openLines σ n (storedReaches n lines) 0 0 code (raws n lines))) ≡ openedAs b (openTable σ (raws (length lines / 12) lines) code)
+      → answered (judged (openLines σ n (storedReaches n lines) 0 0 code (raws n lines))) ≡ openAnswer b (openTable σ (raws (length lines / 12) lines) code)
   unfolding openTable
   table-answer σ lines code n e =
       ap (λ z. answered (judged (openLines σ z (storedReaches n lines) 0 0 code (raws n lines)))) (sym (raws-length n lines))
       ∙ tabled-answer σ (storedReaches n lines) (openLines σ (length (raws n lines)) (storedReaches n lines) 0 0 code (raws n lines))
-      ∙ ap (λ z. openedAs b (openTable σ (raws z lines) code)) e
+      ∙ ap (λ z. openAnswer b (openTable σ (raws z lines) code)) e
 
   from-first : (sig lines code : List ℕ) (n : ℕ)
       → linesFrom sig lines code n 0 0 ≡ judged (openLines (signatureAt sig) n (storedReaches n lines) 0 0 code (raws n lines))
@@ -90,19 +89,19 @@ module _ (b : List ℕ) (h : isSome (sectionsOf b) ≡ true) where
   from-first sig lines code n = let d : n - 0 ≡ n = omega arith in rw d
 
   pub open-13 : (s l c : List ℕ) → s ≡ parts b .signature → l ≡ parts b .lines → c ≡ parts b .code → isSome (signatureOf s) ≡ true
-      → (j : Judgement) → j ≡ linesFrom s l c (length l / 12) 0 0 → answered j ≡ openedAs b (openOf b)
+      → (j : Judgement) → j ≡ linesFrom s l c (length l / 12) 0 0 → answered j ≡ openAnswer b (openOf b)
   unfolding openSections signatureAt
   open-13 s l c es el ec q j ej = go (signatureOf s) refl q
     where
-      go : (o : Option Signature) → signatureOf s ≡ o → isSome o ≡ true → answered j ≡ openedAs b (openOf b)
+      go : (o : Option Signature) → signatureOf s ≡ o → isSome o ≡ true → answered j ≡ openAnswer b (openOf b)
       go none m r = false-true r
       go (some σ) m r =
           ap answered (ej ∙ from-first s l c (length l / 12) ∙ ap (λ z. judged (openLines z (length l / 12) (storedReaches (length l / 12) l) 0 0 c
           (raws (length l / 12) l))) (ap orEmpty m))
           ∙ table-answer σ l c (length l / 12) refl
-          ∙ ap (λ z. openedAs b (openTable σ (raws (length z / 12) z) c)) el
-          ∙ ap (λ z. openedAs b (openTable σ (rawLines (parts b)) z)) ec
-          ∙ sym (ap (openedAs b) (opened-parts ∙ ap (λ o. unless12 o (λ σ. openTable σ (rawLines (parts b)) (parts b .code))) (ap signatureOf (sym es) ∙ m)))
+          ∙ ap (λ z. openAnswer b (openTable σ (raws (length z / 12) z) c)) el
+          ∙ ap (λ z. openAnswer b (openTable σ (rawLines (parts b)) z)) ec
+          ∙ sym (ap (openAnswer b) (opened-parts ∙ ap (λ o. unless12 o (λ σ. openTable σ (rawLines (parts b)) (parts b .code))) (ap signatureOf (sym es) ∙ m)))
 
   -- the parts as the code takes them
   pub signature-part : (e : ℕ) → e ≡ linesStart b → take (e - 28) (drop 28 b) ≡ parts b .signature
@@ -120,46 +119,28 @@ module _ (b : List ℕ) (h : isSome (sectionsOf b) ≡ true) where
   pub lines-few : (l : List ℕ) → l ≡ parts b .lines → length l / 12 ≤ 512
   lines-few l e = let z : length l ≡ linesLength b = ap length e ∙ lengths .lines in let f = few in rw z f
 
-  pub open-good : {j : Judgement} {l c e : ℕ} → l ≡ linesStart b → c ≡ codeStart b → e ≡ length b → j ≡ Good → answered j ≡ openedAs b (openOf b)
-      → Image (record { signature = 28; lines = l; code = c; end = e }) ≡ openedAs b (openOf b)
+  pub open-good : {j : Judgement} {l c e : ℕ} → l ≡ linesStart b → c ≡ codeStart b → e ≡ length b → j ≡ Good → answered j ≡ openAnswer b (openOf b)
+      → done (record { signature = 28; lines = l; code = c; end = e }) ≡ openAnswer b (openOf b)
   open-good {j} {l} {c} {e} el ec ee ej h = rw (el, ec, ee) (ap answered (sym ej) ∙ h)
 
-  pub open-bad : {j : Judgement} {x : ℕ} → j ≡ BadAt x → answered j ≡ openedAs b (openOf b) → NotOpened (BadLine x) ≡ openedAs b (openOf b)
+  pub open-bad : {j : Judgement} {x : ℕ} → j ≡ BadAt x → answered j ≡ openAnswer b (openOf b) → refusedBy (BadLine x) ≡ openAnswer b (openOf b)
   open-bad ej h = ap answered (sym ej) ∙ h
 
--- The answer has the number and the place that document 01's table gives.
-pub refused-as : (b : List ℕ) (q k : ℕ) → openOf b ≡ not-opened q k → (numberOf (refusalOf q k) ≡ q) × (placeOf (refusalOf q k) ≡ k)
-unfolding openOf openSections openTable
-refused-as b q k e = at-11 (sectionsOf b) e
-  where
-    same : (n m : ℕ) → _≡_ {A = Opened} (not-opened n m) (not-opened q k) → (numberOf (refusalOf n m) ≡ n) × (placeOf (refusalOf n m) ≡ m)
-        → (numberOf (refusalOf q k) ≡ q) × (placeOf (refusalOf q k) ≡ k)
-    same n m p h =
-        let z : n ≡ q = cc in
-        let y : m ≡ k = cc in
-        rw (← z, ← y) h
-
-    at-13 : (σ : Signature) (rs : List ℕ) (l : Lined) → tabled σ rs l ≡ not-opened q k → (numberOf (refusalOf q k) ≡ q) × (placeOf (refusalOf q k) ≡ k)
-    at-13 σ rs (lined ls) p = absurd (let z : _≡_ {A = ℕ} 0 1 = cc in omega arith)
-    at-13 σ rs (bad-at x) p = same 13 x p (refl, refl)
-
-    at-12 : (x : Sections) (o : Option Signature) → unless12 o (λ σ. openTable σ (rawLines x) (x .code)) ≡ not-opened q k
-        → (numberOf (refusalOf q k) ≡ q) × (placeOf (refusalOf q k) ≡ k)
-    at-12 x none p = same 12 0 p (refl, refl)
-    at-12 x (some σ) p =
-        at-13 σ (rawReaches (rawLines x)) (openLines σ (length (rawLines x)) (rawReaches (rawLines x)) 0 0 (x .code) (rawLines x)) p
-
-    at-11 : (o : Option Sections) → unless11 o openSections ≡ not-opened q k → (numberOf (refusalOf q k) ≡ q) × (placeOf (refusalOf q k) ≡ k)
-    at-11 none p = same 11 0 p (refl, refl)
-    at-11 (some x) p = at-12 x (signatureOf (x .signature)) p
-
 -- What a caller learns of an image that opened: its table, and where its sections start.
-pub image-opened : (b : List ℕ) (s : declared-sections.Sections) → Image s ≡ openedAs b (openOf b) → (t : Table) × (openOf b ≡ opened t) × (s ≡ placesOf b)
+pub image-opened : (b : List ℕ) (s : declared-sections.Sections) → done s ≡ openAnswer b (openOf b) → (t : Table) × (openOf b ≡ opened t) × (s ≡ placesOf b)
 image-opened b s e = go (openOf b) refl e
   where
-    go : (o : Opened) → openOf b ≡ o → Image s ≡ openedAs b o → (t : Table) × (openOf b ≡ opened t) × (s ≡ placesOf b)
+    go : (o : Opened) → openOf b ≡ o → done s ≡ openAnswer b o → (t : Table) × (openOf b ≡ opened t) × (s ≡ placesOf b)
     go (opened t) m p = (t, m, cc)
     go (not-opened q k) m p = absurd (let z : _≡_ {A = ℕ} 0 1 = cc in omega arith)
+
+-- What a caller learns of an image that is refused: number and place.
+pub image-refused : (b : List ℕ) (r : Refusal) → refusedBy r ≡ openAnswer b (openOf b) → openOf b ≡ not-opened (numberOf r) (placeOf r)
+image-refused b r e = go (openOf b) refl e
+  where
+    go : (o : Opened) → openOf b ≡ o → refusedBy r ≡ openAnswer b o → openOf b ≡ not-opened (numberOf r) (placeOf r)
+    go (opened t) m p = absurd (let z : _≡_ {A = ℕ} 0 1 = cc in omega arith)
+    go (not-opened q k) m p = m ∙ (let z : q ≡ numberOf r = cc in let y : k ≡ placeOf r = cc in rw (z, y))
 
 -- .. and that these are the parts of the image that the definitions open
 pub opened-sections : (b : List ℕ) (t : Table) → openOf b ≡ opened t → sectionsOf b ≡ some (parts b)

@@ -3,9 +3,7 @@ use mathlib.Core.List.{List}
 use Prim.Native.Nat.{ℕ}
 use lib.ListN.{length}
 use Rattle.answers.specs.declared.Sections.{Sections}
-use Rattle.answers.specs.declared.Opened as declared
-use Rattle.answers.specs.declared.Opened.the-variants.{Image, NotOpened}
-use Rattle.answers.specs.Answers.{refusalOf}
+use Rattle.answers.specs.Answers.{Told, done, refusal}
 use Rattle.format.specs.Opening.{Opened, opened, not-opened}
 use Rattle.loader.specs.Sections.{linesStart, codeStart}
 
@@ -13,7 +11,7 @@ use Rattle.loader.specs.Sections.{linesStart, codeStart}
 abbrev pub placesOf : List ℕ → Sections
 placesOf b = record { signature = 28; lines = linesStart b; code = codeStart b; end = length b }
 
--- the answer for the image b
-abbrev pub openedAs : List ℕ → Opened → declared.Opened
-openedAs b (opened t) = Image (placesOf b)
-openedAs b (not-opened number place) = NotOpened (refusalOf number place)
+-- what is told of the image b: its sections; or number and place
+abbrev pub openAnswer : List ℕ → Opened → Told Sections
+openAnswer b (opened t) = done (placesOf b)
+openAnswer b (not-opened number place) = refusal number place

@@ -6,9 +6,10 @@ mod signature;
 
 ghost use mathlib.Core.Path.{_≡_};
 ghost use mathlib.Core.Bool.{true};
+ghost use Rattle.answers.specs.Answers.{openTold};
 ghost use Rattle.format.specs.Opening.{sectionsOf, openOf};
 ghost use Rattle.loader.specs.Sections.{isSome, linesStart, codeStart};
-ghost use Rattle.loader.specs.Open.{openedAs};
+ghost use Rattle.loader.specs.Open.{openAnswer};
 use answers::Opened;
 use answers::Refusal;
 use answers::Sections;
@@ -19,7 +20,7 @@ fn open_sections(image: &[u8], lines: usize, code: usize) -> Opened
     requires { ⌜ isSome (sectionsOf (now image)) ≡ true ⌝ }
     requires { ⌜ lines ≡ linesStart (now image) ⌝ }
     requires { ⌜ code ≡ codeStart (now image) ⌝ }
-    ensures { λ r. ⌜ r ≡ openedAs (now (image .entry)) (openOf (now (image .entry))) ⌝ }
+    ensures { λ r. ⌜ openTold r ≡ openAnswer (now (image .entry)) (openOf (now (image .entry))) ⌝ }
 {
     let end = image.len();
     if signature::has_signature(&image[28..lines]) {
@@ -40,7 +41,7 @@ fn open_sections(image: &[u8], lines: usize, code: usize) -> Opened
 
 // Any bytes: where the sections start, or the refusal.
 pub fn open(image: &[u8]) -> Opened
-    ensures { λ r. ⌜ r ≡ openedAs (now (image .entry)) (openOf (now (image .entry))) ⌝ }
+    ensures { λ r. ⌜ openTold r ≡ openAnswer (now (image .entry)) (openOf (now (image .entry))) ⌝ }
 {
     if sections::has_sections(image) {
         let lines = 28 + sections::long(image, 8);

@@ -7,36 +7,36 @@ use lib.ListN.{take, drop}
 use Rattle.answers.specs.declared.State.{State}
 use Rattle.answers.specs.declared.Refusal.{Refusal}
 use Rattle.answers.specs.declared.Sections.{Sections}
-use Rattle.answers.specs.declared.Opened.the-variants.{Image, NotOpened}
 use Rattle.answers.specs.declared.Started.the-variants.{Fresh, NotStarted}
+use Rattle.answers.specs.Answers.{freshTold, done, refusedBy, numberOf, placeOf}
 use Rattle.format.specs.Words.{Bytes}
 use Rattle.format.specs.Signature.{signatureOf}
 use Rattle.format.specs.Image.{Table}
 use Rattle.format.specs.Opening.{opened, not-opened, openOf}
 use Rattle.format.specs.State.{freshTable, freshFrom, freshOf}
 use Rattle.semantics.specs.Records.{stateFor}
-use Rattle.semantics.specs.Advances.{startOf, startedOf}
-use Rattle.loader.specs.Open.{openedAs}
+use Rattle.semantics.specs.Advances.{startOf, freshAnswer}
+use Rattle.loader.specs.Open.{openAnswer}
+use Rattle.loader.proofs.OpenLaws.{image-refused}
 use Rattle.table.proofs.Opened.{opens-signature}
-use Rattle.runtime.proofs.Whole.{table, opens, parts-checked, not-opened-as}
+use Rattle.runtime.proofs.Whole.{table, opens, parts-checked}
 
-module _ (b : List ℕ) (x : Sections) (e : Image x ≡ openedAs b (openOf b)) where
+module _ (b : List ℕ) (x : Sections) (e : done x ≡ openAnswer b (openOf b)) where
   started : freshOf b ≡ freshFrom (opened (table b x e))
   unfolding freshOf
   started = ap freshFrom (opens b x e)
 
-  pub fresh-answer : Fresh ≡ startedOf (freshOf b)
-  fresh-answer = sym (ap startedOf started)
+  pub fresh-answer : freshTold Fresh ≡ freshAnswer (freshOf b)
+  fresh-answer = sym (ap freshAnswer started)
 
   pub fresh-state : Bytes b → (s : State)
       → ((t : Table) → signatureOf (take (x .lines - x .signature) (drop (x .signature) b)) ≡ some (t .signature) → s ≡ freshTable t) → s ≡ startOf (freshOf b)
   fresh-state bytes s h = h (table b x e) (opens-signature _ _ _ (table b x e) (parts-checked b x e bytes .opens)) ∙ sym (ap startOf started)
 
 -- an image that is refused
-pub fresh-refused : (b : List ℕ) (r : Refusal) → NotOpened r ≡ openedAs b (openOf b) → (s : State) → s ≡ stateFor 512 (record { outputs = []; variables = [] })
-    → (NotStarted r ≡ startedOf (freshOf b)) × (s ≡ startOf (freshOf b))
+pub fresh-refused : (b : List ℕ) (r : Refusal) → refusedBy r ≡ openAnswer b (openOf b) → (s : State) → s ≡ stateFor 512 (record { outputs = []; variables = [] })
+    → (freshTold (NotStarted r) ≡ freshAnswer (freshOf b)) × (s ≡ startOf (freshOf b))
 unfolding freshOf
 fresh-refused b r e s f =
-    let g = not-opened-as b r e in
-    let z : freshOf b ≡ freshFrom (not-opened (g .0) (g .1)) = ap freshFrom (g .2) in
-    (ap NotStarted (g .3) ∙ sym (ap startedOf z), f ∙ sym (ap startOf z))
+    let z : freshOf b ≡ freshFrom (not-opened (numberOf r) (placeOf r)) = ap freshFrom (image-refused b r e) in
+    (sym (ap freshAnswer z), f ∙ sym (ap startOf z))

@@ -7,25 +7,25 @@ use lib.Dec.{T}
 use lib.ListN.{length}
 use lib.IntN.{ℤ}
 use Rattle.semantics.proofs.Basic.{false-true}
-use Rattle.answers.specs.Answers.{linesOf, isPerformed}
+use Rattle.answers.specs.Answers.{linesOf, isPerformed, cycleTold, isDone}
 use Rattle.answers.specs.declared.State.{State}
 use Rattle.format.specs.Cycle.{cycleOf}
 use Rattle.semantics.specs.Calls.{Answer, performed, not-performed}
 use Rattle.format.proofs.Calls.{refused-untouched}
 use Rattle.answers.specs.declared.Advanced.{Advanced}
-use Rattle.semantics.specs.Advances.{cycledOf}
+use Rattle.semantics.specs.Advances.{cycleAnswer}
 use Rattle.runtime.specs.Calls.{wayOf, firstReach}
 use Rattle.runtime.specs.Outcomes.{Outcomes}
 
 module _ (b : List ℕ) (s : State) (i o : List ℤ) (a : Advanced) (u : List ℤ)
-    (h : (a .answer ≡ cycledOf (cycleOf b s i o .answer)) × (a .state ≡ cycleOf b s i o .state) × (u ≡ cycleOf b s i o .row)
+    (h : (cycleTold (a .answer) ≡ cycleAnswer (cycleOf b s i o .answer)) × (a .state ≡ cycleOf b s i o .state) × (u ≡ cycleOf b s i o .row)
     × (linesOf (a .answer) ≡ length (wayOf (cycleOf b s i o .answer))) × (linesOf (a .answer) ≤ firstReach b (s .place) + 1)) where
   -- a refused call leaves the state
   refused-kept : isPerformed (a .answer) ≡ false → cycleOf b s i o .state ≡ s
   refused-kept e = on (cycleOf b s i o .answer) refl
     where
       on : (w : Answer) → cycleOf b s i o .answer ≡ w → cycleOf b s i o .state ≡ s
-      on (performed way) f = false-true (sym e ∙ ap isPerformed (h .0 ∙ ap cycledOf f))
+      on (performed way) f = false-true (sym e ∙ ap isDone (h .0 ∙ ap cycleAnswer f))
       on (not-performed q k) f = refused-untouched s o b i q k f .0
 
   -- the outcome, where p says whether the cycle was performed

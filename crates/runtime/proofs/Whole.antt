@@ -7,11 +7,10 @@ use mathlib.Core.Bool.{true}
 use mathlib.Core.List.{List}
 use lib.ListN.{length, take, drop}
 use lib.IntN.{ℤ}
-use Rattle.answers.specs.Answers.{refusalOf, linesOf}
+use Rattle.answers.specs.Answers.{linesOf, cycleTold, done, refusedBy, countOf}
 use Rattle.answers.specs.declared.State.{State}
 use Rattle.answers.specs.declared.Refusal.{Refusal}
 use Rattle.answers.specs.declared.Sections.{Sections}
-use Rattle.answers.specs.declared.Opened.the-variants.{Image, NotOpened}
 use Rattle.answers.specs.declared.Cycled.the-variants.{NotPerformed}
 use Rattle.format.specs.Words.{Bytes}
 use Rattle.format.specs.Lines.{reach}
@@ -23,17 +22,17 @@ use Rattle.semantics.specs.Calls.{Answer, performed, not-performed, Called}
 use Rattle.images.specs.Outcome.{Outcome, row-refused, state-refused, operator-refused, performs}
 use Rattle.images.proofs.Outcomes.{row-outcome}
 use Rattle.loader.specs.Sections.{isSome, linesStart, codeStart}
-use Rattle.loader.specs.Open.{placesOf, openedAs}
-use Rattle.loader.proofs.OpenLaws.{lengths, signature-part, lines-part, code-part, image-opened, opened-sections}
+use Rattle.loader.specs.Open.{placesOf, openAnswer}
+use Rattle.loader.proofs.OpenLaws.{lengths, signature-part, lines-part, code-part, image-opened, opened-sections, image-refused}
 use Rattle.answers.specs.declared.Advanced.{Advanced}
 use Rattle.cycle.specs.Ran.{Checked}
-use Rattle.semantics.specs.Advances.{cycledOf, Advances}
+use Rattle.semantics.specs.Advances.{Advances, cycleAnswer}
 use Rattle.runtime.specs.Calls.{wayOf, reachFrom, firstReach}
 use Rattle.runtime.proofs.OpenedImage.{good, opened-checked}
 
 -- The sections as parts of the image.
 
-module _ (b : List ℕ) (x : Sections) (e : Image x ≡ openedAs b (openOf b)) where
+module _ (b : List ℕ) (x : Sections) (e : done x ≡ openAnswer b (openOf b)) where
   -- its table
   pub table : Table
   table = image-opened b x e .0
@@ -86,7 +85,7 @@ module _ (b : List ℕ) (x : Sections) (e : Image x ≡ openedAs b (openOf b)) w
   pub sections-advance : Bytes b → (s : State) (i o : List ℤ) (a : Advanced) (row : List ℤ)
       → ((t : Table)
       → Checked (take (x .lines - x .signature) (drop (x .signature) b)) (take (x .code - x .lines) (drop (x .lines) b)) (take (x .end - x .code) (drop (x .code) b)) t
-      → (a .answer ≡ cycledOf (rowOf t s i o .answer)) × (a .state ≡ rowOf t s i o .state) × (row ≡ rowOf t s i o .row))
+      → (cycleTold (a .answer) ≡ cycleAnswer (rowOf t s i o .answer)) × (a .state ≡ rowOf t s i o .state) × (row ≡ rowOf t s i o .row))
       → Advances (cycleOf b s i o) a row
   unfolding cycleOf
   sections-advance bytes s i o a row h =
@@ -95,53 +94,39 @@ module _ (b : List ℕ) (x : Sections) (e : Image x ≡ openedAs b (openOf b)) w
 
 -- An image that is refused.
 
--- an image that is refused, and how
-pub not-opened-as : (b : List ℕ) (r : Refusal) → NotOpened r ≡ openedAs b (openOf b) → (q : ℕ) × (k : ℕ) × (openOf b ≡ not-opened q k) × (r ≡ refusalOf q k)
-not-opened-as b r e = on (openOf b) refl
-  where
-    on : (z : Opened) → openOf b ≡ z → (q : ℕ) × (k : ℕ) × (openOf b ≡ not-opened q k) × (r ≡ refusalOf q k)
-    on (opened t) f =
-        let g : NotOpened r ≡ Image (placesOf b) = e ∙ ap (openedAs b) f in
-        absurd (let d : _≡_ {A = ℕ} 0 1 = cc in omega arith)
-    on (not-opened q k) f =
-        let g : NotOpened r ≡ NotOpened (refusalOf q k) = e ∙ ap (openedAs b) f in
-        let y : r ≡ refusalOf q k = cc in
-        (q, k, f, y)
-
 -- a cycle on it: state and row as they came
-pub refused-advance : (b : List ℕ) (r : Refusal) → NotOpened r ≡ openedAs b (openOf b) → (s : State) (i o : List ℤ)
+pub refused-advance : (b : List ℕ) (r : Refusal) → refusedBy r ≡ openAnswer b (openOf b) → (s : State) (i o : List ℤ)
     → Advances (cycleOf b s i o) (record { state = s; answer = NotPerformed r }) o
 unfolding cycleOf
 refused-advance b r e s i o =
-    let g = not-opened-as b r e in
-    subst (λ (z : Opened). Advances (unlessClosed z s o (λ t. rowOf t s i o)) (record { state = s; answer = NotPerformed r }) o) (sym (g .2))
-    (record { answer = ap NotPerformed (g .3); state = refl; row = refl })
+    subst (λ (z : Opened). Advances (unlessClosed z s o (λ t. rowOf t s i o)) (record { state = s; answer = NotPerformed r }) o) (sym (image-refused b r e))
+    (record { answer = refl; state = refl; row = refl })
 
 -- The count.
 
 -- it is the length of the way; a refused call performs none
-count-way : (w : Answer) → linesOf (cycledOf w) ≡ length (wayOf w)
+pub count-way : (w : Answer) → countOf (cycleAnswer w) ≡ length (wayOf w)
 count-way (performed way) = refl
 count-way (not-performed q k) = refl
 
 -- it is at most the first line's reach and one more
-count-bound : (b : List ℕ) → Bytes b → (s : State) (i o : List ℤ) → linesOf (cycledOf (cycleOf b s i o .answer)) ≤ firstReach b (s .place) + 1
+count-bound : (b : List ℕ) → Bytes b → (s : State) (i o : List ℤ) → countOf (cycleAnswer (cycleOf b s i o .answer)) ≤ firstReach b (s .place) + 1
 unfolding cycleOf firstReach
 count-bound b bytes s i o = on (openOf b) refl
   where
-    bounded : (t : Table) (c : Called) → Outcome t s i o c → linesOf (cycledOf (c .answer)) ≤ reach (t .reaches) (from (t .lines) (s .place)) + 1
+    bounded : (t : Table) (c : Called) → Outcome t s i o c → countOf (cycleAnswer (c .answer)) ≤ reach (t .reaches) (from (t .lines) (s .place)) + 1
     bounded t c (row-refused k m) = omega arith
     bounded t c (state-refused m g) = omega arith
     bounded t c (operator-refused x m g h q) = omega arith
     bounded t c (performs p τ m g q w y gs lo) = let z = y .short in omega arith
 
-    on : (z : Opened) → openOf b ≡ z → linesOf (cycledOf (unlessClosed z s o (λ t. rowOf t s i o) .answer)) ≤ reachFrom z (s .place) + 1
+    on : (z : Opened) → openOf b ≡ z → countOf (cycleAnswer (unlessClosed z s o (λ t. rowOf t s i o) .answer)) ≤ reachFrom z (s .place) + 1
     on (opened t) f = bounded t (rowOf t s i o) (row-outcome t (good b t bytes f) s i o)
     on (not-opened q k) f = omega arith
 
 -- answer, state and row, with what is said of the count
 pub whole : (b : List ℕ) → Bytes b → (s : State) (i o : List ℤ) (a : Advanced) (row : List ℤ) → Advances (cycleOf b s i o) a row
-    → (a .answer ≡ cycledOf (cycleOf b s i o .answer)) × (a .state ≡ cycleOf b s i o .state) × (row ≡ cycleOf b s i o .row)
+    → (cycleTold (a .answer) ≡ cycleAnswer (cycleOf b s i o .answer)) × (a .state ≡ cycleOf b s i o .state) × (row ≡ cycleOf b s i o .row)
     × (linesOf (a .answer) ≡ length (wayOf (cycleOf b s i o .answer))) × (linesOf (a .answer) ≤ firstReach b (s .place) + 1)
 whole b bytes s i o a row h =
-    (h .answer, h .state, h .row, ap linesOf (h .answer) ∙ count-way (cycleOf b s i o .answer), rw (h .answer) (count-bound b bytes s i o))
+    (h .answer, h .state, h .row, ap countOf (h .answer) ∙ count-way (cycleOf b s i o .answer), rw (h .answer) (count-bound b bytes s i o))

@@ -5,17 +5,17 @@ use mathlib.Core.List.{List}
 use Prim.Native.Nat.{ℕ, _+_, _≤_}
 use lib.ListN.{length}
 use lib.IntN.{ℤ}
-use Rattle.answers.specs.Answers.{linesOf, isPerformed}
+use Rattle.answers.specs.Answers.{linesOf, isPerformed, cycleTold}
 use Rattle.answers.specs.declared.State.{State}
 use Rattle.format.specs.Cycle.{cycleOf}
-use Rattle.semantics.specs.Advances.{cycledOf}
+use Rattle.semantics.specs.Advances.{cycleAnswer}
 use Rattle.runtime.specs.Calls.{wayOf, firstReach}
 use Rattle.runtime.specs.declared.Outcome.{Outcome}
 
 -- the outcome r and the output row u as it is left are those of the call; `told`: it says whether the cycle was performed; `kept`: a cycle that was not
 -- performed leaves the state s
 pub record Outcomes (b : List ℕ) (s : State) (i o : List ℤ) (r : Outcome) (u : List ℤ) : Type 0 where
-  pub answer : r .answer ≡ cycledOf (cycleOf b s i o .answer)
+  pub answer : cycleTold (r .answer) ≡ cycleAnswer (cycleOf b s i o .answer)
   pub state : r .state ≡ cycleOf b s i o .state
   pub row : u ≡ cycleOf b s i o .row
   pub count : linesOf (r .answer) ≡ length (wayOf (cycleOf b s i o .answer))

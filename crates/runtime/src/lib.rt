@@ -2,15 +2,15 @@
 ghost use mathlib.Core.Path.{_≡_};
 ghost use Prim.Native.Nat.{_+_, _≤_};
 ghost use lib.ListN.{length};
-ghost use Rattle.answers.specs.Answers.{linesOf};
+ghost use Rattle.answers.specs.Answers.{linesOf, cycleTold, freshTold, done};
 ghost use Rattle.answers.specs.declared.Opened.the-variants.{Image};
 ghost use Rattle.format.specs.Opening.{openOf};
 ghost use mathlib.Core.List.{[]};
 ghost use Rattle.format.specs.State.{freshOf};
 ghost use Rattle.semantics.specs.Records.{stateFor};
 ghost use Rattle.format.specs.Cycle.{cycleOf};
-ghost use Rattle.loader.specs.Open.{openedAs};
-ghost use Rattle.semantics.specs.Advances.{cycledOf, Advances, startOf, startedOf};
+ghost use Rattle.loader.specs.Open.{openAnswer};
+ghost use Rattle.semantics.specs.Advances.{Advances, startOf, cycleAnswer, freshAnswer};
 ghost use Rattle.runtime.specs.Outcomes.{Outcomes};
 ghost use Rattle.runtime.specs.Calls.{wayOf, firstReach};
 use answers::Advanced;
@@ -37,7 +37,7 @@ pub fn cycle_opened(
     inputs: &[i32],
     row: &mut [i32],
 ) -> Advanced
-    requires { ⌜ Image at ≡ openedAs (now image) (openOf (now image)) ⌝ }
+    requires { ⌜ done at ≡ openAnswer (now image) (openOf (now image)) ⌝ }
     ensures { λ a. ⌜ Advances (cycleOf (now (image .entry)) s (now (inputs .entry)) (now (row .entry))) a (now (row .exit)) ⌝ }
 {
     let signature = at.signature;
@@ -56,7 +56,7 @@ pub fn cycle_opened(
 
 // One cycle on an image: 11, 12, 13, then 14, 15, 16, or the cycle performed. A refused one hands back the state, and the row is as it was.
 pub fn cycle(image: &[u8], s: State, inputs: &[i32], row: &mut [i32]) -> Advanced
-    ensures { λ a. ⌜ (a .answer ≡ cycledOf (cycleOf (now (image .entry)) s (now (inputs .entry)) (now (row .entry)) .answer))
+    ensures { λ a. ⌜ (cycleTold (a .answer) ≡ cycleAnswer (cycleOf (now (image .entry)) s (now (inputs .entry)) (now (row .entry)) .answer))
         × (a .state ≡ cycleOf (now (image .entry)) s (now (inputs .entry)) (now (row .entry)) .state)
         × (now (row .exit) ≡ cycleOf (now (image .entry)) s (now (inputs .entry)) (now (row .entry)) .row)
         × (linesOf (a .answer) ≡ length (wayOf (cycleOf (now (image .entry)) s (now (inputs .entry)) (now (row .entry)) .answer)))
@@ -89,7 +89,7 @@ fn cycle_outcome(image: &[u8], s: State, inputs: &[i32], row: &mut [i32]) -> Out
 
 // One cycle on an image, by which the caller's own state record advances: the new state is stored only where the cycle was performed.
 pub fn advance_state(image: &[u8], state: &mut State, inputs: &[i32], row: &mut [i32]) -> Cycled
-    ensures { λ r. ⌜ (r ≡ cycledOf (cycleOf (now (image .entry)) (now (state .entry)) (now (inputs .entry)) (now (row .entry)) .answer))
+    ensures { λ r. ⌜ (cycleTold r ≡ cycleAnswer (cycleOf (now (image .entry)) (now (state .entry)) (now (inputs .entry)) (now (row .entry)) .answer))
         × (now (state .exit) ≡ cycleOf (now (image .entry)) (now (state .entry)) (now (inputs .entry)) (now (row .entry)) .state)
         × (now (row .exit) ≡ cycleOf (now (image .entry)) (now (state .entry)) (now (inputs .entry)) (now (row .entry)) .row)
         × (linesOf r ≡ length (wayOf (cycleOf (now (image .entry)) (now (state .entry)) (now (inputs .entry)) (now (row .entry)) .answer)))
@@ -104,7 +104,7 @@ pub fn advance_state(image: &[u8], state: &mut State, inputs: &[i32], row: &mut 
 
 // The fresh state of an image that opened, by its signature section.
 fn fresh_on_sections(image: &[u8], at: Sections) -> State
-    requires { ⌜ Image at ≡ openedAs (now image) (openOf (now image)) ⌝ }
+    requires { ⌜ done at ≡ openAnswer (now image) (openOf (now image)) ⌝ }
     ensures { λ r. ⌜ r ≡ startOf (freshOf (now (image .entry))) ⌝ }
 {
     let signature = at.signature;
@@ -125,7 +125,7 @@ fn blank() -> State
 
 // The fresh state of an image, or refusal 11, 12 or 13.
 pub fn fresh(image: &[u8]) -> FreshState
-    ensures { λ r. ⌜ (r .answer ≡ startedOf (freshOf (now (image .entry)))) × (r .state ≡ startOf (freshOf (now (image .entry)))) ⌝ }
+    ensures { λ r. ⌜ (freshTold (r .answer) ≡ freshAnswer (freshOf (now (image .entry)))) × (r .state ≡ startOf (freshOf (now (image .entry)))) ⌝ }
 {
     let opened = loader::open(image);
     match opened {

@@ -10,3 +10,5 @@ pub mod TokensOf
 pub mod LexedPlaces
 pub mod OffencePlaces
 pub mod Places
+pub mod Untouched
+pub mod CInterface

@@ -4,6 +4,7 @@ use mathlib.Core.List.{List, [], _∷_}
 use Prim.Native.Nat.{ℕ, _≤_}
 use native.Mathlib.Omega.{arith}
 use lib.ListN.{length}
+use lib.IntN.{ℤ}
 use Rattle.answers.specs.declared.State.{State}
 use Rattle.design.specs.Process.{Process, WellFormed}
 use Rattle.language.specs.Validity.{Valid}
@@ -20,12 +21,14 @@ use Rattle.images.proofs.Outcomes.{image-outcome}
 use Rattle.images.proofs.Processes.{encode-opens}
 use Rattle.behaviour.specs.Direct.{directOf, directCalls}
 use Rattle.theorems.specs.Compile.{written, compileOf}
-use Rattle.theorems.specs.Promises.{Demand1, Demand2, Demand3, Compiled, Returned}
+use Rattle.theorems.specs.CInterface.{compileInC}
+use Rattle.theorems.specs.Promises.{Demand1, Demand2, Demand3, ToldInC, doneNumbers, CallsInC, Compiled, Returned}
 use Rattle.theorems.proofs.Size.{valid-fits}
 use Rattle.theorems.proofs.Demand1 as D1
 use Rattle.theorems.proofs.Demand2 as D2
 use Rattle.theorems.proofs.Demand3 as D3
 use Rattle.theorems.proofs.Demand3.{Wrote, wrote}
+use Rattle.theorems.proofs.CInterface as C
 
 -- DEMAND 1, for every text, buffer, image (a list of bytes), state record and call
 pub demand1 : (text buffer image : List ℕ) → Bytes image → (s : State) (c : Call) → Demand1 text buffer image s c
@@ -38,6 +41,13 @@ demand2 = D2.demand2
 -- DEMAND 3, for every text and buffer, where the compile wrote n bytes
 pub demand3 : (text buffer : List ℕ) (n : ℕ) → compileOf text buffer .answer ≡ written n → Demand3 text buffer n
 demand3 = D3.demand3
+
+-- THE C INTERFACE: one call of each function, for every text, buffer, image, 49 numbers and call; every list of calls, where rabtishu_compile told n bytes
+pub told-in-c : (text buffer image : List ℕ) → Bytes image → (l : List ℤ) (c : Call) → ToldInC text buffer image l c
+told-in-c = C.told-in-c
+
+pub calls-in-c : (text buffer : List ℕ) (n : ℕ) → compileInC text buffer .0 ≡ doneNumbers n → CallsInC text buffer n
+calls-in-c = C.calls-in-c
 
 -- calls that agree one by one agree as a list
 calls-agree : (image text : List ℕ) → ((s : State) (c : Call) → cycleOf image s (c .inputs) (c .outputs) ≡ directOf text s c)

@@ -4,6 +4,7 @@ use mathlib.Core.List.{List, _++_}
 use Prim.Native.Nat.{ℕ}
 use lib.ListN.{length, drop}
 use lib.Dec.{leb}
+use Rattle.answers.specs.Answers.{Told, done, refusal}
 use Rattle.language.specs.Verdict.{Verdict, accepted, refused, verdict}
 use Rattle.format.specs.Encode.{encode}
 
@@ -11,6 +12,11 @@ use Rattle.format.specs.Encode.{encode}
 pub data Compiled : Type 0 where
   written : (bytes : ℕ) → Compiled
   not-compiled : (number place : ℕ) → Compiled
+
+-- what is told of it: the bytes written; or number and place
+abbrev pub compileAnswer : Compiled → Told ℕ
+compileAnswer (written n) = done n
+compileAnswer (not-compiled q k) = refusal q k
 
 -- the answer, with the buffer as it is left
 pub record Compile : Type 0 where

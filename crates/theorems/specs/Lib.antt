@@ -1,3 +1,4 @@
 pub mod Compile
 pub mod Promises
 pub mod Places
+pub mod CInterface

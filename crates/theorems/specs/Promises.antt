@@ -3,9 +3,10 @@
 -- direct (`directOf`), direct_fresh (`directFresh`). They are functions, so every call ends and a refusal has one place. Assumes nothing.
 use mathlib.Core.Path.{_≡_}
 use mathlib.Core.Logic.{_↔_}
-use mathlib.Core.List.{List, [], _∷_, _++_}
+use mathlib.Core.List.{List, [], _∷_, _++_, map}
 use Prim.Native.Nat.{ℕ, suc, _≤_, _<_}
 use lib.ListN.{length, take, drop}
+use lib.IntN.{ℤ}
 use Rattle.answers.specs.declared.State.{State}
 use Rattle.grammar.specs.Tree.{Text}
 use Rattle.design.specs.Statement.{size}
@@ -38,6 +39,7 @@ use Rattle.images.specs.Outcome as Image
 use Rattle.behaviour.specs.Direct.{directOf, directFresh, directCalls}
 use Rattle.behaviour.specs.DirectRun.{DirectRun}
 use Rattle.theorems.specs.Compile.{Compile, written, not-compiled, compileOf}
+use Rattle.theorems.specs.CInterface.{Left, stateOfC, cOfState, compileInC, openInC, freshInC, cycleInC, directFreshInC, directInC, callsInC}
 
 -- DEMAND 1. "Nothing that comes in can upset it: every text, image, state and input row gets a result or a numbered refusal; every call ends; a refusal has
 -- its place fixed and alters no byte of image, state or output row." Each operation below comes to one of the cases that are listed, and each case holds
@@ -161,6 +163,54 @@ pub record Demand3 (text buffer : List ℕ) (n : ℕ) : Type 0 where
   pub short : (cs : List Call) → AllShort process state (equationCalls process (atFirst process) cs)
   pub direct : (s : State) (c : Call) → cycleOf (take n (compileOf text buffer .buffer)) s (c .inputs) (c .outputs) ≡ directOf text s c
   pub direct-start : freshOf (take n (compileOf text buffer .buffer)) ≡ directFresh text
+
+-- THE C INTERFACE, in the same words: what its functions hand out is what the definitions above say, number by number (include/rabtishu.h).
+
+-- a refusal is told as number, place, 0; what is done as 0, 0 and a count
+abbrev pub refusedNumbers : ℕ → ℕ → List ℕ
+refusedNumbers q k = q ∷ k ∷ 0 ∷ []
+
+abbrev pub doneNumbers : ℕ → List ℕ
+doneNumbers n = 0 ∷ 0 ∷ n ∷ []
+
+-- one call of each function, on any bytes, any 49 numbers and any rows: the three numbers are the definition's own number, place and count; a refused call
+-- alters neither buffer, nor the 49 numbers, nor the output row
+pub record ToldInC (text buffer image : List ℕ) (l : List ℤ) (c : Call) : Type 0 where
+  pub compiled : (n : ℕ) → compileOf text buffer .answer ≡ written n → compileInC text buffer ≡ (doneNumbers n, compileOf text buffer .buffer)
+  pub compile-refused : (q k : ℕ) → compileOf text buffer .answer ≡ not-compiled q k → compileInC text buffer ≡ (refusedNumbers q k, buffer)
+  pub opened : (t : Table) → openOf image ≡ opened t → openInC image ≡ doneNumbers 0
+  pub open-refused : (q k : ℕ) → openOf image ≡ not-opened q k → openInC image ≡ refusedNumbers q k
+  pub started : (s : State) → freshOf image ≡ fresh s → freshInC image l ≡ (doneNumbers 0, cOfState s)
+  pub start-refused : (q k : ℕ) → freshOf image ≡ not-started q k → freshInC image l ≡ (refusedNumbers q k, l)
+  pub cycled : (way : List ℕ) (s : State) (row : List ℤ) → cycleOf image (stateOfC l) (c .inputs) (c .outputs) ≡ record { answer = performed way; state = s; row = row }
+      → cycleInC image l (c .inputs) (c .outputs) ≡ record { answer = doneNumbers (length way); slots = cOfState s; row = row }
+  pub cycle-refused : (q k : ℕ) → cycleOf image (stateOfC l) (c .inputs) (c .outputs) .answer ≡ not-performed q k
+      → cycleInC image l (c .inputs) (c .outputs) ≡ record { answer = refusedNumbers q k; slots = l; row = c .outputs }
+  pub run : (way : List ℕ) (s : State) (row : List ℤ) → directOf text (stateOfC l) c ≡ record { answer = performed way; state = s; row = row }
+      → directInC text l (c .inputs) (c .outputs) ≡ record { answer = doneNumbers (length way); slots = cOfState s; row = row }
+  pub run-refused : (q k : ℕ) → directOf text (stateOfC l) c .answer ≡ not-performed q k
+      → directInC text l (c .inputs) (c .outputs) ≡ record { answer = refusedNumbers q k; slots = l; row = c .outputs }
+  pub run-started : (s : State) → directFresh text ≡ fresh s → directFreshInC text l ≡ (doneNumbers 0, cOfState s)
+  pub run-start-refused : (q k : ℕ) → directFresh text ≡ not-started q k → directFreshInC text l ≡ (refusedNumbers q k, l)
+
+-- a call of the equations as a C caller sees it
+abbrev pub answerInC : Answer → List ℕ
+answerInC (performed way) = doneNumbers (length way)
+answerInC (not-performed q k) = refusedNumbers q k
+
+abbrev pub seenInC : Called → Left
+seenInC r = record { answer = answerInC (r .answer); slots = cOfState (r .state); row = r .row }
+
+-- DEMAND 3 AND THE DIRECT RUN IN C, where rabtishu_compile told n bytes: from the 49 numbers that rabtishu_fresh leaves, every list of calls of
+-- rabtishu_cycle on these bytes, refused ones included, leaves after every call the three numbers, the 49 numbers and the output row of the equations; and
+-- so does every list of calls of rabtishu_direct on the text
+pub record CallsInC (text buffer : List ℕ) (n : ℕ) : Type 0 where
+  pub process : Process
+  pub valid : Valid text process
+  pub starts : (l : List ℤ) → freshInC (take n (compileInC text buffer .1)) l ≡ (doneNumbers 0, cOfState (laid (atFirst process)))
+  pub same : (cs : List Call) → callsInC (cycleInC (take n (compileInC text buffer .1))) (cOfState (laid (atFirst process))) cs ≡ map seenInC (equationCalls process (atFirst process) cs)
+  pub direct-starts : (l : List ℤ) → directFreshInC text l ≡ (doneNumbers 0, cOfState (laid (atFirst process)))
+  pub direct : (cs : List Call) → callsInC (directInC text) (cOfState (laid (atFirst process))) cs ≡ map seenInC (equationCalls process (atFirst process) cs)
 
 -- COROLLARIES that an auditor asks for.
 

@@ -8,7 +8,7 @@ use lib.Dec.{leb, ltb}
 use lib.ListN.{length, drop, length-take, length-drop}
 use lib.Seq.{sets}
 use borrow.Author.Tests.{le-leb, lt-leb, lt-ltb, le-ltb, leb-true, ltb-true}
-use Rattle.answers.specs.Answers.{numberOf, placeOf}
+use Rattle.answers.specs.Answers.{numberOf, placeOf, Told, done, refusedBy, compileTold}
 use Rattle.answers.specs.declared.State.{State}
 use Rattle.answers.specs.declared.Refusal.{Refusal}
 use Rattle.answers.specs.declared.Compiled.{Compiled}
@@ -85,29 +85,29 @@ module _ (b rows : List ℕ) (p : Progress) (g : goesOn (length rows) (p .number
 
 -- the beginning
 module _ (n l : ℕ) (o : List ℕ) where
-  pub begin-only : (u : List ℕ) (r : ℕ) → 65536 < l → Puts o 0 (refusedText 14 0) u r → (Only r ≡ begunOf (Written n) l o .0) × (u ≡ begunOf (Written n) l o .1)
+  pub begin-only : (u : List ℕ) (r : ℕ) → 65536 < l → Puts o 0 (refusedText 14 0) u r → (Only r ≡ begunOf (done n) l o .0) × (u ≡ begunOf (done n) l o .1)
   unfolding begunOf
   begin-only u r h p =
       let q = stored o (refusedText 14 0) u r p in
       let z : leb l 65536 ≡ false = lt-leb l 65536 h in
       rw z (ap Only (q .0), q .1)
 
-  pub begin-image : l ≤ 65536 → (Image n ≡ begunOf (Written n) l o .0) × (o ≡ begunOf (Written n) l o .1)
+  pub begin-image : l ≤ 65536 → (Image n ≡ begunOf (done n) l o .0) × (o ≡ begunOf (done n) l o .1)
   unfolding begunOf
   begin-image h = let z : leb l 65536 ≡ true = le-leb l 65536 h in rw z (refl, refl)
 
-module _ (x y : Compiled) (l : ℕ) (o i f : List ℕ) (e : x ≡ y) (d : i ≡ f) where
-  pub start-written : (n : ℕ) (r : Begun) (u : List ℕ) → x ≡ Written n → (r ≡ begunOf (Written n) l o .0) × (u ≡ begunOf (Written n) l o .1)
+module _ (x : Compiled) (y : Told ℕ) (l : ℕ) (o i f : List ℕ) (e : compileTold x ≡ y) (d : i ≡ f) where
+  pub start-written : (n : ℕ) (r : Begun) (u : List ℕ) → x ≡ Written n → (r ≡ begunOf (done n) l o .0) × (u ≡ begunOf (done n) l o .1)
       → (r ≡ begunOf y l o .0) × (u ≡ begunOf y l o .1) × (i ≡ f)
   start-written n r u h p =
-      let z : Written n ≡ y = sym h ∙ e in
-      (p .0 ∙ ap (λ (c : Compiled). begunOf c l o .0) z, p .1 ∙ ap (λ (c : Compiled). begunOf c l o .1) z, d)
+      let z : done n ≡ y = sym (ap compileTold h) ∙ e in
+      (p .0 ∙ ap (λ (c : Told ℕ). begunOf c l o .0) z, p .1 ∙ ap (λ (c : Told ℕ). begunOf c l o .1) z, d)
 
   pub start-refused : (k : Refusal) (q m : ℕ) (u : List ℕ) (r : ℕ) → x ≡ NotCompiled k → q ≡ numberOf k → m ≡ placeOf k → Puts o 0 (refusedText q m) u r
       → (Only r ≡ begunOf y l o .0) × (u ≡ begunOf y l o .1) × (i ≡ f)
   unfolding begunOf
   start-refused k q m u r h a b p =
-      let z : NotCompiled k ≡ y = sym h ∙ e in
+      let z : refusedBy k ≡ y = sym (ap compileTold h) ∙ e in
       let w : Puts o 0 (refusedText (numberOf k) (placeOf k)) u r = rw (a, b) at p in
       let t = stored o (refusedText (numberOf k) (placeOf k)) u r w in
-      (ap Only (t .0) ∙ ap (λ (c : Compiled). begunOf c l o .0) z, t .1 ∙ ap (λ (c : Compiled). begunOf c l o .1) z, d)
+      (ap Only (t .0) ∙ ap (λ (c : Told ℕ). begunOf c l o .0) z, t .1 ∙ ap (λ (c : Told ℕ). begunOf c l o .1) z, d)

@@ -12,7 +12,8 @@ use borrow.Author.Tests.{le-leb, lt-leb, leb-true}
 use Rattle.answers.specs.declared.Refusal.{Refusal}
 use Rattle.answers.specs.declared.Sections.{Sections}
 use Rattle.answers.specs.declared.Opened.the-variants.{Image, NotOpened}
-use Rattle.loader.specs.Open.{openedAs}
+use Rattle.answers.specs.Answers.{done, refusedBy}
+use Rattle.loader.specs.Open.{openAnswer}
 use Rattle.format.specs.Words.{Bytes}
 use Rattle.format.specs.Opening.{Opened, opened, not-opened, openOf}
 use Rattle.tracing.specs.Stored.{Puts}
@@ -206,15 +207,15 @@ module _ (b rows : List ℕ) (p : Progress) (o : List ℕ) where
   unfolding fillOf
   fill-opened at r u e f = go (openOf b) e
     where
-      go : (x : Opened) → Image at ≡ openedAs b x → Fills (fillOn x b rows p (length o)) o r u
+      go : (x : Opened) → done at ≡ openAnswer b x → Fills (fillOn x b rows p (length o)) o r u
       go (opened t) e = f
       go (not-opened q k) e = absurd (let z : _≡_ {A = ℕ} 0 1 = cc in omega arith)
 
-  pub fill-refused : (k : Refusal) → NotOpened k ≡ openedAs b (openOf b) → Fills (fillOf b rows p (length o)) o (record { progress = p; size = 0 }) o
+  pub fill-refused : (k : Refusal) → refusedBy k ≡ openAnswer b (openOf b) → Fills (fillOf b rows p (length o)) o (record { progress = p; size = 0 }) o
   unfolding fillOf
   fill-refused k e = go (openOf b) e
     where
-      go : (x : Opened) → NotOpened k ≡ openedAs b x → Fills (fillOn x b rows p (length o)) o (record { progress = p; size = 0 }) o
+      go : (x : Opened) → refusedBy k ≡ openAnswer b x → Fills (fillOn x b rows p (length o)) o (record { progress = p; size = 0 }) o
       go (opened t) e = absurd (let z : _≡_ {A = ℕ} 0 1 = cc in omega arith)
       go (not-opened q m) e = record { progress = refl; size = refl; buffer = refl }
 

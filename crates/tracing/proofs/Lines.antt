@@ -10,14 +10,12 @@ use lib.Dec.{ltb}
 use lib.IntN.{ℤ, pos}
 use lib.ListN.{length, replicate, length-append, drop-of-length-le}
 use borrow.Author.Tests.{lt-ltb, ltb-true, ltb-false}
-use Rattle.answers.specs.Answers.{numberOf}
+use Rattle.answers.specs.Answers.{Told, done, refusal}
 use Rattle.answers.specs.declared.State.{State}
-use Rattle.answers.specs.declared.Cycled.{Cycled}
-use Rattle.answers.specs.declared.Cycled.the-variants.{Performed, NotPerformed}
 use Rattle.format.specs.Image.{Table}
 use Rattle.format.specs.Opening.{Opened, opened, openOf}
 use Rattle.format.specs.Cycle.{cycleOf}
-use Rattle.semantics.specs.Advances.{cycledOf}
+use Rattle.semantics.specs.Advances.{cycleAnswer}
 use Rattle.tracing.specs.Rows.{split}
 use Rattle.tracing.specs.Printing.{performedLine, refusedLine}
 use Rattle.tracing.specs.Trace.{rowValues}
@@ -54,14 +52,14 @@ refused-some : (n q : ℕ) → 1 ≤ length (refusedLine n q)
 unfolding refusedLine
 refused-some n q = simp length-append (omega arith)
 
-shown-some : (n : ℕ) (x : Cycled) (place : ℕ) (row : List ℤ) → 1 ≤ length (lineOf n x place row)
-shown-some n (Performed l) place row = performed-some n place l row
-shown-some n (NotPerformed r) place row = refused-some n (numberOf r)
+shown-some : (n : ℕ) (x : Told ℕ) (place : ℕ) (row : List ℤ) → 1 ≤ length (lineOf n x place row)
+shown-some n (done l) place row = performed-some n place l row
+shown-some n (refusal q k) place row = refused-some n q
 
 line-some : (b : List ℕ) (s : State) (n : ℕ) (v : Option (List ℤ)) → 1 ≤ length (rowShown b s n v .0)
 line-some b s n none = refused-some n 14
 line-some b s n (some v) =
-    let c = cycleOf b s v (replicate (room b) (pos 0)) in shown-some n (cycledOf (c .answer)) (c .state .place) (c .row)
+    let c = cycleOf b s v (replicate (room b) (pos 0)) in shown-some n (cycleAnswer (c .answer)) (c .state .place) (c .row)
 
 -- what a fill puts, x, from where the trace stands at p: with what is pending behind it that is what was pending before it; the trace only goes forward
 pub record Reaches (b rows : List ℕ) (p : Progress) (x : List ℕ × Progress) : Type 0 where

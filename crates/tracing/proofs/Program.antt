@@ -10,15 +10,14 @@ use lib.ListN.{length, take}
 use lib.Seq.{sets}
 use lib.Dec.{leb}
 use borrow.Author.Tests.{le-leb, leb-true, leb-false}
-use Rattle.answers.specs.Answers.{bytesOf}
+use Rattle.answers.specs.Answers.{countOf}
 use Rattle.design.specs.Process.{Process}
 use Rattle.language.specs.Verdict.{Verdict, accepted, refused, verdict}
 use Rattle.language.proofs.Judged.{accepts}
 use Rattle.format.specs.Words.{Bytes}
 use Rattle.format.specs.Encode.{encode}
-use Rattle.theorems.specs.Compile.{written, onVerdict, written-into, compileOf}
+use Rattle.theorems.specs.Compile.{written, onVerdict, written-into, compileOf, compileAnswer}
 use Rattle.theorems.proofs.Size.{valid-fits}
-use Rattle.compiler.specs.Compiles.{compiledOf}
 use Rattle.compiler.proofs.Written.{accepted-fits, written-opens}
 use Rattle.labels.specs.Header.{headerOf, headerFor}
 use Rattle.tracing.specs.Printing.{refusedText}
@@ -67,7 +66,7 @@ program-prints text rows b free h r = on (verdict text) refl
     on : (v : Verdict) → verdict text ≡ v → printedOf text rows b free ≡ traceOf text rows
     on (accepted p) e = accepted-prints text rows b free p e h r
     on (refused n k) e =
-        ap (λ (o : Option (List ℕ)). printedBy o (headerFor (verdict text)) (take (bytesOf (compiledOf (compileOf text b .answer))) (compileOf text b .buffer)) rows free)
+        ap (λ (o : Option (List ℕ)). printedBy o (headerFor (verdict text)) (take (countOf (compileAnswer (compileOf text b .answer))) (compileOf text b .buffer)) rows free)
         (only-refused text rows b n k e)
 
 -- the first bytes of a buffer after a fill, as many as the fill answers, are what it put

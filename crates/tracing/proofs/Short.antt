@@ -10,7 +10,7 @@ use lib.IntN.{ℤ, pos, negsuc}
 use lib.Dec.{ltb}
 use Rattle.answers.specs.declared.State.{State}
 use Rattle.semantics.specs.Calls.{Answer, performed, not-performed, Call, Called}
-use Rattle.semantics.specs.Advances.{cycledOf}
+use Rattle.semantics.specs.Advances.{cycleAnswer}
 use Rattle.language.specs.Bytes.{bytes}
 use Rattle.format.specs.Words.{Bytes}
 use Rattle.format.specs.Cycle.{cycleOf}
@@ -84,7 +84,7 @@ text-short q k =
 shown-short : (n : ℕ) (c : Called) → ((way : List ℕ) → c .answer ≡ performed way → length (c .row) ≤ 16) → length (shown n c) ≤ 512
 shown-short n c h = go (c .answer) refl
   where
-    go : (a : Answer) → c .answer ≡ a → length (lineOf n (cycledOf a) (c .state .place) (c .row)) ≤ 512
+    go : (a : Answer) → c .answer ≡ a → length (lineOf n (cycleAnswer a) (c .state .place) (c .row)) ≤ 512
     go (performed way) e = performed-short n (c .state .place) (length way) (c .row) (h way e)
     go (not-performed q k) e = refused-short n _
 

@@ -9,14 +9,14 @@ use lib.IntN.{ℤ, pos}
 use lib.Dec.{leb}
 use lib.ListN.{length, take, drop, replicate}
 use borrow.Author.Tests.{leb-true}
-use Rattle.answers.specs.Answers.{numberOf}
+use Rattle.answers.specs.Answers.{numberOf, Told, cycleTold}
 use Rattle.answers.specs.declared.State.{State}
 use Rattle.answers.specs.declared.Refusal.{Refusal}
 use Rattle.answers.specs.declared.Cycled.{Cycled}
 use Rattle.answers.specs.declared.Cycled.the-variants.{Performed, NotPerformed}
 use Rattle.format.specs.Cycle.{cycleOf}
 use Rattle.semantics.specs.Calls.{Called}
-use Rattle.semantics.specs.Advances.{cycledOf}
+use Rattle.semantics.specs.Advances.{cycleAnswer}
 use Rattle.tracing.specs.Printing.{performedLine, refusedLine}
 use Rattle.tracing.specs.Reading.{short, readsOf, Reads}
 use Rattle.tracing.specs.Stored.{Puts}
@@ -26,19 +26,22 @@ use Rattle.tracing.specs.declared.rows.Row.the-variants.{Values, Unreada
 use Rattle.tracing.proofs.Storing.{take-sets}
 
 module _ (n : ℕ) (x : Cycled) (place : ℕ) (row : List ℤ) (o u : List ℕ) (r : ℕ) where
-  pub show-performed : (l : ℕ) → x ≡ Performed l → Puts o 0 (performedLine n place l row) u r → Puts o 0 (lineOf n x place row) u r
-  show-performed l e p = subst (λ (y : Cycled). Puts o 0 (lineOf n y place row) u r) (sym e) p
+  -- a line put for what x is, is put for x
+  put-for : (y : Cycled) → x ≡ y → Puts o 0 (lineOf n (cycleTold y) place row) u r → Puts o 0 (lineOf n (cycleTold x) place row) u r
+  put-for y e p = subst (λ (z : Cycled). Puts o 0 (lineOf n (cycleTold z) place row) u r) (sym e) p
 
-  pub show-refused : (k : Refusal) (q : ℕ) → x ≡ NotPerformed k → q ≡ numberOf k → Puts o 0 (refusedLine n q) u r → Puts o 0 (lineOf n x place row) u r
-  show-refused k q e h p =
-      subst (λ (y : Cycled). Puts o 0 (lineOf n y place row) u r) (sym e) (subst (λ (m : ℕ). Puts o 0 (refusedLine n m) u r) h p)
+  pub show-performed : (l : ℕ) → x ≡ Performed l → Puts o 0 (performedLine n place l row) u r → Puts o 0 (lineOf n (cycleTold x) place row) u r
+  show-performed l e p = put-for (Performed l) e p
+
+  pub show-refused : (k : Refusal) (q : ℕ) → x ≡ NotPerformed k → q ≡ numberOf k → Puts o 0 (refusedLine n q) u r → Puts o 0 (lineOf n (cycleTold x) place row) u r
+  show-refused k q e h p = put-for (NotPerformed k) e (subst (λ (m : ℕ). Puts o 0 (refusedLine n m) u r) h p)
 
 -- a call, shown
-pub call-shown : (n : ℕ) (c : Called) (x : Cycled) (s : State) (row : List ℤ) (o u : List ℕ) (r : ℕ) → x ≡ cycledOf (c .answer) → s ≡ c .state → row ≡ c .row
+pub call-shown : (n : ℕ) (c : Called) (x : Told ℕ) (s : State) (row : List ℤ) (o u : List ℕ) (r : ℕ) → x ≡ cycleAnswer (c .answer) → s ≡ c .state → row ≡ c .row
     → Puts o 0 (lineOf n x (s .place) row) u r → (s ≡ c .state) × Puts o 0 (shown n c) u r
 call-shown n c x s row o u r a b d p = (
   b,
-  subst (λ (y : Cycled). Puts o 0 (lineOf n y (c .state .place) (c .row)) u r) a
+  subst (λ (y : Told ℕ). Puts o 0 (lineOf n y (c .state .place) (c .row)) u r) a
       (subst (λ (t : State). Puts o 0 (lineOf n x (t .place) (c .row)) u r) b (subst (λ (v : List ℤ). Puts o 0 (lineOf n x (s .place) v) u r) d p)),
 )
 

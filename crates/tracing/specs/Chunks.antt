@@ -9,20 +9,15 @@ use lib.ListN.{length, getD, drop, replicate}
 use lib.Seq.{sets}
 use lib.IntN.{ℤ, pos}
 use lib.Dec.{leb, ltb}
-use Rattle.answers.specs.Answers.{numberOf, placeOf, bytesOf}
+use Rattle.answers.specs.Answers.{Told, done, refusal, countOf}
 use Rattle.answers.specs.declared.State.{State}
-use Rattle.answers.specs.declared.Cycled.{Cycled}
-use Rattle.answers.specs.declared.Cycled.the-variants.{Performed, NotPerformed}
-use Rattle.answers.specs.declared.Compiled.{Compiled}
-use Rattle.answers.specs.declared.Compiled.the-variants.{Written, NotCompiled}
 use Rattle.answers.specs.declared.Sections.{Sections}
-use Rattle.answers.specs.declared.Opened.the-variants as answered
 use Rattle.format.specs.Opening.{Opened, opened, not-opened, openOf}
 use Rattle.format.specs.State.{freshOf}
 use Rattle.format.specs.Cycle.{cycleOf}
 use Rattle.semantics.specs.Calls.{Called}
-use Rattle.semantics.specs.Advances.{cycledOf, startOf}
-use Rattle.loader.specs.Open.{openedAs}
+use Rattle.semantics.specs.Advances.{cycleAnswer, startOf}
+use Rattle.loader.specs.Open.{openAnswer}
 use Rattle.scanner.specs.Places.{part}
 use Rattle.tracing.specs.Rows.{decimals, rowsIn}
 use Rattle.tracing.specs.Reading.{partEnd, short}
@@ -36,16 +31,16 @@ use Rattle.tracing.specs.Stored.{Puts}
 
 -- the opener accepts the image b, and its sections stand at these places
 abbrev pub OpenedAt : List ℕ → Sections → Type 0
-OpenedAt b at = answered.Image at ≡ openedAs b (openOf b)
+OpenedAt b at = done at ≡ openAnswer b (openOf b)
 
 -- the line of the row n for a cycle's answer, the place after it and its output row
-abbrev pub lineOf : ℕ → Cycled → ℕ → List ℤ → List ℕ
-lineOf n (Performed lines) place row = performedLine n place lines row
-lineOf n (NotPerformed r) place row = refusedLine n (numberOf r)
+abbrev pub lineOf : ℕ → Told ℕ → ℕ → List ℤ → List ℕ
+lineOf n (done lines) place row = performedLine n place lines row
+lineOf n (refusal q k) place row = refusedLine n q
 
 -- the line of the row n for a call
 abbrev pub shown : ℕ → Called → List ℕ
-shown n c = lineOf n (cycledOf (c .answer)) (c .state .place) (c .row)
+shown n c = lineOf n (cycleAnswer (c .answer)) (c .state .place) (c .row)
 
 -- the number of outputs, which an image has in the second byte of its signature
 abbrev pub room : List ℕ → ℕ
@@ -115,17 +110,17 @@ pub record Fills (x : List ℕ × Progress) (o : List ℕ) (r : Filled) (u : Lis
   pub buffer : u ≡ sets o 0 (x .0)
 
 -- "A refused text prints only `refused`, number, place"; "with above 65,536 bytes of rows it prints only `refused 14 0`"; else there is no only line
-abbrev pub onlyLine : Compiled → ℕ → Option (List ℕ)
-onlyLine (Written n) rows = cond (leb rows 65536) none (some (refusedText 14 0))
-onlyLine (NotCompiled r) rows = some (refusedText (numberOf r) (placeOf r))
+abbrev pub onlyLine : Told ℕ → ℕ → Option (List ℕ)
+onlyLine (done n) rows = cond (leb rows 65536) none (some (refusedText 14 0))
+onlyLine (refusal q k) rows = some (refusedText q k)
 
 abbrev pub begunBy : Option (List ℕ) → ℕ → List ℕ → Begun × List ℕ
 begunBy none n o = (Image n, o)
 begunBy (some l) n o = (Only (min (length l) (length o)), sets o 0 l)
 
 -- how a trace begins after this compile, over rows of so many bytes, and the buffer o as it is left
-unfoldable pub begunOf : Compiled → ℕ → List ℕ → Begun × List ℕ
-begunOf c rows o = begunBy (onlyLine c rows) (bytesOf c) o
+unfoldable pub begunOf : Told ℕ → ℕ → List ℕ → Begun × List ℕ
+begunOf c rows o = begunBy (onlyLine c rows) (countOf c) o
 
 -- rows as they are read, at most 16 values each
 unfoldable pub shorts : List (Option (List ℤ)) → List (Option (List ℤ))

@@ -3,11 +3,9 @@ use mathlib.Core.Option.{Option, none, some}
 use mathlib.Core.List.{List, _++_}
 use Prim.Native.Nat.{ℕ}
 use lib.ListN.{length, take}
-use Rattle.answers.specs.Answers.{bytesOf}
-use Rattle.answers.specs.declared.Compiled as declared
+use Rattle.answers.specs.Answers.{Told, countOf}
 use Rattle.language.specs.Verdict.{verdict}
-use Rattle.theorems.specs.Compile.{compileOf}
-use Rattle.compiler.specs.Compiles.{compiledOf}
+use Rattle.theorems.specs.Compile.{compileOf, compileAnswer}
 use Rattle.labels.specs.Header.{headerFor}
 use Rattle.tracing.specs.Chunks.{onlyLine, firstOf, fills}
 
@@ -16,10 +14,10 @@ abbrev pub printedBy : Option (List ℕ) → List ℕ → List ℕ → List ℕ 
 printedBy none header image rows free = header ++ fills 65537 image rows (firstOf image) free
 printedBy (some l) header image rows free = l
 
--- the same after a compile that answered c and left the buffer b
-abbrev pub printedAfter : List ℕ → List ℕ → declared.Compiled → List ℕ → ℕ → List ℕ
-printedAfter text rows c b free = printedBy (onlyLine c (length rows)) (headerFor (verdict text)) (take (bytesOf c) b) rows free
+-- the same after a compile that told c and left the buffer b
+abbrev pub printedAfter : List ℕ → List ℕ → Told ℕ → List ℕ → ℕ → List ℕ
+printedAfter text rows c b free = printedBy (onlyLine c (length rows)) (headerFor (verdict text)) (take (countOf c) b) rows free
 
 -- what is printed for a text and rows, where the image is compiled into the buffer b and lines are put into a buffer of so many bytes
 unfoldable pub printedOf : List ℕ → List ℕ → List ℕ → ℕ → List ℕ
-printedOf text rows b free = printedAfter text rows (compiledOf (compileOf text b .answer)) (compileOf text b .buffer) free
+printedOf text rows b free = printedAfter text rows (compileAnswer (compileOf text b .answer)) (compileOf text b .buffer) free

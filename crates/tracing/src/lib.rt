@@ -12,8 +12,8 @@ ghost use Rattle.tracing.specs.Reading.{short};
 ghost use Rattle.tracing.specs.Stored.{Puts};
 ghost use Rattle.tracing.specs.Chunks.{OpenedAt, lineOf, shown, room, Shows, goesOn, firstOf, nextOf, hasMore, fillBy, fillOf, Fills, begunOf};
 ghost use Rattle.answers.specs.declared.Compiled.the-variants.{Written};
-ghost use Rattle.theorems.specs.Compile.{compileOf};
-ghost use Rattle.compiler.specs.Compiles.{compiledOf};
+ghost use Rattle.answers.specs.Answers.{done, cycleTold};
+ghost use Rattle.theorems.specs.Compile.{compileOf, compileAnswer};
 
 mod printing;
 mod rows;
@@ -54,7 +54,7 @@ pub enum Begun {
 
 // The line of the row n for a cycle's answer, the state after it and its output row.
 fn show(answer: Cycled, place: u16, n: usize, row: &[i32], out: &mut [u8]) -> usize
-    ensures { λ r. ⌜ Puts (now (out .entry)) 0 (lineOf n answer place (now (row .entry))) (now (out .exit)) r ⌝ }
+    ensures { λ r. ⌜ Puts (now (out .entry)) 0 (lineOf n (cycleTold answer) place (now (row .entry))) (now (out .exit)) r ⌝ }
 {
     match answer {
         Cycled::Performed(lines) => printing::performed_line(out, n, place as usize, lines, row),
@@ -261,7 +261,7 @@ pub fn fill(image: &[u8], rows: &[u8], p: Progress, out: &mut [u8]) -> Filled
 
 // The beginning of a trace whose text was compiled to n bytes.
 fn begin(n: usize, length: usize, out: &mut [u8]) -> Begun
-    ensures { λ r. ⌜ (r ≡ begunOf (Written n) length (now (out .entry)) .0) × (now (out .exit) ≡ begunOf (Written n) length (now (out .entry)) .1) ⌝ }
+    ensures { λ r. ⌜ (r ≡ begunOf (done n) length (now (out .entry)) .0) × (now (out .exit) ≡ begunOf (done n) length (now (out .entry)) .1) ⌝ }
 {
     if 65536 < length {
         return Begun::Only(printing::refused_text(out, 14, 0));
@@ -271,8 +271,8 @@ fn begin(n: usize, length: usize, out: &mut [u8]) -> Begun
 
 // The beginning of the trace: the refusal of the text or of the rows, which is then all of it, or the image.
 pub fn start(text: &[u8], rows: &[u8], image: &mut [u8], out: &mut [u8]) -> Begun
-    ensures { λ r. ⌜ (r ≡ begunOf (compiledOf (compileOf (now (text .entry)) (now (image .entry)) .answer)) (length (now (rows .entry))) (now (out .entry)) .0)
-        × (now (out .exit) ≡ begunOf (compiledOf (compileOf (now (text .entry)) (now (image .entry)) .answer)) (length (now (rows .entry))) (now (out .entry)) .1)
+    ensures { λ r. ⌜ (r ≡ begunOf (compileAnswer (compileOf (now (text .entry)) (now (image .entry)) .answer)) (length (now (rows .entry))) (now (out .entry)) .0)
+        × (now (out .exit) ≡ begunOf (compileAnswer (compileOf (now (text .entry)) (now (image .entry)) .answer)) (length (now (rows .entry))) (now (out .entry)) .1)
         × (now (image .exit) ≡ compileOf (now (text .entry)) (now (image .entry)) .buffer) ⌝ }
 {
     match compiler::compile(text, image) {

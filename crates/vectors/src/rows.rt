@@ -1,8 +1,9 @@
 // The rows of a case, each by the cycle on the image and by the direct run from the text.
 ghost use mathlib.Core.Path.{_≡_};
 ghost use Prim.Native.Nat.{_≤_};
+ghost use Rattle.answers.specs.Answers.{cycleTold};
 ghost use Rattle.format.specs.Cycle.{cycleOf};
-ghost use Rattle.semantics.specs.Advances.{cycledOf};
+ghost use Rattle.semantics.specs.Advances.{cycleAnswer};
 use crate::print;
 use answers::Advanced;
 use answers::Cycled;
@@ -107,7 +108,7 @@ fn print_direct(
 
 // A cycle on an image by a state record of the caller's own, which is lent to it.
 fn advance(image: &[u8], s: State, inputs: &[i32], row: &mut [i32]) -> Advanced
-    ensures { λ a. ⌜ (a .answer ≡ cycledOf (cycleOf (now (image .entry)) s (now (inputs .entry)) (now (row .entry)) .answer))
+    ensures { λ a. ⌜ (cycleTold (a .answer) ≡ cycleAnswer (cycleOf (now (image .entry)) s (now (inputs .entry)) (now (row .entry)) .answer))
         × (a .state ≡ cycleOf (now (image .entry)) s (now (inputs .entry)) (now (row .entry)) .state)
         × (now (row .exit) ≡ cycleOf (now (image .entry)) s (now (inputs .entry)) (now (row .entry)) .row) ⌝ }
 {

@@ -1,8 +1,9 @@
 -- `bench::rabtishu_bench_opened` meets its contract: the rows on an image that opens, and none where it is refused. Assumes nothing.
-use mathlib.Core.Path.{_≡_, sym, _∙_}
-use Rattle.runtime.proofs.Whole.{not-opened-as}
+use mathlib.Core.Path.{_≡_, sym, _∙_, ap}
+use Rattle.loader.proofs.OpenLaws.{image-refused}
 use Rattle.bench.proofs.RowLaws.{closed-runs, runs-from}
 use borrow.Author.Needs.{needs}
+use Rattle.answers.specs.Answers.{openTold, numberOf, placeOf}
 use Rattle.bench.proofs.rabtishu_bench_opened.Statement.{statement}
 use Rattle.bench.proofs.rabtishu_bench_opened.Tie as tie
 
@@ -16,7 +17,7 @@ enum-known-opened : tie.Need-enum-known-opened
 enum-known-opened c = search needs
 
 opened-rows-requires : tie.Need-opened-rows-requires
-opened-rows-requires c κs = sym (c .before .before .opened .given .1) ∙ c .before .before .before .before .«open» .ensures
+opened-rows-requires c κs = sym (ap openTold (c .before .before .opened .given .1)) ∙ c .before .before .before .before .«open» .ensures
 
 enum-told : tie.Need-enum-told
 enum-told c = search needs
@@ -30,8 +31,9 @@ returns c =
 
 returns-2 : tie.Need-returns-2
 returns-2 c =
-    let g = not-opened-as (c .before .before .before .before .before .before .args .image .now) _ (sym (c .enum-told .given .1) ∙ c .before .before .«open» .ensures) in
-    closed-runs (c .before .before .before .before .before .before .args .image .now) (g .0) (g .1) (g .2) _ (c .before .before .before .before .before .before .args .inputs .now) (c .before .before .before .before .before .before .args .width) (c .before .before .before .before .before .before .args .count) (c .before .before .before .before .before .before .args .row .now)
+    let r = c .enum-told .given .0 .0 in
+    let g = image-refused (c .before .before .before .before .before .before .args .image .now) r (sym (ap openTold (c .enum-told .given .1)) ∙ c .before .before .«open» .ensures) in
+    closed-runs (c .before .before .before .before .before .before .args .image .now) (numberOf r) (placeOf r) g _ (c .before .before .before .before .before .before .args .inputs .now) (c .before .before .before .before .before .before .args .width) (c .before .before .before .before .before .before .args .count) (c .before .before .before .before .before .before .args .row .now)
 
 pub rabtishu-bench-opened-spec : {M : Type 1} → statement M
 rabtishu-bench-opened-spec =

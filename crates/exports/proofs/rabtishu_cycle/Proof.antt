@@ -20,7 +20,7 @@ cycled-requires : tie.Need-cycled-requires
 cycled-requires c κs =
     let a = c .before .before .before .before .before .before .args in
     let h = all-bytes (a .image .now) (λ k. omega (arith, c .before .before .before .before .before .shared-slice-known .given k)) in
-    cycle-narrow (a .image .now) h (c .before .before .before .to-state .result) (a .inputs .now) (a .row .now) (c .before .cycle .ensures .0)
+    cycle-narrow (a .image .now) h (c .before .before .before .to-state .result) (a .inputs .now) (a .row .now) (c .before .cycle .result .answer) (c .before .cycle .ensures .0)
 
 is-performed-requires : tie.Need-is-performed-requires
 is-performed-requires c κs = search needs
@@ -34,7 +34,7 @@ same-length c = search needs
 returns : tie.Need-returns
 returns c =
     let call : State → Called = (λ s. cycleOf (c .before .before .before .before .before .before .before .before .before .before .before .args .image .now) s (c .before .before .before .before .before .before .before .before .before .before .before .args .inputs .now) (c .before .before .before .before .before .before .before .before .before .before .before .args .row .now)) in
-    cycled-stored call (c .before .before .before .before .before .before .before .before .before .before .before .args .state .now) _ _ _ _ _ _ _ (c .before .before .before .before .before .before .before .before .to-state .ensures)
+    cycled-stored call (c .before .before .before .before .before .before .before .before .before .before .before .args .state .now) _ _ (c .before .before .before .before .before .before .cycle .result .answer) _ _ _ _ (c .before .before .before .before .before .before .before .before .to-state .ensures)
     (c .before .before .before .before .before .before .cycle .ensures .0) (c .before .before .before .before .before .before .cycle .ensures .1) (c .before .before .before .before .before .before .cycle .ensures .2) (c .before .before .before .before .cycled .ensures) (c .before .before .before .is-performed .ensures) (c .before .before .if1 .taken) (c .from-state .ensures)
 
 same-length-2 : tie.Need-same-length-2
@@ -43,7 +43,7 @@ same-length-2 c = search needs
 returns-2 : tie.Need-returns-2
 returns-2 c =
     let call : State → Called = (λ s. cycleOf (c .before .before .before .before .before .before .before .before .before .args .image .now) s (c .before .before .before .before .before .before .before .before .before .args .inputs .now) (c .before .before .before .before .before .before .before .before .before .args .row .now)) in
-    cycled-kept call (c .before .before .before .before .before .before .before .before .before .args .state .now) _ _ _ _ _ (c .before .before .before .before .before .before .to-state .ensures)
+    cycled-kept call (c .before .before .before .before .before .before .before .before .before .args .state .now) _ (c .before .before .before .before .cycle .result .answer) _ _ _ (c .before .before .before .before .before .before .to-state .ensures)
     (c .before .before .before .before .cycle .ensures .0) (c .before .before .before .before .cycle .ensures .2) (c .before .before .cycled .ensures) (c .before .is-performed .ensures) (c .if1 .left)
 
 pub rabtishu-cycle-spec : {M : Type 1} → statement M

@@ -1,6 +1,10 @@
 -- `exports::rabtishu_open` meets its contract: the opener's, its answer as three numbers, whose place has 32 bits. Assumes nothing.
 use mathlib.Core.Path.{ap, _∙_}
-use Rattle.exports.specs.Numbers.{openedNumbers}
+use Rattle.answers.specs.Answers.{Told}
+use Rattle.answers.specs.declared.Sections.{Sections}
+use Rattle.format.specs.Opening.{openOf}
+use Rattle.theorems.specs.CInterface.{numbersOf, uncounted}
+use Rattle.exports.proofs.CallLaws.{opened-numbers}
 use native.Mathlib.Omega.{arith}
 use Rattle.runtime.proofs.OpenedImage.{all-bytes}
 use Rattle.exports.proofs.NarrowLaws.{open-narrow}
@@ -14,10 +18,12 @@ open-requires c κs = search needs
 opened-requires : tie.Need-opened-requires
 opened-requires c κs =
     let b = c .before .before .args .image .now in
-    open-narrow b (all-bytes b (λ k. omega (arith, c .before .shared-slice-known .given k))) (c .«open» .ensures)
+    open-narrow b (all-bytes b (λ k. omega (arith, c .before .shared-slice-known .given k))) (c .«open» .result) (c .«open» .ensures)
 
 returns : tie.Need-returns
-returns c = c .opened .ensures ∙ ap openedNumbers (c .before .«open» .ensures)
+returns c =
+    let b = c .before .before .before .args .image .now in
+    c .opened .ensures ∙ (ap (λ (t : Told Sections). numbersOf (uncounted t)) (c .before .«open» .ensures) ∙ opened-numbers b (openOf b))
 
 pub rabtishu-open-spec : {M : Type 1} → statement M
 rabtishu-open-spec = tie.close (tie.spec open-requires opened-requires returns)

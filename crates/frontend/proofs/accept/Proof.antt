@@ -21,7 +21,7 @@ enum-known-lexed-2 : tie.Need-enum-known-lexed-2
 enum-known-lexed-2 c = search needs
 
 returns : tie.Need-returns
-returns c = λ z. front-lexed _ _ _ _ _ _ _ _ _ _ _ _ _ (c .before .before .before .before .before .before .before .before .before .before .before .before .before .before .before .before .before .before .before .lexed .given .1) (c .before .before .before .before .before .before .before .before .before .before .before .before .before .before .before .before .before .before .before .before .before .lex .ensures) (c .before .before .before .before .before .before .before .before .before .before .before .before .before .mark .ensures) refl refl refl refl (λ l ts t w h. c .parsed-text .ensures z l ts t w h)
+returns c = λ z. front-lexed _ _ _ _ _ _ _ _ _ _ (c .parsed-text .result) _ _ (c .before .before .before .before .before .before .before .before .before .before .before .before .before .before .before .before .before .before .before .lexed .given .1) (c .before .before .before .before .before .before .before .before .before .before .before .before .before .before .before .before .before .before .before .before .before .lex .ensures) (c .before .before .before .before .before .before .before .before .before .before .before .before .before .mark .ensures) refl refl refl refl (λ l ts t w h. c .parsed-text .ensures z l ts t w h)
 
 returns-2 : tie.Need-returns-2
 returns-2 c = λ z. front-not-lexed _ _ _ _ refl (sym (c .before .lexed2 .given .1) ∙ c .before .before .before .lex .ensures .answer)

@@ -24,7 +24,7 @@ unread-requires : tie.Need-unread-requires
 unread-requires c κs = search needs
 
 returns : tie.Need-returns
-returns c = λ z w ts T Q h. front-tree _ ts (c .before .before .before .before .before .before .before .before .before .before .before .before .before .before .before .before .before .parse .ensures .reads ts (T .short) h) T _ _ _ (c .before .before .before .before .before .before .before .before .before .before .before .before .before .before .before .parsing .given .1) Q refl refl refl refl (λ t i. c .ruled-text .ensures z w ts t i)
+returns c = λ z w ts T Q h. front-tree _ ts (c .before .before .before .before .before .before .before .before .before .before .before .before .before .before .before .before .before .parse .ensures .reads ts (T .short) h) T (c .ruled-text .result) _ _ (c .before .before .before .before .before .before .before .before .before .before .before .before .before .before .before .parsing .given .1) Q refl refl refl refl (λ t i. c .ruled-text .ensures z w ts t i)
 
 returns-2 : tie.Need-returns-2
 returns-2 c = λ z w ts T Q h. front-unread _ ts (c .before .before .before .before .before .parse .ensures .reads ts (T .short) h) T _ _ _ refl (c .before .before .before .parsing2 .given .1) (c .before .place-of .ensures) (c .unread .ensures)

@@ -25,7 +25,7 @@ returns : tie.Need-returns
 returns c = let d = design-of _ _ _ _ _ _ _ _ _ _ (c .before .before .before .before .accept .ensures (record { ops-size = refl; args-size = refl; lines-size = refl; inputs-size = refl; outputs-size = refl; variables-size = refl; at-outputs-size = refl; at-variables-size = refl })) (c .before .before .front .given .1) in fresh-accepted _ (d .process) (d .is-verdict) _ (c .fresh-design .ensures (d .process) (d .holds .declared .first-outputs .1) (d .holds .declared .first-variables .1))
 
 returns-2 : tie.Need-returns-2
-returns-2 c = fresh-refused _ _ (turned-of _ _ _ (c .before .before .before .before .accept .ensures (record { ops-size = refl; args-size = refl; lines-size = refl; inputs-size = refl; outputs-size = refl; variables-size = refl; at-outputs-size = refl; at-variables-size = refl })) (c .before .before .front2 .given .1)) _ (c .blank .ensures)
+returns-2 c = fresh-refused _ (c .before .before .front2 .given .0 .0) (turned-of _ _ _ (c .before .before .before .before .accept .ensures (record { ops-size = refl; args-size = refl; lines-size = refl; inputs-size = refl; outputs-size = refl; variables-size = refl; at-outputs-size = refl; at-variables-size = refl })) (c .before .before .front2 .given .1)) _ (c .blank .ensures)
 
 pub fresh-spec : {M : Type 1} → statement M
 fresh-spec =

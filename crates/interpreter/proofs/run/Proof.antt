@@ -26,7 +26,7 @@ returns : tie.Need-returns
 returns c = let d = design-of _ _ _ _ _ _ _ _ _ _ (c .before .before .before .before .before .before .before .before .before .accept .ensures (record { ops-size = refl; args-size = refl; lines-size = refl; inputs-size = refl; outputs-size = refl; variables-size = refl; at-outputs-size = refl; at-variables-size = refl })) (c .before .before .before .before .before .before .before .front .given .1) in run-accepted _ (c .before .before .before .before .before .before .before .before .before .before .before .before .before .before .before .before .before .before .before .args .s) (callOf (c .before .before .before .before .before .before .before .before .before .before .before .before .before .before .before .before .before .before .before .args .inputs .now) (c .before .before .before .before .before .before .before .before .before .before .before .before .before .before .before .before .before .before .before .args .row .now)) (d .process) (d .is-verdict) _ _ (c .before .run-design .ensures (d .process) _ _ (d .holds) (d .formed))
 
 returns-2 : tie.Need-returns-2
-returns-2 c = run-refused _ (c .before .before .before .before .before .before .before .before .before .before .before .before .before .args .s) (callOf (c .before .before .before .before .before .before .before .before .before .before .before .before .before .args .inputs .now) (c .before .before .before .before .before .before .before .before .before .before .before .before .before .args .row .now)) _ (turned-of _ _ _ (c .before .before .before .accept .ensures (record { ops-size = refl; args-size = refl; lines-size = refl; inputs-size = refl; outputs-size = refl; variables-size = refl; at-outputs-size = refl; at-variables-size = refl })) (c .before .front2 .given .1))
+returns-2 c = run-refused _ (c .before .before .before .before .before .before .before .before .before .before .before .before .before .args .s) (callOf (c .before .before .before .before .before .before .before .before .before .before .before .before .before .args .inputs .now) (c .before .before .before .before .before .before .before .before .before .before .before .before .before .args .row .now)) (c .before .front2 .given .0 .0) (turned-of _ _ _ (c .before .before .before .accept .ensures (record { ops-size = refl; args-size = refl; lines-size = refl; inputs-size = refl; outputs-size = refl; variables-size = refl; at-outputs-size = refl; at-variables-size = refl })) (c .before .front2 .given .1))
 
 pub run-spec : {M : Type 1} → statement M
 run-spec =

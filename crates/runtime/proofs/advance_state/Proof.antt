@@ -45,12 +45,12 @@ use denote.Triple.Clauses.{Lasts, ensured, lasts}
 use denote.Triple.Table.{entered, cited}
 use denote.Triple.Walked.{says, Stays, stay-none-slice, stay-ref, gave-slice, walkOf, AllGo, goes-none-slice, goes-ref, goes-gave-slice, Walks, ends-at, walked, walk-meets}
 use denote.Exit.{yes}
-use Rattle.answers.specs.Answers.{linesOf}
+use Rattle.answers.specs.Answers.{linesOf, cycleTold}
 use Rattle.answers.specs.declared.State.{State}
 use Rattle.answers.specs.declared.Cycled.{Cycled}
 use Rattle.format.specs.Cycle.{cycleOf}
 use Rattle.semantics.specs.Calls.{Called}
-use Rattle.semantics.specs.Advances.{cycledOf}
+use Rattle.semantics.specs.Advances.{cycleAnswer}
 use Rattle.runtime.specs.Calls.{wayOf, firstReach}
 use Rattle.runtime.specs.Outcomes.{Outcomes}
 use Rattle.runtime.specs.declared.Outcome.{Outcome}
@@ -127,7 +127,7 @@ module _ {M : Type 1} (𝓤 : URA M) (H : Heap 𝓤) (A : Atoms 𝓤) (W : Given
 
   abbrev Ends : Cycled → State → List ℤ → Type 0
   Ends n t zs =
-      (n ≡ cycledOf (R .answer)) × (t ≡ R .state) × (zs ≡ R .row) × (linesOf n ≡ length (wayOf (R .answer))) × (linesOf n ≤ firstReach (x₀ .now) (h .place) + 1)
+      (cycleTold n ≡ cycleAnswer (R .answer)) × (t ≡ R .state) × (zs ≡ R .row) × (linesOf n ≡ length (wayOf (R .answer))) × (linesOf n ≤ firstReach (x₀ .now) (h .place) + 1)
 
   -- what either arm ends in
   ends : (r : Outcome) (t : State) (zs : List ℤ) → Says r zs → t ≡ R .state → Ends (r .answer) t zs

@@ -1,7 +1,8 @@
 -- `runtime::cycle` meets its contract: the opener refuses the image, or the cycle on its sections is the cycle on the image. Assumes nothing.
-use mathlib.Core.Path.{sym, _∙_}
+use mathlib.Core.Path.{sym, _∙_, ap}
 use native.Mathlib.Omega.{arith}
 use borrow.Author.Needs.{needs}
+use Rattle.answers.specs.Answers.{openTold}
 use Rattle.runtime.proofs.OpenedImage.{all-bytes}
 use Rattle.runtime.proofs.Whole.{refused-advance, whole}
 use Rattle.runtime.proofs.cycle.Statement.{statement}
@@ -14,7 +15,7 @@ enum-known-opened : tie.Need-enum-known-opened
 enum-known-opened c = search needs
 
 cycle-opened-requires : tie.Need-cycle-opened-requires
-cycle-opened-requires c κs = sym (c .before .before .opened .given .1) ∙ c .before .before .before .before .«open» .ensures
+cycle-opened-requires c κs = sym (ap openTold (c .before .before .opened .given .1)) ∙ c .before .before .before .before .«open» .ensures
 
 enum-known-opened-2 : tie.Need-enum-known-opened-2
 enum-known-opened-2 c = search needs
@@ -31,7 +32,7 @@ returns-2 : tie.Need-returns-2
 returns-2 c =
     let a = c .before .before .before .before .before .args in
     whole (a .image .now) (all-bytes (a .image .now) (λ k. omega (arith, c .before .before .before .before .shared-slice-known .given k))) (a .s) (a .inputs .now) (a .row .now) _ _
-    (refused-advance (a .image .now) _ (sym (c .before .opened2 .given .1) ∙ c .before .before .before .«open» .ensures) (a .s) (a .inputs .now) (a .row .now))
+    (refused-advance (a .image .now) (c .before .opened2 .given .0 .0) (sym (ap openTold (c .before .opened2 .given .1)) ∙ c .before .before .before .«open» .ensures) (a .s) (a .inputs .now) (a .row .now))
 
 pub cycle-spec : {M : Type 1} → statement M
 cycle-spec =

@@ -1,6 +1,7 @@
 -- `runtime::fresh` meets its contract: the opener refuses the image, or its signature section gives the fresh state. Assumes nothing.
-use mathlib.Core.Path.{sym, _∙_}
+use mathlib.Core.Path.{sym, _∙_, ap}
 use borrow.Author.Needs.{needs}
+use Rattle.answers.specs.Answers.{openTold}
 use Rattle.runtime.proofs.Start.{fresh-answer, fresh-refused}
 use Rattle.runtime.proofs.fresh.Statement.{statement}
 use Rattle.runtime.proofs.fresh.Tie as tie
@@ -12,7 +13,7 @@ enum-known-opened : tie.Need-enum-known-opened
 enum-known-opened c = search needs
 
 fresh-on-sections-requires : tie.Need-fresh-on-sections-requires
-fresh-on-sections-requires c κs = sym (c .before .opened .given .1) ∙ c .before .before .before .«open» .ensures
+fresh-on-sections-requires c κs = sym (ap openTold (c .before .opened .given .1)) ∙ c .before .before .before .«open» .ensures
 
 enum-known-opened-2 : tie.Need-enum-known-opened-2
 enum-known-opened-2 c = search needs
@@ -22,11 +23,11 @@ blank-requires c κs = search needs
 
 returns : tie.Need-returns
 returns c =
-    (fresh-answer (c .before .before .before .before .before .before .args .image .now) (c .before .before .opened .given .0 .0) (sym (c .before .before .opened .given .1) ∙ c .before .before .before .before .«open» .ensures), c .fresh-on-sections .ensures)
+    (fresh-answer (c .before .before .before .before .before .before .args .image .now) (c .before .before .opened .given .0 .0) (sym (ap openTold (c .before .before .opened .given .1)) ∙ c .before .before .before .before .«open» .ensures), c .fresh-on-sections .ensures)
 
 returns-2 : tie.Need-returns-2
 returns-2 c =
-    fresh-refused (c .before .before .before .before .before .before .args .image .now) _ (sym (c .before .before .opened2 .given .1) ∙ c .before .before .before .before .«open» .ensures) _ (c .blank .ensures)
+    fresh-refused (c .before .before .before .before .before .before .args .image .now) (c .before .before .opened2 .given .0 .0) (sym (ap openTold (c .before .before .opened2 .given .1)) ∙ c .before .before .before .before .«open» .ensures) _ (c .blank .ensures)
 
 pub fresh-spec : {M : Type 1} → statement M
 fresh-spec =

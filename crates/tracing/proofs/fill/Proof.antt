@@ -1,7 +1,8 @@
 -- `tracing::fill` meets its contract: the opener accepts the image, and lines are put, or it refuses the image. Assumes nothing.
-use mathlib.Core.Path.{sym, _∙_}
+use mathlib.Core.Path.{sym, _∙_, ap}
 use Rattle.tracing.proofs.FillLaws.{fill-opened, fill-refused}
 use borrow.Author.Needs.{needs}
+use Rattle.answers.specs.Answers.{openTold}
 use Rattle.tracing.proofs.fill.Statement.{statement}
 use Rattle.tracing.proofs.fill.Tie as tie
 
@@ -12,7 +13,7 @@ enum-known-opened : tie.Need-enum-known-opened
 enum-known-opened c = search needs
 
 fill-opened-requires : tie.Need-fill-opened-requires
-fill-opened-requires c κs = sym (c .before .before .opened .given .1) ∙ c .before .before .before .before .«open» .ensures
+fill-opened-requires c κs = sym (ap openTold (c .before .before .opened .given .1)) ∙ c .before .before .before .before .«open» .ensures
 
 enum-told : tie.Need-enum-told
 enum-told c = search needs
@@ -21,10 +22,10 @@ same-length : tie.Need-same-length
 same-length c = search needs
 
 returns : tie.Need-returns
-returns c = fill-opened _ _ _ _ _ _ _ (sym (c .before .before .before .before .before .opened .given .1) ∙ c .before .before .before .before .before .before .before .«open» .ensures) (c .before .before .fill-opened .ensures)
+returns c = fill-opened _ _ _ _ _ _ _ (sym (ap openTold (c .before .before .before .before .before .opened .given .1)) ∙ c .before .before .before .before .before .before .before .«open» .ensures) (c .before .before .fill-opened .ensures)
 
 returns-2 : tie.Need-returns-2
-returns-2 c = fill-refused _ _ _ _ _ (sym (c .enum-told .given .1) ∙ c .before .before .«open» .ensures)
+returns-2 c = fill-refused _ _ _ _ (c .enum-told .given .0 .0) (sym (ap openTold (c .enum-told .given .1)) ∙ c .before .before .«open» .ensures)
 
 pub fill-spec : {M : Type 1} → statement M
 fill-spec =

@@ -35,7 +35,7 @@ same-length-2 : tie.Need-same-length-2
 same-length-2 c = search needs
 
 returns : tie.Need-returns
-returns c = start-written _ _ _ _ _ _ (c .before .before .before .before .before .before .before .before .before .compile .ensures .0) (c .before .before .before .before .before .before .before .before .before .compile .ensures .1) _ _ _ (c .before .before .before .before .before .n .given .1) (c .before .before .begin .ensures)
+returns c = start-written (c .before .before .before .before .before .before .before .before .before .compile .result) _ _ _ _ _ (c .before .before .before .before .before .before .before .before .before .compile .ensures .0) (c .before .before .before .before .before .before .before .before .before .compile .ensures .1) _ _ _ (c .before .before .before .before .before .n .given .1) (c .before .before .begin .ensures)
 
 same-length-3 : tie.Need-same-length-3
 same-length-3 c = search needs
@@ -44,7 +44,7 @@ same-length-4 : tie.Need-same-length-4
 same-length-4 c = search needs
 
 returns-2 : tie.Need-returns-2
-returns-2 c = start-refused _ _ _ _ _ _ (c .before .before .before .before .before .before .before .before .before .before .before .compile .ensures .0) (c .before .before .before .before .before .before .before .before .before .before .before .compile .ensures .1) _ _ _ _ _ (c .before .before .before .before .before .before .before .r .given .1) (c .before .before .before .before .before .number .ensures) (c .before .before .before .place .ensures) (c .before .before .refused-text .ensures)
+returns-2 c = start-refused (c .before .before .before .before .before .before .before .before .before .before .before .compile .result) _ _ _ _ _ (c .before .before .before .before .before .before .before .before .before .before .before .compile .ensures .0) (c .before .before .before .before .before .before .before .before .before .before .before .compile .ensures .1) _ _ _ _ _ (c .before .before .before .before .before .before .before .r .given .1) (c .before .before .before .before .before .number .ensures) (c .before .before .before .place .ensures) (c .before .before .refused-text .ensures)
 
 pub start-spec : {M : Type 1} → statement M
 start-spec =

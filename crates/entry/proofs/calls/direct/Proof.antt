@@ -47,10 +47,11 @@ use denote.Triple.Walked.{says, Stays, stay-none-slice, stay-ref, gave-slice, wa
 use denote.Exit.{yes}
 use Rattle.answers.specs.declared.State.{State}
 use Rattle.answers.specs.declared.Cycled.{Cycled}
+use Rattle.answers.specs.Answers.{cycleTold}
 use Rattle.semantics.specs.Calls.{Called}
 use Rattle.behaviour.specs.Direct.{directOf}
 use Rattle.direct.specs.Calls.{callOf}
-use Rattle.semantics.specs.Advances.{cycledOf}
+use Rattle.semantics.specs.Advances.{cycleAnswer}
 use Rattle.runtime.proofs.Stored.{is-false}
 use Rattle.entry.specs.Calling.{DirectOutcomes}
 use Rattle.entry.specs.declared.calls.Outcome.{Outcome}
@@ -125,7 +126,7 @@ module _ {M : Type 1} (𝓤 : URA M) (H : Heap 𝓤) (A : Atoms 𝓤) (W : Given
   Says r zs = DirectOutcomes (x₀ .now) h (x₂ .now) (x₃ .now) r zs
 
   abbrev Ends : Cycled → State → List ℤ → Type 0
-  Ends n t zs = (n ≡ cycledOf (R .answer)) × (t ≡ R .state) × (zs ≡ R .row)
+  Ends n t zs = (cycleTold n ≡ cycleAnswer (R .answer)) × (t ≡ R .state) × (zs ≡ R .row)
 
   -- what either arm ends in
   ends : (r : Outcome) (t : State) (zs : List ℤ) → Says r zs → t ≡ R .state → Ends (r .answer) t zs

@@ -5,7 +5,7 @@ use lib.IntN.{pos}
 use mir.Syntax.{w32}
 use mir.Val.{SFits}
 use mir.Facts.{toZ-ofZ}
-use Rattle.exports.specs.Slots.{placeOfC}
+use Rattle.theorems.specs.CInterface.{placeOfC}
 use Rattle.exports.proofs.RecordLaws.{state-of}
 use borrow.Author.Needs.{needs}
 use Rattle.exports.proofs.record.to_state.Statement.{statement}

@@ -46,12 +46,12 @@ use denote.Triple.Clauses.{Lasts, ensured, lasts}
 use denote.Triple.Table.{entered, cited}
 use denote.Triple.Walked.{says, Stays, stay-none, stay-none-slice, gave-slice, walkOf, AllGo, goes-none, goes-none-slice, goes-gave-slice, Walks, ends-at, walked, walk-meets}
 use denote.Exit.{yes}
-use Rattle.answers.specs.Answers.{linesOf}
+use Rattle.answers.specs.Answers.{linesOf, cycleTold}
 use Rattle.answers.specs.declared.State.{State}
 use Rattle.answers.specs.declared.Cycled.{Cycled}
 use Rattle.format.specs.Cycle.{cycleOf}
 use Rattle.semantics.specs.Calls.{Called}
-use Rattle.semantics.specs.Advances.{cycledOf}
+use Rattle.semantics.specs.Advances.{cycleAnswer}
 use Rattle.runtime.specs.Calls.{wayOf, firstReach}
 use Rattle.answers.proofs.State as S
 use Rattle.answers.proofs.State.Laws as S′
@@ -129,7 +129,7 @@ module _ {M : Type 1} (𝓤 : URA M) (H : Heap 𝓤) (A : Atoms 𝓤) (W : Given
 
   abbrev Says : Cycled → State → List ℤ → Type 0
   Says n t zs =
-      (n ≡ cycledOf (R .answer)) × (t ≡ R .state) × (zs ≡ R .row) × (linesOf n ≡ length (wayOf (R .answer))) × (linesOf n ≤ firstReach (x₀ .now) (h .place) + 1)
+      (cycleTold n ≡ cycleAnswer (R .answer)) × (t ≡ R .state) × (zs ≡ R .row) × (linesOf n ≡ length (wayOf (R .answer))) × (linesOf n ≤ firstReach (x₀ .now) (h .place) + 1)
 
   abbrev Own₀ : Fml
   Own₀ = ShrSlice (named 0) κ₀ u8 .own x₀ (v₀ ∷ [])
@@ -148,7 +148,7 @@ module _ {M : Type 1} (𝓤 : URA M) (H : Heap 𝓤) (A : Atoms 𝓤) (W : Given
       qed W ((‵ (flft κ₀ q₀) ⊛ ‵ (flft (ν ∷ []) fullShare) ⊛ ‵ (flft κ₁ q₁) ⊛ ‵ (flft κ₂ q₂) ⊛ ‵ ftrue) ∷ ‵ (owns (ShrSlice (named 0) κ₀ u8 ∷ MutRef (named 1) (ν ∷ []) S.the-row ∷ ShrSlice (named 2) κ₁ i32 ∷ MutSlice (named 3) κ₂ i32 ∷ []) (a′ ν l δ) (vals′ ν l)) ∷ []) ∵
       join ! $ frame ! $ done !
 
-  exits : Is S.the-row h (vs h ∷ []) → (d : Advanced) (zs : List ℤ) → Is D.the-row d (vd d ∷ []) → (d .answer ≡ cycledOf (R .answer)) × (d .state ≡ R .state) × (zs ≡ R .row) → length zs ≡ length (x₃ .now) → ent 𝓤 (⋆ 𝓤 H A (‵ (flft κ₂ q₂) ∷ ‵ (flft κ₁ q₁) ∷ ‵ (flft κ₀ q₀) ∷ ‵ (finally i32 (x₃ .name) zs) ∷ ‵ Own₂ ∷ ‵ Own₀ ∷ [])) (Post (vd d))
+  exits : Is S.the-row h (vs h ∷ []) → (d : Advanced) (zs : List ℤ) → Is D.the-row d (vd d ∷ []) → (cycleTold (d .answer) ≡ cycleAnswer (R .answer)) × (d .state ≡ R .state) × (zs ≡ R .row) → length zs ≡ length (x₃ .now) → ent 𝓤 (⋆ 𝓤 H A (‵ (flft κ₂ q₂) ∷ ‵ (flft κ₁ q₁) ∷ ‵ (flft κ₀ q₀) ∷ ‵ (finally i32 (x₃ .name) zs) ∷ ‵ Own₂ ∷ ‵ Own₀ ∷ [])) (Post (vd d))
   exits g d zs gd e l =
       qed W (‵ (flft κ₂ q₂) ∷ ‵ (flft κ₁ q₁) ∷ ‵ (flft κ₀ q₀) ∷ ‵ (finally i32 (x₃ .name) zs) ∷ ‵ Own₂ ∷ ‵ Own₀ ∷ []) ∵
       suffices ! _ (ends-at 𝓤 H A advance.ended stayed (advance.clauses 𝓤 H A at-mem run) W ((κs, (q₀, (q₁, (q₂, tt))), tt, a, vals), tt) (vd d) d (tt, (tt, (tt, (zs, tt)))) (tt, (tt, (tt, (l, tt))))) $
