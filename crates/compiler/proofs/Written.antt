@@ -26,7 +26,7 @@ use Rattle.format.specs.Opening.{openOf}
 use Rattle.format.specs.Encode.{tableOf, encode}
 use Rattle.format.proofs.Sections.{form1-length}
 use Rattle.images.proofs.Processes.{process-good, encode-opens, encode-bytes}
-use Rattle.theorems.specs.Compile.{Compiled, Compile, written, not-compiled, compileOf, compileAnswer}
+use Rattle.theorems.specs.Compile.{Compiled, written, not-compiled, compileOf, compileAnswer}
 use Rattle.behaviour.specs.Direct.{directFresh, freshText}
 use Rattle.theorems.proofs.Size.{valid-fits}
 use Rattle.theorems.proofs.Demand3.{wrote, demand3}

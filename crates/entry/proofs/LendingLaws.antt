@@ -1,7 +1,6 @@
 -- Laws of the opened image and of parts of its bytes. Assumes nothing.
 use Prim.Native.Nat.{ℕ, _+_, _-_, _≤_, _<_}
-use native.Mathlib.Omega.{arith}
-use mathlib.Core.Path.{_≡_, refl, sym, ap, _∙_}
+use mathlib.Core.Path.{_≡_, sym, ap, _∙_}
 use mathlib.Core.Bool.{true, false, cond}
 use mathlib.Core.List.{List, []}
 use lib.ListN.{length, take, drop}
@@ -10,8 +9,8 @@ use denote.Ref.{RefT, now}
 use Rattle.answers.specs.Answers.{done, refusedBy, numberOf, placeOf}
 use Rattle.answers.specs.declared.Refusal.{Refusal}
 use Rattle.answers.specs.declared.Sections.{Sections}
-use Rattle.format.specs.Opening.{Opened, opened, not-opened, openOf}
-use Rattle.loader.specs.Open.{placesOf, openAnswer}
+use Rattle.format.specs.Opening.{opened, openOf}
+use Rattle.loader.specs.Open.{openAnswer}
 use Rattle.loader.proofs.OpenLaws.{image-opened, image-refused}
 use Rattle.entry.specs.Lending.{noSections, openingOf, within, Lends}
 use Rattle.entry.specs.declared.Opening.{Opening}

@@ -8,7 +8,6 @@ use lib.IntN.{ℤ}
 use Rattle.answers.specs.declared.State.{State}
 use Rattle.answers.specs.declared.Started as declared
 use Rattle.answers.specs.declared.Cycled.{Cycled}
-use Rattle.answers.specs.declared.Sections.{Sections}
 use Rattle.answers.specs.Answers.{Told, isDone, isPerformed, isFresh, freshTold, cycleTold}
 use Rattle.semantics.proofs.Basic.{false-true}
 use Rattle.semantics.specs.Records.{Started, fresh, not-started}

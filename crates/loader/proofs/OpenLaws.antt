@@ -16,7 +16,7 @@ use Rattle.answers.specs.declared.Refusal.{Refusal}
 use Rattle.format.specs.Words.{onlyIf}
 use Rattle.format.specs.Image.{Sections, Table}
 use Rattle.format.specs.Signature.{Signature, signatureOf}
-use Rattle.format.specs.Opening.{raws, sectionsOf, Lined, lined, bad-at, openLines, rawReaches, Opened, opened, not-opened, tabled, openTable, unless12, rawLines, openSections, unless11, openOf}
+use Rattle.format.specs.Opening.{raws, sectionsOf, Lined, lined, bad-at, openLines, Opened, opened, not-opened, tabled, openTable, unless12, rawLines, openSections, unless11, openOf}
 use Rattle.loader.specs.Sections.{isSome, signatureLength, linesLength, codeLength, linesStart, codeStart, parts, headed, paired, whole, sectioned}
 use Rattle.loader.specs.Code.{orEmpty, signatureAt}
 use Rattle.loader.specs.Lines.{storedReaches, judged, linesFrom}

@@ -22,7 +22,7 @@ use Rattle.semantics.specs.Calls.{Answer, performed, not-performed, Called}
 use Rattle.images.specs.Outcome.{Outcome, row-refused, state-refused, operator-refused, performs}
 use Rattle.images.proofs.Outcomes.{row-outcome}
 use Rattle.loader.specs.Sections.{isSome, linesStart, codeStart}
-use Rattle.loader.specs.Open.{placesOf, openAnswer}
+use Rattle.loader.specs.Open.{openAnswer}
 use Rattle.loader.proofs.OpenLaws.{lengths, signature-part, lines-part, code-part, image-opened, opened-sections, image-refused}
 use Rattle.answers.specs.declared.Advanced.{Advanced}
 use Rattle.cycle.specs.Ran.{Checked}

@@ -1,6 +1,6 @@
 -- The C interface: the three numbers are the definition's own, and the 49 numbers handed from call to call are those of the state record handed from call to
 -- call. Assumes nothing.
-use Prim.Native.Nat.{ℕ, _≤_, _<_}
+use Prim.Native.Nat.{ℕ, _<_}
 use native.Mathlib.Omega.{arith}
 use mathlib.Core.Path.{_≡_, refl, sym, ap, _∙_, subst}
 use mathlib.Core.List.{List, [], _∷_, map}
@@ -8,21 +8,18 @@ use lib.ListN.{length, take}
 use lib.Seq.{take-all, take-at, drop-at}
 use lib.IntN.{ℤ}
 use borrow.Author.Tests.{lt-ltb}
-use Rattle.answers.specs.Answers.{Told}
 use Rattle.answers.specs.declared.State.{State}
-use Rattle.language.specs.Validity.{Valid}
 use Rattle.language.proofs.Judged.{accepts}
 use Rattle.language.proofs.WellFormed.{valid-well-formed}
 use Rattle.semantics.specs.Equations.{beginning}
 use Rattle.semantics.specs.Rows.{Kept, atFirst}
 use Rattle.semantics.specs.Records.{Started, stateFor, fresh}
 use Rattle.semantics.specs.Calls.{performed, not-performed, Called, Call}
-use Rattle.semantics.specs.Advances.{cycleAnswer}
 use Rattle.semantics.specs.Comparison.{laid, equationCalls}
 use Rattle.semantics.proofs.Slots.{pad-length}
 use Rattle.format.specs.Words.{Bytes}
 use Rattle.format.specs.Image.{Table}
-use Rattle.format.specs.Opening.{Opened, opened, openOf}
+use Rattle.format.specs.Opening.{opened, openOf}
 use Rattle.format.specs.State.{freshOf}
 use Rattle.format.specs.Cycle.{cycleOf, callsOf}
 use Rattle.format.specs.Encode.{encode}
@@ -37,7 +34,7 @@ use Rattle.theorems.specs.CInterface.{numbersOf, stateOfC, cOfState, Lef
 use Rattle.theorems.specs.Promises as P
 use Rattle.theorems.specs.Promises.{ToldInC, CallsInC, seenInC, refusedNumbers, doneNumbers}
 use Rattle.theorems.proofs.Demand1.{demand1}
-use Rattle.theorems.proofs.Demand3.{Wrote, wrote, demand3}
+use Rattle.theorems.proofs.Demand3.{wrote, demand3}
 use Rattle.theorems.proofs.Size.{valid-fits}
 use Rattle.theorems.proofs.Untouched.{direct-untouched}
 

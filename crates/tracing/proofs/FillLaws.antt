@@ -11,7 +11,6 @@ use lib.Seq.{sets, length-sets, take-all}
 use borrow.Author.Tests.{le-leb, lt-leb, leb-true}
 use Rattle.answers.specs.declared.Refusal.{Refusal}
 use Rattle.answers.specs.declared.Sections.{Sections}
-use Rattle.answers.specs.declared.Opened.the-variants.{Image, NotOpened}
 use Rattle.answers.specs.Answers.{done, refusedBy}
 use Rattle.loader.specs.Open.{openAnswer}
 use Rattle.format.specs.Words.{Bytes}
