@@ -7,6 +7,7 @@
 
 pub mod answer;
 pub mod board;
+pub mod caller;
 pub mod classes;
 pub mod clock;
 pub mod compare;

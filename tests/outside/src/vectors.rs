@@ -11,8 +11,8 @@ use crate::state::{State, BEGINNING, OUTPUTS, VARIABLES};
 use crate::trace::trace;
 
 /// What buffers and output rows hold before a call.
-const BYTE: u8 = 165;
-const WORD: i32 = 99;
+pub(crate) const BYTE: u8 = 165;
+pub(crate) const WORD: i32 = 99;
 /// An image of more bytes is told by its first and last ones and two sums.
 const WHOLE: usize = 1024;
 const PART: usize = 64;
@@ -134,16 +134,16 @@ fn case_answers(out: &mut String, case: &Case) {
     run(out, case, image);
 }
 
-fn refused(out: &mut String, answer: Answer) {
+pub(crate) fn refused(out: &mut String, answer: Answer) {
     write!(out, " refused {} {}", answer[0], answer[1]).expect("written");
 }
 
-fn untouched(out: &mut String, buffer: &[u8]) {
+pub(crate) fn untouched(out: &mut String, buffer: &[u8]) {
     let all = buffer.iter().all(|byte| *byte == BYTE);
     out.push_str(if all { " untouched" } else { " touched" });
 }
 
-fn hexadecimal(out: &mut String, bytes: &[u8]) {
+pub(crate) fn hexadecimal(out: &mut String, bytes: &[u8]) {
     out.push(' ');
     for byte in bytes {
         write!(out, "{byte:02x}").expect("written");
@@ -180,7 +180,7 @@ fn compiled_into(out: &mut String, text: &[u8], image: &[u8], room: usize) {
 }
 
 /// A call's answer, the output row and the state.
-fn cycled(out: &mut String, answer: Answer, row: &[i32], state: &State) {
+pub(crate) fn cycled(out: &mut String, answer: Answer, row: &[i32], state: &State) {
     match answer {
         [0, _, count] => write!(out, " {count}").expect("written"),
         _ => refused(out, answer),
@@ -193,7 +193,7 @@ fn cycled(out: &mut String, answer: Answer, row: &[i32], state: &State) {
 }
 
 /// The place, and the slots that are not 0.
-fn print_state(out: &mut String, state: &State) {
+pub(crate) fn print_state(out: &mut String, state: &State) {
     write!(out, " at {}", state[0]).expect("written");
     for (label, slots) in [("o", OUTPUTS..VARIABLES), ("v", VARIABLES..49)] {
         for (k, value) in state[slots].iter().enumerate() {

@@ -1,0 +1,45 @@
+// The operations that take the caller's own state record by `&mut`, one function for each: a record is lent to the operation, and stands beside its answer
+// as the operation has left it.
+use answers::Advanced;
+use answers::FreshState;
+use answers::State;
+
+// The fresh state of an image.
+pub(crate) fn fresh(image: &[u8], s: State) -> FreshState {
+    let mut state = s;
+    let answer = entry::fresh(image, &mut state);
+    FreshState {
+        state: state,
+        answer: answer,
+    }
+}
+
+// The fresh state of a text.
+pub(crate) fn direct_fresh(text: &[u8], s: State) -> FreshState {
+    let mut state = s;
+    let answer = entry::direct_fresh(text, &mut state);
+    FreshState {
+        state: state,
+        answer: answer,
+    }
+}
+
+// A cycle on an image.
+pub(crate) fn cycle(image: &[u8], s: State, inputs: &[i32], row: &mut [i32]) -> Advanced {
+    let mut state = s;
+    let answer = entry::cycle(image, &mut state, inputs, row);
+    Advanced {
+        state: state,
+        answer: answer,
+    }
+}
+
+// A cycle from a text.
+pub(crate) fn direct(text: &[u8], s: State, inputs: &[i32], row: &mut [i32]) -> Advanced {
+    let mut state = s;
+    let answer = entry::direct(text, &mut state, inputs, row);
+    Advanced {
+        state: state,
+        answer: answer,
+    }
+}
