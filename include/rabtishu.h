@@ -11,7 +11,9 @@
  *   outputs         no numbers, one for each output
  *   state           49 numbers: the place, 16 output slots, 32 variable slots
  *   answer          3 numbers: the refusal's number or 0; its place or 0; a count
- * Each pointer with a length must point to that many elements; state and answer must point to 49 and 3.
+ * Each pointer with a length must point to that many elements; state and answer must point to 49 and 3. Each must be aligned for its type.
+ * What is read must be initialised: text and inputs in every call; image in rabtishu_open, rabtishu_fresh and rabtishu_cycle; all 49 numbers of state in
+ * rabtishu_cycle and rabtishu_direct. The rest is only written: the buffer of rabtishu_compile, outputs, state in the two fresh calls, answer.
  * What is written (image, outputs, state, answer) must not overlap anything else that the call is lent.
  * A length of 0 is fine; nothing is then read or written through its pointer, which may be NULL.
  *

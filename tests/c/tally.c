@@ -1,4 +1,5 @@
-/* Document 01's tally through the C interface: compiled, opened, run by table and by text, and calls that are refused. Prints what `expected` holds. */
+/* Document 01's tally through the C interface: compiled, opened, run by table and by text, and calls that are refused; then every function with NULL and
+ * length 0 in the place of each slice that may be empty. Prints what `expected` holds. */
 #include "rabtishu.h"
 
 #include <stdio.h>
@@ -10,6 +11,11 @@ static const char tally[] =
     "while s < 10 loop s := s + d; wait until clk = '1'; end loop;\n"
     "total <= s; s := 0; wait until clk = '1';\n"
     "end process; end a;\n";
+
+/* A process without data inputs and outputs: its rows are empty. */
+static const char bare[] =
+    "entity bare is port (clk : in std_logic); end bare;\n"
+    "architecture a of bare is begin process begin wait until clk = '1'; end process; end a;\n";
 
 static const int32_t rows[] = {7, 7, 1, -5, INT32_MIN, 20};
 
@@ -76,6 +82,90 @@ static void refused(const uint8_t *image, size_t n, int32_t place, int32_t slot)
     printf("%s\n", memcmp(before, state, sizeof state) || row != 99 ? "altered" : "untouched");
 }
 
+static void state_told(const int32_t state[49])
+{
+    printf("%s\n", guarded(state, 49 * sizeof state[0]) ? "untouched" : "altered");
+}
+
+/* NULL for the text or the image. */
+static void without_bytes(void)
+{
+    uint8_t image[4];
+    int32_t state[49], row = 99;
+    uint32_t answer[3];
+    memset(image, 0xa5, sizeof image);
+    memset(state, 0xa5, sizeof state);
+    rabtishu_compile(NULL, 0, image, sizeof image, answer);
+    told("compile without text", answer);
+    printf("%s\n", guarded(image, sizeof image) ? "untouched" : "altered");
+    rabtishu_compile(NULL, 0, NULL, 0, answer);
+    told("compile without text and buffer", answer);
+    rabtishu_open(NULL, 0, answer);
+    told("open without image", answer);
+    rabtishu_fresh(NULL, 0, state, answer);
+    told("fresh without image", answer);
+    state_told(state);
+    rabtishu_cycle(NULL, 0, state, rows, 1, &row, 1, answer);
+    told("cycle without image", answer);
+    rabtishu_cycle(NULL, 0, state, NULL, 0, NULL, 0, answer);
+    told("cycle without image and rows", answer);
+    state_told(state);
+    rabtishu_direct_fresh(NULL, 0, state, answer);
+    told("direct fresh without text", answer);
+    state_told(state);
+    rabtishu_direct(NULL, 0, state, rows, 1, &row, 1, answer);
+    told("direct without text", answer);
+    rabtishu_direct(NULL, 0, state, NULL, 0, NULL, 0, answer);
+    told("direct without text and rows", answer);
+    state_told(state);
+    printf("row %d\n", row);
+    printf("token at 0 without text: %zu\n", rabtishu_token_at(NULL, 0, 0));
+    printf("token at 5 without text: %zu\n", rabtishu_token_at(NULL, 0, 5));
+}
+
+/* NULL for the buffer, the input row or the output row: too short for tally. */
+static void without_room(const uint8_t *image, size_t n)
+{
+    int32_t state[49], row = 99;
+    uint32_t answer[3];
+    rabtishu_compile(text, length, NULL, 0, answer);
+    told("compile without buffer", answer);
+    memset(state, 0xa5, sizeof state);
+    rabtishu_cycle(image, n, state, NULL, 0, &row, 1, answer);
+    told("cycle without inputs", answer);
+    rabtishu_cycle(image, n, state, rows, 1, NULL, 0, answer);
+    told("cycle without outputs", answer);
+    rabtishu_direct(text, length, state, NULL, 0, &row, 1, answer);
+    told("direct without inputs", answer);
+    rabtishu_direct(text, length, state, rows, 1, NULL, 0, answer);
+    told("direct without outputs", answer);
+    state_told(state);
+    printf("row %d\n", row);
+}
+
+/* NULL for both rows of a process that has neither inputs nor outputs: cycles are performed. */
+static void with_empty_rows(void)
+{
+    const uint8_t *process = (const uint8_t *)bare;
+    const size_t n = sizeof bare - 1;
+    uint8_t image[64];
+    int32_t state[49];
+    uint32_t answer[3];
+    rabtishu_compile(process, n, image, sizeof image, answer);
+    told("bare", answer);
+    const size_t size = answer[2];
+    rabtishu_fresh(image, size, state, answer);
+    told("bare, fresh", answer);
+    rabtishu_cycle(image, size, state, NULL, 0, NULL, 0, answer);
+    told("bare, cycle", answer);
+    printf("place %d\n", state[0]);
+    rabtishu_direct_fresh(process, n, state, answer);
+    told("bare, direct fresh", answer);
+    rabtishu_direct(process, n, state, NULL, 0, NULL, 0, answer);
+    told("bare, direct", answer);
+    printf("place %d\n", state[0]);
+}
+
 int main(void)
 {
     uint8_t image[256];
@@ -98,10 +188,6 @@ int main(void)
     told("opened", answer);
     rabtishu_open(image, 133, answer);
     told("cut", answer);
-    rabtishu_open(NULL, 0, answer);
-    told("empty image", answer);
-    rabtishu_compile(NULL, 0, NULL, 0, answer);
-    told("empty text", answer);
 
     trace(image, 134);
     trace(NULL, 0);
@@ -123,6 +209,9 @@ int main(void)
     printf("token at 1: %zu\n", rabtishu_token_at(text, length, 1));
     printf("token at 7: %zu\n", rabtishu_token_at(text, length, 7));
     printf("token at the end: %zu\n", rabtishu_token_at(text, length, length));
-    printf("token of nothing: %zu\n", rabtishu_token_at(NULL, 0, 0));
+
+    without_bytes();
+    without_room(image, 134);
+    with_empty_rows();
     return 0;
 }
