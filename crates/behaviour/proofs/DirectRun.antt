@@ -1,5 +1,5 @@
 -- The direct run of an accepted text is that of its process (`directRows`), whose calls are those of the equations, the published ones. Assumes nothing.
-use mathlib.Core.Path.{_≡_, refl, sym, _∙_, ap}
+use mathlib.Core.Path.{_≡_, refl, sym, _∙_, ap, subst}
 use mathlib.Core.List.{List, [], _∷_, map}
 use Prim.Native.Nat.{ℕ}
 use Rattle.answers.specs.declared.State.{State}
@@ -14,8 +14,10 @@ use Rattle.semantics.specs.Calls.{Call, Called}
 use Rattle.semantics.specs.Comparison.{fed, laid, seenAll, equationCalls}
 use Rattle.semantics.specs.DirectRow.{directRow, directRows}
 use Rattle.semantics.specs.PublishedRows.{publishedRows}
+use Rattle.semantics.specs.PrintedRows.{CallsPrinted}
 use Rattle.semantics.proofs.Rows.{first-invariant}
 use Rattle.semantics.proofs.PublishedRows.{rows-published}
+use Rattle.semantics.proofs.PrintedRows.{calls-printed}
 use Rattle.semantics.proofs.DirectRows.{direct-rows, calls-seen}
 use Rattle.behaviour.specs.Direct.{unlessRefused, directOf, freshText, directFresh, directCalls}
 use Rattle.behaviour.specs.DirectRun.{DirectRun}
@@ -42,8 +44,11 @@ module _ (text : List ℕ) (d : Process) (e : verdict text ≡ accepted d) where
   unfolding rows
   as-published w cs = as-equations w cs ∙ (calls-seen d (atFirst d) cs ∙ ap (λ (l : List (Outcome × Kept)). seenAll l cs) (sym (rows-published d w (map fed cs))))
 
+  as-printed : WellFormed d → (cs : List Call) → CallsPrinted d cs (directCalls text (laid (atFirst d)) cs)
+  as-printed w cs = subst (CallsPrinted d cs) (sym (as-equations w cs)) (calls-printed d w cs)
+
 pub direct-run : (text : List ℕ) (d : Process) → Valid text d → DirectRun text d
 direct-run text d v =
     let e = accepts text d .1 v in
     let w = valid-well-formed v in
-    record { starts = start text d e; equations = as-equations text d e w; published = as-published text d e w }
+    record { starts = start text d e; equations = as-equations text d e w; published = as-published text d e w; printed = as-printed text d e w }

@@ -8,6 +8,7 @@ use Rattle.semantics.specs.Records.{fresh}
 use Rattle.semantics.specs.Calls.{Call}
 use Rattle.semantics.specs.Comparison.{fed, laid, seenAll, equationCalls}
 use Rattle.semantics.specs.PublishedRows.{publishedRows}
+use Rattle.semantics.specs.PrintedRows.{CallsPrinted}
 use Rattle.behaviour.specs.Direct.{directFresh, directCalls}
 
 -- "The direct run of an accepted text gives, row by row, what the published ABC-VHDL equations give": from the fresh state of the text, every list of
@@ -16,3 +17,6 @@ pub record DirectRun (text : List ℕ) (d : Process) : Type 0 where
   pub starts : directFresh text ≡ fresh (laid (atFirst d))
   pub equations : (cs : List Call) → directCalls text (laid (atFirst d)) cs ≡ equationCalls d (atFirst d) cs
   pub published : (cs : List Call) → directCalls text (laid (atFirst d)) cs ≡ seenAll (publishedRows d (map fed cs)) cs
+  -- ".. within 32-bit integers": and the calls that were performed, the refused ones dropped, left the output row and the state record of the printed
+  -- equations, which know neither refusals nor bounds, over the input rows of the same calls
+  pub printed : (cs : List Call) → CallsPrinted d cs (directCalls text (laid (atFirst d)) cs)

@@ -4,7 +4,7 @@ use mathlib.Core.Option.{Option, none, some}
 use mathlib.Core.List.{List, [], _∷_, _++_}
 use Rattle.semantics.specs.Effects.{printed}
 use Rattle.semantics.specs.Published.{ι, ω, φ, «PRIMREC_option», «type_c_statement», «CLOSE_C», «CLOSE_C-printed»}
-use Rattle.semantics.specs.Automaton.{automaton, assignedRows, «PROCESS_C»}
+use Rattle.semantics.specs.Automaton.{automaton, statesOver, assignedRows, «PROCESS_C»}
 
 module _ {γ : Type 0} (pf : «type_c_statement» printed γ) where
   -- the printed cycle answers the old output state and hands on the same new state
@@ -28,7 +28,7 @@ module _ {γ : Type 0} (pf : «type_c_statement» printed γ) where
   -- The printed output row of each call but the first is the output row of the call before; the first is the initial outputs.
   pub printed-late : (so : ω) (sq : φ) (ss : Option γ) (l : List ι) (si : ι)
       → automaton («CLOSE_C-printed» printed pf) so sq ss (l ++ (si ∷ [])) ≡ so ∷ assignedRows («CLOSE_C» printed pf) so sq ss l
-  unfolding automaton assignedRows
+  unfolding automaton statesOver assignedRows
   printed-late so sq ss [] si = rw (close-printed si so sq ss)
   printed-late so sq ss (sj ∷ l) si = rw (close-printed sj so sq ss) (ap (λ r. so ∷ r) (printed-late _ _ _ l si))
 

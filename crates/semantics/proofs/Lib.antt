@@ -19,4 +19,5 @@ pub mod Rows
 pub mod DirectRows
 pub mod Described
 pub mod PublishedRows
+pub mod PrintedRows
 pub mod Tally

@@ -7,16 +7,18 @@ use Rattle.design.specs.Types.{sameTy, sameType, inRange, inType}
 use Rattle.design.specs.Expression.{items, fold, bind, nth, plainly, sumType, orderType, binaryType, leafType, given, given2, typeOf}
 use Rattle.design.specs.Statement.{size, has, seqClass, classOf, LoopsC}
 use Rattle.design.specs.Process.{isType, fits, typedAct, typed, WellFormed}
-use Rattle.semantics.specs.Evaluation.{binaryResult, asInteger, applyBinary, leafValue, evaluate}
+use Rattle.semantics.specs.Evaluation.{binaryResult, asInteger, applyBinary, leafValue, evaluate, exactValue}
 use Rattle.semantics.specs.Equations.{perform, holds, log, then, acted, tested, pick, start, resume, at, enter, cycle}
 use Rattle.semantics.specs.Rows.{Call, Kept, Outcome, performed, operator-refused, atFirst, wrongValue, rowRefusal, concluded, judged, row, rowsFrom, rows}
 use Rattle.semantics.specs.Effects.{andThen}
 use Rattle.semantics.specs.Published.{«PRIMREC_option», «PRIMREC_sum», _⇒_∣_, «SIGNAL_ASSIGNMENT», «VARIABLE_ASSIGNMENT», «WAIT», «SEQ_AC», «SEQ_BC», «WHILE_C», «CLOSE_C»}
 use Rattle.semantics.specs.Denotation.{raised, performing, actSem, waitSem, conditionSem, sem, process}
+use Rattle.semantics.specs.Automaton.{statesOver}
 use Rattle.semantics.specs.PublishedRows.{concludedPublished, judgedPublished, publishedFrom, publishedRows}
 use Rattle.semantics.specs.Calls.{Called}
 use Rattle.semantics.specs.Calls as C
 use Rattle.semantics.specs.Comparison.{seenAll}
+use Rattle.semantics.specs.PrintedRows.{printedFrom, printedRows, ofPerformed, rowAnswers}
 use Rattle.semantics.specs.Tally.{tally, tallyCalls}
 
 -- "0 2 3 0", "1 2 3 0", "2 5 4 14", "3 2 3 14", "4 refused 16", "5 2 3 14": output row and way, and what is kept
@@ -69,3 +71,15 @@ pub tally-left : map (λ (r : Called). r .row) (seenAll trace lent)
     ≡ (pos 0 ∷ []) ∷ (pos 0 ∷ []) ∷ (pos 14 ∷ []) ∷ (pos 14 ∷ []) ∷ (pos 99 ∷ []) ∷ (pos 14 ∷ []) ∷ []
 unfolding seenAll tallyCalls
 tally-left = refl
+
+-- of the calls, the one that is refused is dropped: rows 7, 7, 1, -5, 20 are left
+pub tally-performed : ofPerformed (rowAnswers trace) (map (λ (c : Call). c .inputs) tallyCalls)
+    ≡ (pos 7 ∷ []) ∷ (pos 7 ∷ []) ∷ (pos 1 ∷ []) ∷ (negsuc 4 ∷ []) ∷ (pos 20 ∷ []) ∷ []
+unfolding ofPerformed tallyCalls
+tally-performed = refl
+
+-- over these the printed equations keep what is kept after the calls that are performed
+pub tally-printed : printedRows tally ((pos 7 ∷ []) ∷ (pos 7 ∷ []) ∷ (pos 1 ∷ []) ∷ (negsuc 4 ∷ []) ∷ (pos 20 ∷ []) ∷ [])
+    ≡ ofPerformed (rowAnswers trace) (map (λ (r : Outcome × Kept). r .1) trace)
+unfolding ofPerformed printedRows printedFrom statesOver tally process sem classOf seqClass actSem waitSem conditionSem performing «PRIMREC_option» «PRIMREC_sum» _⇒_∣_ «SIGNAL_ASSIGNMENT» «VARIABLE_ASSIGNMENT» «WAIT» «SEQ_AC» «SEQ_BC» «WHILE_C» «CLOSE_C» exactValue fold binaryResult leafValue size
+tally-printed = refl

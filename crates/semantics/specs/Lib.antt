@@ -22,3 +22,4 @@ pub mod Advances
 pub mod Twos
 pub mod Comparison
 pub mod DirectRow
+pub mod PrintedRows

@@ -17,13 +17,21 @@ pub record State (s : Stmt) : Type 0 where
   pub variables : φ
   pub control : Option (Waits s)
 
+-- "automaton(CLOSE_C x, (v, o, none))" (5.5): the initial values, and the control state none
+abbrev pub initialState : (p : Process) → State (p .body)
+initialState p = record { outputs = initials (p .outputs); variables = initials (p .variables); control = none }
+
+-- the state that a cycle ends in
+abbrev pub stateOf : (s : Stmt) → ω × φ × Option (Waits s) → State s
+stateOf s r = record { outputs = r .0; variables = r .1; control = r .2 }
+
 -- what is kept, by place
 abbrev pub keptOf : (s : Stmt) → State s → Kept
 keptOf s k = record { place = placeOf s (k .control); memory = record { outputs = k .outputs; variables = k .variables } }
 
 -- what a cycle answers, and the state after it, where k was the state before
 unfoldable pub concludedPublished : (s : Stmt) → Step (ω × φ × Option (Waits s)) → State s → Outcome × State s
-concludedPublished s (ends r w) k = (performed (r .0) w, record { outputs = r .0; variables = r .1; control = r .2 })
+concludedPublished s (ends r w) k = (performed (r .0) w, stateOf s r)
 concludedPublished s (stops q n) k = (operator-refused n, k)
 
 -- one call: a row that meets 14 is refused, otherwise a cycle follows
@@ -36,6 +44,6 @@ unfoldable pub publishedFrom : (p : Process) → State (p .body) → List Call �
 publishedFrom p k [] = []
 publishedFrom p k (c ∷ cs) = let r = judgedPublished (rowRefusal p c) p k c in (r .0, keptOf (p .body) (r .1)) ∷ publishedFrom p (r .1) cs
 
--- "automaton(CLOSE_C x, (v, o, none))" (5.5): the initial values, and the control state none
+-- all calls, from the initial state
 unfoldable pub publishedRows : Process → List Call → List (Outcome × Kept)
-publishedRows p cs = publishedFrom p (record { outputs = initials (p .outputs); variables = initials (p .variables); control = none }) cs
+publishedRows p cs = publishedFrom p (initialState p) cs

@@ -6,6 +6,7 @@ use Rattle.language.proofs.Answers.{valid-one, one-reading}
 use Rattle.language.proofs.WellFormed.{valid-well-formed}
 use Rattle.semantics.proofs.Rows.{rows-answer}
 use Rattle.semantics.proofs.PublishedRows.{rows-published}
+use Rattle.semantics.proofs.PrintedRows.{rows-printed}
 use Rattle.behaviour.proofs.DirectRun.{direct-run}
 use Rattle.theorems.specs.Promises.{Demand2}
 
@@ -16,6 +17,7 @@ demand2 b = record {
   one-reading = λ t u p q. one-reading p q;
   one-meaning = λ d e v w. valid-one v w;
   published = λ d v cs. rows-published d (valid-well-formed v) cs;
+  printed = λ d v cs. rows-printed d (valid-well-formed v) cs;
   answered = λ d v cs. rows-answer d (valid-well-formed v) cs;
   direct = direct-run b;
 }

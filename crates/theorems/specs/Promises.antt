@@ -20,6 +20,7 @@ use Rattle.semantics.specs.Equations as Equations
 use Rattle.semantics.specs.InputRow.{Meets14}
 use Rattle.semantics.specs.Refusal.{CycleOverflows}
 use Rattle.semantics.specs.PublishedRows.{publishedRows}
+use Rattle.semantics.specs.PrintedRows.{RowsPrinted}
 use Rattle.semantics.specs.Answer.{Answers, AllAnswer}
 use Rattle.semantics.specs.Way.{Distinct}
 use Rattle.semantics.specs.Records.{Started, fresh, not-started}
@@ -133,9 +134,13 @@ pub record Demand2 (b : List ℕ) : Type 0 where
   pub one-meaning : (d e : Process) → Valid b d → Valid b e → d ≡ e
   -- "row by row, what the published ABC-VHDL equations give, within 32-bit integers": the rows of document 01's reading are those of B.3's equations
   pub published : (d : Process) → Valid b d → (cs : List R.Call) → publishedRows d cs ≡ rows d cs
+  -- and, the refused rows dropped, those of the equations as they are printed, without refusals and over unbounded integers: output row, outputs, variables
+  -- and wait after each row that is performed, the printed equations being fed the input rows of just these
+  pub printed : (d : Process) → Valid b d → (cs : List R.Call) → RowsPrinted d cs (rows d cs)
   -- each row is performed, refused by 14 or refused by 16, exactly when document 01 says so
   pub answered : (d : Process) → Valid b d → (cs : List R.Call) → AllAnswer d (atFirst d) cs (rows d cs)
-  -- "The direct run of an accepted text gives, row by row, what the published ABC-VHDL equations give": every list of calls, from the fresh state
+  -- "The direct run of an accepted text gives, row by row, what the published ABC-VHDL equations give": every list of calls, from the fresh state, beside
+  -- the equations with refusals and as they are printed
   pub direct : (d : Process) → Valid b d → DirectRun b d
 
 -- DEMAND 3, for one compile that wrote n bytes.
