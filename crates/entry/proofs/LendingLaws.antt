@@ -12,7 +12,8 @@ use Rattle.answers.specs.declared.Sections.{Sections}
 use Rattle.format.specs.Opening.{opened, openOf}
 use Rattle.loader.specs.Open.{openAnswer}
 use Rattle.loader.proofs.OpenLaws.{image-opened, image-refused}
-use Rattle.entry.specs.Lending.{noSections, openingOf, within, Lends}
+use Rattle.theorems.specs.Lending.{within, Lends}
+use Rattle.entry.specs.Lending.{noSections, openingOf}
 use Rattle.entry.specs.declared.Opening.{Opening}
 
 -- an image that opens

@@ -13,7 +13,8 @@ use Rattle.format.specs.Opening.{opened, sectionsOf, openOf}
 use Rattle.loader.specs.Sections.{isSome, linesStart, codeStart, parts}
 use Rattle.loader.specs.Open.{placesOf}
 use Rattle.loader.proofs.OpenLaws.{lengths, signature-part, lines-part, code-part, opened-sections}
-use Rattle.entry.specs.Lending.{openingAs, openingOf, bytesBetween}
+use Rattle.theorems.specs.Lending.{bytesBetween}
+use Rattle.entry.specs.Lending.{openingAs, openingOf}
 
 inside : (l : List ℕ) (a e : ℕ) → a ≤ e → e ≤ length l → bytesBetween l a e ≡ take (e - a) (drop a l)
 inside l a e h j = rw (le-leb a e h, le-leb e (length l) j)

@@ -1,11 +1,6 @@
--- The opened image and its three sections as parts of the caller's bytes (document 01, "Image, form 1"). Assumes nothing.
-use mathlib.Core.Path.{_≡_}
-use mathlib.Core.Bool.{Bool, cond, _&&_}
-use mathlib.Core.List.{List, []}
-use Prim.Native.Nat.{ℕ, _+_, _-_}
-use lib.ListN.{length, take, drop}
-use lib.Dec.{leb}
-use denote.Ref.{RefT, now}
+-- What opening an image finds: its refusal, or the bounds of its three sections (document 01, "Image, form 1"). Assumes nothing.
+use mathlib.Core.List.{List}
+use Prim.Native.Nat.{ℕ}
 use Rattle.answers.specs.declared.Sections.{Sections}
 use Rattle.format.specs.Opening.{Opened, opened, not-opened, openOf}
 use Rattle.loader.specs.Open.{placesOf}
@@ -23,21 +18,3 @@ openingAs b (not-opened q k) = record { number = q; place = k; sections = noSect
 -- the same of the bytes b
 abbrev pub openingOf : List ℕ → Opening
 openingOf b = openingAs b (openOf b)
-
--- the bounds lie in the bytes l
-abbrev pub within : List ℕ → ℕ → ℕ → Bool
-within l a e = leb a e && leb e (length l)
-
--- the bytes from a up to e; none where the bounds do not lie in l
-abbrev pub bytesBetween : List ℕ → ℕ → ℕ → List ℕ
-bytesBetween l a e = cond (within l a e) (take (e - a) (drop a l)) []
-
--- how far from the start they stand; 0 where the bounds do not lie in l
-abbrev pub startBetween : List ℕ → ℕ → ℕ → ℕ
-startBetween l a e = cond (within l a e) a 0
-
--- "lends out its three sections as parts of the caller's bytes": r points into the same block as s, so far behind its start, and holds those bytes
-pub record Lends (s : RefT (List ℕ)) (a e : ℕ) (r : RefT (List ℕ)) : Type 0 where
-  pub bytes : now r ≡ bytesBetween (now s) a e
-  pub block : r .ptr .0 ≡ s .ptr .0
-  pub place : r .ptr .1 ≡ s .ptr .1 + startBetween (now s) a e

@@ -12,7 +12,8 @@ ghost use mathlib.Core.Path.{_≡_};
 ghost use Prim.Native.Nat.{_+_};
 ghost use lib.ListN.{length};
 ghost use Rattle.language.specs.Lexer.{tokenAt};
-ghost use Rattle.entry.specs.Lending.{openingOf, Lends};
+ghost use Rattle.theorems.specs.Lending.{Lends};
+ghost use Rattle.entry.specs.Lending.{openingOf};
 use answers::Opened;
 use answers::Sections;
 

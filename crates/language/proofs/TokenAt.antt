@@ -8,13 +8,13 @@ use native.Mathlib.Omega.{arith}
 use lib.Dec.{eqb}
 use lib.ListN.{length}
 use lib.Seq.{take-at}
-use Rattle.language.specs.Lexer.{Start, startOf, onToken, tokenFrom, tokenAt}
+use Rattle.language.specs.Lexer.{Start, unknown, startOf, onToken, tokenFrom, tokenAt}
 use Rattle.language.specs.Lexer as L
-use Rattle.language.specs.Lexing.{Meaning, Piece, Starts}
+use Rattle.language.specs.Lexing.{Meaning, Piece, Stops, Starts}
 use Rattle.language.specs.Lexing as S
 use Rattle.language.proofs.Facts.{eqb-eq, eq-eqb}
 use Rattle.language.proofs.Lexing.{Here, gap, token, bad, none, starts}
-use Rattle.language.proofs.LexExact.{gap-something, token-something, step-gap, step-token, empty-nothing, shorter, piece-some}
+use Rattle.language.proofs.LexExact.{gap-something, token-something, bad-something, step-gap, step-token, step-bad, step-none, empty-nothing, shorter, piece-some}
 
 passed : (w rest : List ℕ) (n p : ℕ) → tokenFrom (w ++ rest) (length w) n p ≡ tokenFrom rest 0 (n + length w) p
 unfolding tokenFrom
@@ -110,3 +110,33 @@ pub token-some : {n p : ℕ} {t u : List ℕ} → Starts n t p u → 0 < length 
 token-some (S.here {k} {v} {w} {rest} q) = length-some w rest k v q
 token-some (S.Starts.gap q r) = token-some r
 token-some (S.Starts.token q r) = token-some r
+
+-- at a place of refusal 2: no token begins, or a malformed word
+at-unknown : (b : ℕ) (l : List ℕ) (n p : ℕ) → startOf b l ≡ unknown → tokenFrom (b ∷ l) 0 n p ≡ []
+unfolding tokenFrom onToken
+at-unknown b l n p e = rw e
+
+at-bad : (w rest : List ℕ) (n p : ℕ) → Piece w rest Meaning.malformed → tokenFrom (w ++ rest) 0 n p ≡ []
+at-bad [] rest n p q = absurd (bad-something (sym (q .is) ∙ empty-nothing))
+at-bad (b ∷ w) rest n p q = at-unknown b (w ++ rest) n p (step-bad (b ∷ w) rest (b ∷ (w ++ rest)) (startOf b (w ++ rest)) (starts b (w ++ rest)) q refl)
+
+-- refusal 2 stands at or after n
+stop-after : {n p : ℕ} {t : List ℕ} → Stops n t p → n ≤ p
+stop-after (S.no-token h) = omega arith
+stop-after (S.Stops.malformed q) = omega arith
+stop-after (S.Stops.gap {w} q r) = let h = stop-after r in omega arith
+stop-after (S.Stops.token {w} q r) = let h = stop-after r in omega arith
+
+from-stop : {n p : ℕ} {t : List ℕ} → Stops n t p → tokenFrom t 0 n p ≡ []
+from-stop {n} (S.no-token {b} {l} h) = at-unknown b l n n (step-none (b ∷ l) (startOf b l) (starts b l) h)
+from-stop {n} (S.Stops.malformed {w} {rest} q) = at-bad w rest n n q
+from-stop {n} {p} (S.Stops.gap {w} {rest} q r) = at-gap w rest n p q ∙ from-stop r
+from-stop {n} {p} (S.Stops.token {k} {v} {w} {rest} q r) =
+    let a = stop-after r in
+    let b = length-some w rest k v q in
+    at-token w rest k v n p q ∙ rw (other n p (omega arith)) (from-stop r)
+
+-- "a malformed word is no token", nor is a byte that begins none
+pub stop-nothing : {t : List ℕ} {p : ℕ} → Stops 0 t p → tokenAt t p ≡ []
+unfolding tokenAt
+stop-nothing s = from-stop s

@@ -10,8 +10,9 @@ use lib.Dec.{leb}
 use borrow.Author.Tests.{leb-true, leb-false}
 use Rattle.answers.specs.declared.State.{State}
 use Rattle.design.specs.Process.{Process, WellFormed}
+use Rattle.grammar.specs.Tree.{Text}
 use Rattle.language.specs.Rules.{table}
-use Rattle.language.specs.Validity.{Valid, here, there, Refuses, too-long, no-token, no-sentence, past-limit, offends}
+use Rattle.language.specs.Validity.{Valid, First, here, there, Refuses, too-long, no-token, no-sentence, past-limit, offends}
 use Rattle.language.specs.Verdict.{Verdict, accepted, refused, verdict}
 use Rattle.language.proofs.Judged as J
 use Rattle.language.proofs.WellFormed.{valid-well-formed}
@@ -38,18 +39,22 @@ use Rattle.theorems.specs.Compile.{written, not-compiled, written-into, 
 use Rattle.theorems.specs.Promises.{Compiles, writes, too-short, Opens, opens, Starts, Runs, runs, RunsText, by-14, by-15, answers, StartsText}
 use Rattle.theorems.specs.Promises as D
 
+-- the numbers of the rules
+pub first-number : (t : Text) (n p : ℕ) → First t n p table → (5 ≤ n) × (n ≤ 9)
+unfolding table
+first-number t n p (here e l) = (omega arith, omega arith)
+first-number t n p (there f (here e l)) = (omega arith, omega arith)
+first-number t n p (there f (there g (here e l))) = (omega arith, omega arith)
+first-number t n p (there f (there g (there i (here e l)))) = (omega arith, omega arith)
+first-number t n p (there f (there g (there i (there j (here e l))))) = (omega arith, omega arith)
+
 -- the numbers of a text's refusals
 refuses-9 : (b : List ℕ) (n p : ℕ) → Refuses b n p → (1 ≤ n) × (n ≤ 9)
-unfolding table
 refuses-9 b n p (too-long h) = (omega arith, omega arith)
 refuses-9 b n p (no-token h s) = (omega arith, omega arith)
 refuses-9 b n p (no-sentence ts h l e) = (omega arith, omega arith)
 refuses-9 b n p (past-limit ts h l e) = (omega arith, omega arith)
-refuses-9 b n p (offends h (here e l)) = (omega arith, omega arith)
-refuses-9 b n p (offends h (there f (here e l))) = (omega arith, omega arith)
-refuses-9 b n p (offends h (there f (there g (here e l)))) = (omega arith, omega arith)
-refuses-9 b n p (offends h (there f (there g (there i (here e l))))) = (omega arith, omega arith)
-refuses-9 b n p (offends h (there f (there g (there i (there j (here e l)))))) = (omega arith, omega arith)
+refuses-9 b n p (offends {t = t} h f) = let z = first-number t n p f in let a = z .0 in (omega arith, z .1)
 
 -- a compile
 module _ (text buffer : List ℕ) where

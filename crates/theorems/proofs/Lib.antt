@@ -5,6 +5,8 @@ pub mod Direct
 pub mod Cases
 pub mod Demand1
 pub mod Demand3
+pub mod Lending
+pub mod Handed
 pub mod Main
 pub mod TokensOf
 pub mod LexedPlaces

@@ -22,12 +22,13 @@ use Rattle.images.proofs.Processes.{encode-opens}
 use Rattle.behaviour.specs.Direct.{directOf, directCalls}
 use Rattle.theorems.specs.Compile.{written, compileOf}
 use Rattle.theorems.specs.CInterface.{compileInC}
-use Rattle.theorems.specs.Promises.{Demand1, Demand2, Demand3, ToldInC, doneNumbers, CallsInC, Compiled, Returned}
+use Rattle.theorems.specs.Promises.{Demand1, Demand2, Demand3, Handed, ToldInC, doneNumbers, CallsInC, Compiled, Returned}
 use Rattle.theorems.proofs.Size.{valid-fits}
 use Rattle.theorems.proofs.Demand1 as D1
 use Rattle.theorems.proofs.Demand2 as D2
 use Rattle.theorems.proofs.Demand3 as D3
 use Rattle.theorems.proofs.Demand3.{Wrote, wrote}
+use Rattle.theorems.proofs.Handed as H
 use Rattle.theorems.proofs.CInterface as C
 
 -- DEMAND 1, for every text, buffer, image (a list of bytes), state record and call
@@ -41,6 +42,10 @@ demand2 = D2.demand2
 -- DEMAND 3, for every text and buffer, where the compile wrote n bytes
 pub demand3 : (text buffer : List ℕ) (n : ℕ) → compileOf text buffer .answer ≡ written n → Demand3 text buffer n
 demand3 = D3.demand3
+
+-- THE TOKEN HANDED OUT, for every text and place
+pub handed : (text : List ℕ) (place : ℕ) → Handed text place
+handed = H.handed
 
 -- THE C INTERFACE: one call of each function, for every text, buffer, image, 49 numbers and call; every list of calls, where rabtishu_compile told n bytes
 pub told-in-c : (text buffer image : List ℕ) → Bytes image → (l : List ℤ) (c : Call) → ToldInC text buffer image l c

@@ -1,4 +1,5 @@
 pub mod Compile
+pub mod Lending
 pub mod Promises
 pub mod Places
 pub mod CInterface

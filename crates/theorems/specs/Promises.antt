@@ -4,13 +4,16 @@
 use mathlib.Core.Path.{_≡_}
 use mathlib.Core.Logic.{_↔_}
 use mathlib.Core.List.{List, [], _∷_, _++_, map}
-use Prim.Native.Nat.{ℕ, suc, _≤_, _<_}
+use Prim.Native.Nat.{ℕ, suc, _+_, _≤_, _<_}
 use lib.ListN.{length, take, drop}
 use lib.IntN.{ℤ}
+use denote.Ref.{RefT, now}
 use Rattle.answers.specs.declared.State.{State}
 use Rattle.grammar.specs.Tree.{Text}
 use Rattle.design.specs.Statement.{size}
 use Rattle.design.specs.Process.{Process}
+use Rattle.language.specs.Lexing as Lexing
+use Rattle.language.specs.Lexer.{tokenAt}
 use Rattle.language.specs.Reading.{reading}
 use Rattle.language.specs.Validity.{Parses, Valid, Refuses}
 use Rattle.language.specs.Verdict.{accepted, refused, verdict}
@@ -41,6 +44,7 @@ use Rattle.behaviour.specs.Direct.{directOf, directFresh, directCalls}
 use Rattle.behaviour.specs.DirectRun.{DirectRun}
 use Rattle.theorems.specs.Compile.{Compile, written, not-compiled, compileOf}
 use Rattle.theorems.specs.CInterface.{Left, stateOfC, cOfState, compileInC, openInC, freshInC, cycleInC, directFreshInC, directInC, callsInC}
+use Rattle.theorems.specs.Lending.{Lends, PartAt}
 
 -- DEMAND 1. "Nothing that comes in can upset it: every text, image, state and input row gets a result or a numbered refusal; every call ends; a refusal has
 -- its place fixed and alters no byte of image, state or output row." Each operation below comes to one of the cases that are listed, and each case holds
@@ -168,6 +172,19 @@ pub record Demand3 (text buffer : List ℕ) (n : ℕ) : Type 0 where
   pub short : (cs : List Call) → AllShort process state (equationCalls process (atFirst process) cs)
   pub direct : (s : State) (c : Call) → cycleOf (take n (compileOf text buffer .buffer)) s (c .inputs) (c .outputs) ≡ directOf text s c
   pub direct-start : freshOf (take n (compileOf text buffer .buffer)) ≡ directFresh text
+
+-- THE TOKEN HANDED OUT, for every text and place. "For 1 to 9, the token that starts at the place is handed out as that part of the text, or an empty part
+-- where none starts; a malformed word is no token." Code lends, for any place, what `Lends` says; the place of a refusal by 1 to 9 is at most the text's length
+-- (`PlacesFit`).
+pub record Handed (text : List ℕ) (place : ℕ) : Type 0 where
+  -- the bytes handed out are those of the token that starts there, exactly if one starts; no token is empty
+  pub token : (u : List ℕ) → Lexing.Starts 0 text place u ↔ ((tokenAt text place ≡ u) × (0 < length u))
+  -- "or an empty part where none starts"
+  pub none : (tokenAt text place ≡ []) ↔ ((u : List ℕ) → Lexing.Starts 0 text place u → ⊥)
+  -- "a malformed word is no token", nor is a byte that begins none: refusal 2 hands out an empty part
+  pub malformed : Refuses text 2 place → tokenAt text place ≡ []
+  -- "as that part of the text": what is lent holds these bytes, and stands in the caller's text at the place
+  pub part : (s r : RefT (List ℕ)) → now s ≡ text → Lends s place (place + length (tokenAt text place)) r → (now r ≡ tokenAt text place) × (place ≤ length text → PartAt s place r)
 
 -- THE C INTERFACE, in the same words: what its functions hand out is what the definitions above say, number by number (include/rabtishu.h).
 
