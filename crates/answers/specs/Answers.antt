@@ -90,10 +90,6 @@ abbrev pub cycleTold : Cycled → Told ℕ
 cycleTold (Performed n) = done n
 cycleTold (NotPerformed r) = refusedBy r
 
--- how many bytes a compile wrote; a refused one writes none
-abbrev pub bytesOf : Compiled → ℕ
-bytesOf c = countOf (compileTold c)
-
 -- how many lines a cycle performed: "A refused cycle answers 0 lines."
 abbrev pub linesOf : Cycled → ℕ
 linesOf c = countOf (cycleTold c)
