@@ -23,7 +23,16 @@ use Rattle.format.proofs.Signature.{signature-read, signature-exactly}
 use Rattle.format.proofs.Sections.{form1-length, whole-lines, form1-read, sections-exactly}
 use Rattle.format.proofs.Lines.{raws-read, raws-bytes-length, lines-open, raws-reaches, raws-length, raws-narrow, raws-back, LinesBack, lines-back}
 
--- The image of a good table opens to that table.
+-- The image of a good table has the table's sections, ..
+pub table-sections : (t : Table) → GoodTable t → sectionsOf (encodeTable t) ≡ some (sectionsFor t)
+unfolding encodeTable sectionsFor
+table-sections t g =
+    let ws = rawsOf 0 (t .lines) (t .reaches) in
+    let lw = raws-length (t .signature) (length (t .lines)) (t .reaches) 0 (t .lines) (t .reaches) (g .lines) in
+    form1-read (sectionsFor t)
+    (whole-lines (rawsBytes ws) (length (t .lines)) (raws-bytes-length ws ∙ ap (λ k. 12 * k) lw) (g .some-line) (g .few-lines)) (g .bytes)
+
+-- .. and opens to that table.
 pub table-opens : (t : Table) → GoodTable t → openOf (encodeTable t) ≡ opened t
 unfolding openOf encodeTable openSections openTable sectionsFor
 table-opens t g =
@@ -33,7 +42,7 @@ table-opens t g =
     let lb : length (rawsBytes ws) ≡ 12 * n = raws-bytes-length ws ∙ ap (λ k. 12 * k) lw in
     let d : length (rawsBytes ws) / 12 ≡ n = omega arith in
     let z : length (linesCode (t .lines)) < 65536 = code-small (omega (arith, g .bytes)) in
-    rw (form1-read (sectionsFor t) (whole-lines (rawsBytes ws) n lb (g .some-line) (g .few-lines)) (g .bytes))
+    rw (table-sections t g)
     (rw (signature-read (t .signature) (g .signature), d)
     (rw (
       ap (λ k. raws k (rawsBytes ws)) (sym lw)

@@ -81,5 +81,6 @@ handed text place =
       token = token-is text place;
       none = no-token text place;
       malformed = stopped text place;
+      stands = token-stands text place;
       part = lent text place;
     }

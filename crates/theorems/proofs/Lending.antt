@@ -1,7 +1,7 @@
 -- Laws of parts that are lent out: what stands in the bytes lies between its bounds, and is lent by them. Assumes nothing.
 use mathlib.Core.Path.{_≡_, refl, sym, _∙_, ap, subst}
 use mathlib.Core.Bool.{Bool, true, false, cond}
-use mathlib.Core.List.{List, [], _++_}
+use mathlib.Core.List.{List, [], _++_, append-assoc}
 use Prim.Native.Nat.{ℕ, _+_, _-_, _≤_}
 use native.Mathlib.Omega.{arith}
 use lib.ListN.{length, take, drop, length-append, take-append-drop}
@@ -36,6 +36,18 @@ stands-lent s r p u h g =
         stands = subst (StandsAt (now s) p) (sym e) h;
       },
     )
+
+-- what stands next behind it
+unfoldable pub next-stands : (l : List ℕ) (p : ℕ) (u v w : List ℕ) (s : StandsAt l p u) → s .behind ≡ v ++ w → StandsAt l (p + length u) v
+next-stands l p u v w s e =
+    let h = s .place in
+    let n = length-append (s .before) u in
+    record {
+      before = s .before ++ u;
+      behind = w;
+      is = s .is ∙ (ap (λ (k : List ℕ). s .before ++ (u ++ k)) e ∙ sym (append-assoc (s .before) u (v ++ w)));
+      place = omega arith;
+    }
 
 -- an empty part stands anywhere in the text, and nothing is between its bounds wherever they are
 pub empty-stands : (l : List ℕ) (p : ℕ) → p ≤ length l → StandsAt l p []

@@ -7,6 +7,7 @@ pub mod Demand1
 pub mod Demand3
 pub mod Lending
 pub mod Handed
+pub mod SectionsLent
 pub mod Main
 pub mod TokensOf
 pub mod LexedPlaces

@@ -12,7 +12,7 @@ use Rattle.language.proofs.Judged.{accepts}
 use Rattle.language.proofs.WellFormed.{valid-well-formed}
 use Rattle.semantics.specs.Calls.{Answer, performed, not-performed, Called, Call}
 use Rattle.format.specs.Words.{Bytes}
-use Rattle.format.specs.Image.{Table}
+use Rattle.format.specs.Image.{Table, sectionsFor}
 use Rattle.format.specs.Opening.{Opened, opened, not-opened, openOf}
 use Rattle.format.specs.Cycle.{cycleOf, callsOf}
 use Rattle.format.specs.Encode.{encode, tableOf}
@@ -21,14 +21,16 @@ use Rattle.images.proofs.Outcomes.{image-outcome}
 use Rattle.images.proofs.Processes.{encode-opens}
 use Rattle.behaviour.specs.Direct.{directOf, directCalls}
 use Rattle.theorems.specs.Compile.{written, compileOf}
+use Rattle.theorems.specs.Lending.{boundsOf}
 use Rattle.theorems.specs.CInterface.{compileInC}
-use Rattle.theorems.specs.Promises.{Demand1, Demand2, Demand3, Handed, ToldInC, doneNumbers, CallsInC, Compiled, Returned}
+use Rattle.theorems.specs.Promises.{Demand1, Demand2, Demand3, Handed, SectionsLent, ToldInC, doneNumbers, CallsInC, Compiled, Returned}
 use Rattle.theorems.proofs.Size.{valid-fits}
 use Rattle.theorems.proofs.Demand1 as D1
 use Rattle.theorems.proofs.Demand2 as D2
 use Rattle.theorems.proofs.Demand3 as D3
 use Rattle.theorems.proofs.Demand3.{Wrote, wrote}
 use Rattle.theorems.proofs.Handed as H
+use Rattle.theorems.proofs.SectionsLent as L
 use Rattle.theorems.proofs.CInterface as C
 
 -- DEMAND 1, for every text, buffer, image (a list of bytes), state record and call
@@ -46,6 +48,10 @@ demand3 = D3.demand3
 -- THE TOKEN HANDED OUT, for every text and place
 pub handed : (text : List ℕ) (place : ℕ) → Handed text place
 handed = H.handed
+
+-- THE SECTIONS LENT OUT, for every image (a list of bytes) that opens, between the bounds of its table's sections
+pub sections-lent : (image : List ℕ) → Bytes image → (t : Table) → openOf image ≡ opened t → SectionsLent image t (boundsOf (sectionsFor t))
+sections-lent = L.sections-lent
 
 -- THE C INTERFACE: one call of each function, for every text, buffer, image, 49 numbers and call; every list of calls, where rabtishu_compile told n bytes
 pub told-in-c : (text buffer image : List ℕ) → Bytes image → (l : List ℤ) (c : Call) → ToldInC text buffer image l c

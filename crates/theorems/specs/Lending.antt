@@ -6,6 +6,8 @@ use Prim.Native.Nat.{ℕ, _+_, _-_}
 use lib.ListN.{length, take, drop}
 use lib.Dec.{leb}
 use denote.Ref.{RefT, now}
+use Rattle.answers.specs.declared.Sections as declared
+use Rattle.format.specs.Image.{Sections}
 
 -- the bounds lie in the bytes l
 abbrev pub within : List ℕ → ℕ → ℕ → Bool
@@ -37,3 +39,14 @@ pub record PartAt (s : RefT (List ℕ)) (p : ℕ) (r : RefT (List ℕ)) : Type 0
   pub block : r .ptr .0 ≡ s .ptr .0
   pub offset : r .ptr .1 ≡ s .ptr .1 + p
   pub stands : StandsAt (now s) p (now r)
+
+-- whatever is lent of the bytes l between a and e is u, and stands there
+abbrev pub LentAs : List ℕ → ℕ → ℕ → List ℕ → Type 0
+LentAs l a e u = (s r : RefT (List ℕ)) → now s ≡ l → Lends s a e r → (now r ≡ u) × PartAt s a r
+
+-- "the first starts at byte 28, no gaps": where three sections start, and where the last ends
+abbrev pub boundsOf : Sections → declared.Sections
+boundsOf x =
+    let lines = 28 + length (x .signature) in
+    let code = lines + length (x .lines) in
+    record { signature = 28; lines = lines; code = code; end = code + length (x .code) }

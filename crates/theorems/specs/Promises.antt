@@ -9,6 +9,7 @@ use lib.ListN.{length, take, drop}
 use lib.IntN.{ℤ}
 use denote.Ref.{RefT, now}
 use Rattle.answers.specs.declared.State.{State}
+use Rattle.answers.specs.declared.Sections.{Sections}
 use Rattle.grammar.specs.Tree.{Text}
 use Rattle.design.specs.Statement.{size}
 use Rattle.design.specs.Process.{Process}
@@ -30,7 +31,7 @@ use Rattle.semantics.specs.Records.{Started, fresh, not-started}
 use Rattle.semantics.specs.Calls.{Answer, performed, not-performed, Called, Call, turnedBack}
 use Rattle.semantics.specs.Comparison.{fed, laid, seen, equationCalls}
 use Rattle.semantics.specs.DirectRow.{Described}
-use Rattle.format.specs.Image.{Table, encodeTable}
+use Rattle.format.specs.Image.{Table, sectionsFor, encodeTable}
 use Rattle.format.specs.Good.{GoodTable}
 use Rattle.format.specs.Lines.{linesOf, reachesOf, reach}
 use Rattle.format.specs.Walk.{from, tableCycle}
@@ -44,7 +45,7 @@ use Rattle.behaviour.specs.Direct.{directOf, directFresh, directCalls}
 use Rattle.behaviour.specs.DirectRun.{DirectRun}
 use Rattle.theorems.specs.Compile.{Compile, written, not-compiled, compileOf}
 use Rattle.theorems.specs.CInterface.{Left, stateOfC, cOfState, compileInC, openInC, freshInC, cycleInC, directFreshInC, directInC, callsInC}
-use Rattle.theorems.specs.Lending.{Lends, PartAt}
+use Rattle.theorems.specs.Lending.{Lends, StandsAt, PartAt, LentAs}
 
 -- DEMAND 1. "Nothing that comes in can upset it: every text, image, state and input row gets a result or a numbered refusal; every call ends; a refusal has
 -- its place fixed and alters no byte of image, state or output row." Each operation below comes to one of the cases that are listed, and each case holds
@@ -183,8 +184,17 @@ pub record Handed (text : List ℕ) (place : ℕ) : Type 0 where
   pub none : (tokenAt text place ≡ []) ↔ ((u : List ℕ) → Lexing.Starts 0 text place u → ⊥)
   -- "a malformed word is no token", nor is a byte that begins none: refusal 2 hands out an empty part
   pub malformed : Refuses text 2 place → tokenAt text place ≡ []
-  -- "as that part of the text": what is lent holds these bytes, and stands in the caller's text at the place
+  -- "as that part of the text": these bytes, of which the C interface tells the number, stand in the text at the place, ..
+  pub stands : place ≤ length text → StandsAt text place (tokenAt text place)
+  -- .. and what is lent of the caller's text holds them there
   pub part : (s r : RefT (List ℕ)) → now s ≡ text → Lends s place (place + length (tokenAt text place)) r → (now r ≡ tokenAt text place) × (place ≤ length text → PartAt s place r)
+
+-- THE SECTIONS LENT OUT, of an image that opens as the table t, between the bounds o. "The opened image lends out its three sections as parts of the caller's
+-- bytes": what is lent are the bytes of signature, lines and code, each where it stands in the image. The bounds that opening finds are such.
+pub record SectionsLent (image : List ℕ) (t : Table) (o : Sections) : Type 0 where
+  pub signature : LentAs image (o .signature) (o .lines) (sectionsFor t .signature)
+  pub lines : LentAs image (o .lines) (o .code) (sectionsFor t .lines)
+  pub code : LentAs image (o .code) (o .end) (sectionsFor t .code)
 
 -- THE C INTERFACE, in the same words: what its functions hand out is what the definitions above say, number by number (include/rabtishu.h).
 
