@@ -1,7 +1,7 @@
 /*
  * rabtishu.h: the C interface of Rabtishu, a compiler from ABC-VHDL to cycle tables for countdown boards.
  *
- * The functions are those of crates/exports, proved to meet contracts by the definitions in crates/exports/specs.
+ * The functions are those of crates/exports, proved to meet contracts by the definitions in crates/theorems/specs/CInterface.antt.
  * Build the library by `rt staticlib exports`, and link target/staticlib/libexports.a.
  * No function allocates memory, keeps anything between calls, reads or writes a file, or fails in another way than by its answer.
  *
@@ -12,8 +12,8 @@
  *   state           49 numbers: the place, 16 output slots, 32 variable slots
  *   answer          3 numbers: the refusal's number or 0; its place or 0; a count
  * Each pointer with a length must point to that many elements; state and answer must point to 49 and 3. Each must be aligned for its type.
- * What is read must be initialised: text and inputs in every call; image in rabtishu_open, rabtishu_fresh and rabtishu_cycle; all 49 numbers of state in
- * rabtishu_cycle and rabtishu_direct. The rest is only written: the buffer of rabtishu_compile, outputs, state in the two fresh calls, answer.
+ * All memory that is lent must be initialised: the proofs speak of memory that holds numbers. Read in fact are text and inputs in every call, image in
+ * rabtishu_open, rabtishu_fresh and rabtishu_cycle, and state in rabtishu_cycle and rabtishu_direct; all else is only written.
  * What is written (image, outputs, state, answer) must not overlap anything else that the call is lent.
  * A length of 0 is fine; nothing is then read or written through its pointer, which may be NULL.
  *
