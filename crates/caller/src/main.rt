@@ -2,7 +2,7 @@
 // token as a part of the text. The first text is 16385 blanks; each line of a file that an argument names is one more.
 // Of a text are printed the answer of `compile`, whether the buffer still holds 165 where nothing is written, and the tokens. Of a refused one: the token at the
 // refusal's place, and the direct calls. Of an accepted one: a compile into a byte less than it needs; the image opened, with its sections; the calls on the
-// image, then on the text; and the image with a byte changed, cut or empty, opened and called.
+// text, then on the image; and the image with a byte changed, cut or empty, opened and called.
 // `fresh` and `cycle` tell the answer and the record that the call leaves. Before `fresh` the record has place 7, 3 in output slot 15 and -5 in variable slot 31;
 // an output row holds 99 before a call.
 ghost use Prim.Native.Nat.{_≤_};
@@ -72,14 +72,17 @@ fn print_tokens(text: &[u8]) {
     print::line();
 }
 
-// A text that is refused: the token, and the calls from the marked record.
-fn refused(text: &[u8], buffer: &[u8], r: Refusal) {
+// The refusal of a text, and the token there.
+fn print_refused(text: &[u8], buffer: &[u8], r: Refusal) {
     print::refusal(r);
     print_untouched(buffer);
     print::words(b" token");
     print_token(text, answers::place(r));
     print::line();
-    print_tokens(text);
+}
+
+// The calls on a text that is refused, from the marked record.
+fn run_refused(text: &[u8]) {
     let rows = Rows {
         on_image: false,
         inputs: 1,
@@ -88,6 +91,13 @@ fn refused(text: &[u8], buffer: &[u8], r: Refusal) {
     rows::start(text, false);
     rows::run_row(text, rows, rows::marked(), 1);
     print::line();
+}
+
+// A text that is refused.
+fn refused(text: &[u8], buffer: &[u8], r: Refusal) {
+    print_refused(text, buffer, r);
+    print_tokens(text);
+    run_refused(text);
 }
 
 // The text compiled into the first m bytes of a buffer.
@@ -134,14 +144,26 @@ fn fresh_state(image: &[u8]) -> State {
     f.state
 }
 
-// The calls on an accepted text and its image.
-fn run(text: &[u8], image: &[u8]) {
-    opened::report(image);
+// The calls on an image, damaged too.
+fn run_image(image: &[u8]) {
+    let rows = rows_of(image, true);
     print::words(b" image\n");
-    rows::run(image, rows_of(image, true));
+    rows::run(image, rows);
+    opened::damaged(image, rows, fresh_state(image));
+}
+
+// The calls on a text, with the counts of its image.
+fn run_text(text: &[u8], image: &[u8]) {
     print::words(b" text\n");
     rows::run(text, rows_of(image, false));
-    opened::damaged(image, rows_of(image, true), fresh_state(image));
+}
+
+// An accepted text and its image.
+fn run(text: &[u8], image: &[u8]) {
+    print_tokens(text);
+    opened::report(image);
+    run_text(text, image);
+    run_image(image);
 }
 
 // A text that is accepted, with the 65535 bytes into which it was compiled.
@@ -153,7 +175,6 @@ fn accepted(text: &[u8], whole: &[u8], n: usize) {
     print_untouched(&whole[n..]);
     print::line();
     compile_short(text, n);
-    print_tokens(text);
     run(text, &whole[0..n]);
 }
 

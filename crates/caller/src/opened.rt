@@ -3,6 +3,7 @@ use crate::print;
 use crate::rows;
 use crate::rows::Rows;
 use crate::sections;
+use answers::Sections;
 use answers::State;
 use entry::Opening;
 use words::byte;
@@ -10,14 +11,18 @@ use words::byte;
 // Every so many bytes one is changed.
 const STEP: usize = 7;
 
-fn print_opening(o: Opening) {
-    let at = o.sections;
-    print::number(o.number as usize);
-    print::number(o.place);
+fn print_sections(at: Sections) {
     print::number(at.signature);
     print::number(at.lines);
     print::number(at.code);
     print::number(at.end);
+}
+
+fn print_opening(o: Opening) {
+    let at = o.sections;
+    print::number(o.number as usize);
+    print::number(o.place);
+    print_sections(at);
 }
 
 // What opening finds, by `find` and in the opened image.
@@ -28,33 +33,35 @@ fn print_found(image: &[u8]) {
     print_opening(sections::opening(image));
 }
 
-fn print_section(section: &[u8]) {
+// A section, with its length, on a line of its own.
+fn print_section(name: &[u8], section: &[u8]) {
+    print::words(name);
     print::number(section.len());
     print::bytes(section);
+    print::line();
 }
 
 // The image opened, and its sections.
 pub(crate) fn report(image: &[u8]) {
     print_found(image);
     print::line();
-    print::words(b" signature");
-    print_section(sections::signature(image));
-    print::line();
-    print::words(b" lines");
-    print_section(sections::lines(image));
-    print::line();
-    print::words(b" code");
-    print_section(sections::code(image));
-    print::line();
+    print_section(b" signature", sections::signature(image));
+    print_section(b" lines", sections::lines(image));
+    print_section(b" code", sections::code(image));
+}
+
+// The lengths of the sections.
+fn print_lent(image: &[u8]) {
+    print::words(b" lent");
+    print::number(sections::signature(image).len());
+    print::number(sections::lines(image).len());
+    print::number(sections::code(image).len());
 }
 
 // A damaged image opened, the lengths of its sections, its fresh state, and a row.
 fn report_damaged(image: &[u8], rows: Rows, s: State) {
     print_found(image);
-    print::words(b" lent");
-    print::number(sections::signature(image).len());
-    print::number(sections::lines(image).len());
-    print::number(sections::code(image).len());
+    print_lent(image);
     rows::start(image, true);
     rows::run_row(image, rows, s, 1);
     print::line();

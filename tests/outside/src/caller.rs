@@ -64,10 +64,10 @@ fn text_answers(out: &mut String, number: usize, text: &[u8]) {
         inputs: usize::from(image[28]),
         outputs: usize::from(image[29]),
     };
-    out.push_str(" image\n");
-    calls(image, true).run(out);
     out.push_str(" text\n");
     calls(text, false).run(out);
+    out.push_str(" image\n");
+    calls(image, true).run(out);
     damaged(out, image, |bytes| calls(bytes, true));
 }
 
