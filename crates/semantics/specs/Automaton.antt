@@ -1,4 +1,4 @@
--- The output rows of a process of document 000 over a list of input rows (5.5): as printed, and as document 01 reads them. Assumes nothing.
+-- The states and the output rows of a process of document 000 over a list of input rows (5.5): as printed, and as document 01 reads them. Assumes nothing.
 use mathlib.Core.Option.{Option, none}
 use mathlib.Core.List.{List, [], _∷_, map}
 use Rattle.semantics.specs.Effects.{printed}

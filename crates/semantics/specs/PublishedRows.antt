@@ -1,4 +1,4 @@
--- Rows by the published equations, with refusals and the way. Assumes nothing.
+-- Rows by the published equations, with refusals and the way; the state that they go on from. Assumes nothing.
 use mathlib.Core.Option.{Option, none, some}
 use mathlib.Core.List.{List, [], _∷_}
 use Prim.Native.Nat.{ℕ}
