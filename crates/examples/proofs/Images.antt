@@ -143,6 +143,11 @@ pub damaged-signature : openOf (off 31) ∷ openOf (off 28) ∷ openOf (off 29) 
 unfolding opened
 damaged-signature = refl
 
+-- the first two bytes of the signature alone, the pairs fitting each other and the image: 12
+pub short-signature : openOf (take 30 (set (set (set tallyImage 8 2) 12 30) 20 102) ++ drop 42 tallyImage) ≡ not-opened 12 0
+unfolding opened
+short-signature = refl
+
 pub damaged-reach : openOf (off 76) ≡ not-opened 13 1
 unfolding opened
 damaged-reach = refl

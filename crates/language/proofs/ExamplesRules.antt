@@ -105,6 +105,7 @@ types =
     accepts (stmts "if a = '1' then null; end if; while d = 0 loop wait until clk = '1'; end loop;") ∷
     -- "initial value", at its first token; "Initial values of inputs are ignored, their type included."
     refused-at 6 (vars "variable v : integer := ^'0';") "'0'" ∷
+    refused-at 6 (vars "variable v, w : std_logic := ^0; variable x : integer := '0';") "0" ∷
     refused-at 6 (vars "variable v : std_logic := ^0;") "0" ∷
     refused-at 6 (vars "variable v : std_logic := ^-1;") "-" ∷
     refused-at 6 (ports "clk : in std_logic; p : out std_logic := ^1") "1" ∷

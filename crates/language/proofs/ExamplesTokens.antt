@@ -20,6 +20,7 @@ examples =
     refused-at 2 (stmts "s := 1^_000;") "" ∷
     refused-at 2 (bytes "^" ++ (0 ∷ stmts "null;")) "" ∷
     refused-at 2 (bytes "^" ++ (255 ∷ stmts "null;")) "" ∷
+    refused-at 2 (bytes "entity caf^" ++ (233 ∷ bytes " is")) "" ∷
     refused-at 2 (bytes "^" ++ (11 ∷ stmts "null;")) "" ∷
     refused-at 2 (bytes "^" ++ (12 ∷ stmts "null;")) "" ∷
     -- "Blanks are space, tab, LF, CR"; "-- opens a comment up to LF", in which any byte may stand

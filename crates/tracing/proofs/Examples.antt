@@ -28,10 +28,10 @@ pub p1 : traceOf tallyText (bytes "7\n7\n1\n-5\n-2147483648\n20\n") ≡ bytes "c
 unfolding opened
 p1 = refl
 
--- a last line without LF counts; an empty line is a row of no values; a double space, `+`, CR, a decimal outside integer and a row of two values are 14;
+-- a last line without LF counts; an empty line is a row of no values; a double space, a tab, `+`, CR, a decimal outside integer and a row of two values are 14;
 -- leading zeros and `-0` are decimals
-pub unreadable : traceOf tallyText (bytes "007\n\n7  1\n+7\n7\r\n-2147483649\n2147483648\n1 2\n 7\n7 \n-\n-0")
-    ≡ bytes "cycle wait lines total\n0 2 3 0\n1 refused 14\n2 refused 14\n3 refused 14\n4 refused 14\n5 refused 14\n6 refused 14\n7 refused 14\n8 refused 14\n9 refused 14\n10 refused 14\n11 2 3 0\n"
+pub unreadable : traceOf tallyText (bytes "007\n\n7  1\n+7\n7\r\n-2147483649\n2147483648\n1 2\n 7\n7 \n-\n\t7\n-0")
+    ≡ bytes "cycle wait lines total\n0 2 3 0\n1 refused 14\n2 refused 14\n3 refused 14\n4 refused 14\n5 refused 14\n6 refused 14\n7 refused 14\n8 refused 14\n9 refused 14\n10 refused 14\n11 refused 14\n12 2 3 0\n"
 unfolding opened
 unreadable = refl
 
