@@ -6,17 +6,13 @@ use Prim.Native.Nat.{ℕ}
 use lib.IntN.{ℤ}
 use Rattle.answers.specs.declared.State.{State}
 use Rattle.answers.specs.Answers.{cycleTold, freshTold}
-use Rattle.semantics.specs.Records.{Started, fresh, not-started}
+use Rattle.semantics.specs.Records.{Started}
 use Rattle.behaviour.specs.Direct.{directOf}
 use Rattle.direct.specs.Calls.{callOf}
 use Rattle.semantics.specs.Advances.{cycleAnswer, freshAnswer}
+use Rattle.theorems.specs.Entry.{stateAfter}
 use Rattle.entry.specs.declared.calls.Outcome.{Outcome}
 use Rattle.entry.specs.declared.calls.Start.{Start}
-
--- "Buffers and state are untouched": the record after a fresh state was asked for
-abbrev pub stateAfter : Started → State → State
-stateAfter (fresh s) t = s
-stateAfter (not-started q k) t = t
 
 -- the outcome r and the output row u as it is left are those of the direct run; `kept`: a cycle that was not performed leaves the state s
 pub record DirectOutcomes (text : List ℕ) (s : State) (i o : List ℤ) (r : Outcome) (u : List ℤ) : Type 0 where

@@ -4,16 +4,21 @@ use Prim.Native.Nat.{ℕ}
 use Rattle.answers.specs.declared.Sections.{Sections}
 use Rattle.format.specs.Opening.{Opened, opened, not-opened, openOf}
 use Rattle.loader.specs.Open.{placesOf}
+use Rattle.theorems.specs.Entry.{openingTold}
 use Rattle.entry.specs.declared.Opening.{Opening}
 
 -- the bounds of three empty sections
 abbrev pub noSections : Sections
 noSections = record { signature = 0; lines = 0; code = 0; end = 0 }
 
--- an image opened: where its sections start, and where the last ends; or the number and the place of 11, 12 or 13, with three empty sections
+-- the bounds that are found: where the sections start, and where the last ends; of a refused image three empty sections
+abbrev pub boundsFound : List ℕ → Opened → Sections
+boundsFound b (opened t) = placesOf b
+boundsFound b (not-opened q k) = noSections
+
+-- an image opened: the number and the place of 11, 12 or 13, or 0; and the bounds
 abbrev pub openingAs : List ℕ → Opened → Opening
-openingAs b (opened t) = record { number = 0; place = 0; sections = placesOf b }
-openingAs b (not-opened q k) = record { number = q; place = k; sections = noSections }
+openingAs b o = record { number = openingTold o .0; place = openingTold o .1; sections = boundsFound b o }
 
 -- the same of the bytes b
 abbrev pub openingOf : List ℕ → Opening

@@ -15,3 +15,4 @@ pub mod OffencePlaces
 pub mod Places
 pub mod Untouched
 pub mod CInterface
+pub mod Entry

@@ -23,7 +23,7 @@ use Rattle.behaviour.specs.Direct.{directOf, directCalls}
 use Rattle.theorems.specs.Compile.{written, compileOf}
 use Rattle.theorems.specs.Lending.{boundsOf}
 use Rattle.theorems.specs.CInterface.{compileInC}
-use Rattle.theorems.specs.Promises.{Demand1, Demand2, Demand3, Handed, SectionsLent, ToldInC, doneNumbers, CallsInC, Compiled, Returned}
+use Rattle.theorems.specs.Promises.{Demand1, Demand2, Demand3, Handed, SectionsLent, AnswersTold, ToldByEntry, ToldInC, doneNumbers, CallsInC, Compiled, Returned}
 use Rattle.theorems.proofs.Size.{valid-fits}
 use Rattle.theorems.proofs.Demand1 as D1
 use Rattle.theorems.proofs.Demand2 as D2
@@ -31,6 +31,7 @@ use Rattle.theorems.proofs.Demand3 as D3
 use Rattle.theorems.proofs.Demand3.{Wrote, wrote}
 use Rattle.theorems.proofs.Handed as H
 use Rattle.theorems.proofs.SectionsLent as L
+use Rattle.theorems.proofs.Entry as E
 use Rattle.theorems.proofs.CInterface as C
 
 -- DEMAND 1, for every text, buffer, image (a list of bytes), state record and call
@@ -52,6 +53,13 @@ handed = H.handed
 -- THE SECTIONS LENT OUT, for every image (a list of bytes) that opens, between the bounds of its table's sections
 pub sections-lent : (image : List ℕ) → Bytes image → (t : Table) → openOf image ≡ opened t → SectionsLent image t (boundsOf (sectionsFor t))
 sections-lent = L.sections-lent
+
+-- ANSWERS THAT ARE ENUMS, and what entry leaves and tells beside them, for every text, image and state record
+pub answers-told : AnswersTold
+answers-told = E.answers-told
+
+pub told-by-entry : (text image : List ℕ) (s : State) → ToldByEntry text image s
+told-by-entry = E.told-by-entry
 
 -- THE C INTERFACE: one call of each function, for every text, buffer, image, 49 numbers and call; every list of calls, where rabtishu_compile told n bytes
 pub told-in-c : (text buffer image : List ℕ) → Bytes image → (l : List ℤ) (c : Call) → ToldInC text buffer image l c

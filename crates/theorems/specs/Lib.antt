@@ -3,3 +3,4 @@ pub mod Lending
 pub mod Promises
 pub mod Places
 pub mod CInterface
+pub mod Entry

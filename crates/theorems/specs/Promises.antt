@@ -8,7 +8,15 @@ use Prim.Native.Nat.{ℕ, suc, _+_, _≤_, _<_}
 use lib.ListN.{length, take, drop}
 use lib.IntN.{ℤ}
 use denote.Ref.{RefT, now}
+use Rattle.answers.specs.Answers.{numberOf, placeOf, compileTold, freshTold, cycleTold}
 use Rattle.answers.specs.declared.State.{State}
+use Rattle.answers.specs.declared.Refusal as declared
+use Rattle.answers.specs.declared.Compiled as declared-compiled
+use Rattle.answers.specs.declared.Compiled.the-variants.{Written, NotCompiled}
+use Rattle.answers.specs.declared.Started as declared-started
+use Rattle.answers.specs.declared.Started.the-variants.{Fresh, NotStarted}
+use Rattle.answers.specs.declared.Cycled.{Cycled}
+use Rattle.answers.specs.declared.Cycled.the-variants.{Performed, NotPerformed}
 use Rattle.answers.specs.declared.Sections.{Sections}
 use Rattle.grammar.specs.Tree.{Text}
 use Rattle.design.specs.Statement.{size}
@@ -29,6 +37,7 @@ use Rattle.semantics.specs.Answer.{Answers, AllAnswer}
 use Rattle.semantics.specs.Way.{Distinct}
 use Rattle.semantics.specs.Records.{Started, fresh, not-started}
 use Rattle.semantics.specs.Calls.{Answer, performed, not-performed, Called, Call, turnedBack}
+use Rattle.semantics.specs.Advances.{cycleAnswer, freshAnswer}
 use Rattle.semantics.specs.Comparison.{fed, laid, seen, equationCalls}
 use Rattle.semantics.specs.DirectRow.{Described}
 use Rattle.format.specs.Image.{Table, sectionsFor, encodeTable}
@@ -43,7 +52,8 @@ use Rattle.format.specs.Encode.{tableOf, encode}
 use Rattle.images.specs.Outcome as Image
 use Rattle.behaviour.specs.Direct.{directOf, directFresh, directCalls}
 use Rattle.behaviour.specs.DirectRun.{DirectRun}
-use Rattle.theorems.specs.Compile.{Compile, written, not-compiled, compileOf}
+use Rattle.theorems.specs.Compile.{Compile, written, not-compiled, compileAnswer, compileOf}
+use Rattle.theorems.specs.Entry.{stateAfter, openingTold}
 use Rattle.theorems.specs.CInterface.{Left, stateOfC, cOfState, compileInC, openInC, freshInC, cycleInC, directFreshInC, directInC, callsInC}
 use Rattle.theorems.specs.Lending.{Lends, StandsAt, PartAt, LentAs}
 
@@ -195,6 +205,30 @@ pub record SectionsLent (image : List ℕ) (t : Table) (o : Sections) : Type 0 w
   pub signature : LentAs image (o .signature) (o .lines) (sectionsFor t .signature)
   pub lines : LentAs image (o .lines) (o .code) (sectionsFor t .lines)
   pub code : LentAs image (o .code) (o .end) (sectionsFor t .code)
+
+-- ANSWERS THAT ARE ENUMS. "Where an answer is an enum, the promises use a definition. That definition gives this paper's number and values for each of the
+-- enum's cases." An answer of the code that tells what is told of the definition's, as every contract has it, is the count itself, or a refusal with the
+-- definition's own number and place.
+abbrev pub RefusedAs : {A : Type 0} → (declared.Refusal → A) → A → ℕ → ℕ → Type 0
+RefusedAs wrap r q k = (x : declared.Refusal) × (r ≡ wrap x) × (numberOf x ≡ q) × (placeOf x ≡ k)
+
+pub record AnswersTold : Type 0 where
+  pub compiled : (r : declared-compiled.Compiled) (n : ℕ) → compileTold r ≡ compileAnswer (written n) → r ≡ Written n
+  pub compile-refused : (r : declared-compiled.Compiled) (q k : ℕ) → compileTold r ≡ compileAnswer (not-compiled q k) → RefusedAs NotCompiled r q k
+  pub started : (r : declared-started.Started) (s : State) → freshTold r ≡ freshAnswer (fresh s) → r ≡ Fresh
+  pub start-refused : (r : declared-started.Started) (q k : ℕ) → freshTold r ≡ freshAnswer (not-started q k) → RefusedAs NotStarted r q k
+  pub cycled : (r : Cycled) (way : List ℕ) → cycleTold r ≡ cycleAnswer (performed way) → r ≡ Performed (length way)
+  pub cycle-refused : (r : Cycled) (q k : ℕ) → cycleTold r ≡ cycleAnswer (not-performed q k) → RefusedAs NotPerformed r q k
+
+-- what entry leaves and tells beside them: the state record s is the fresh state where there is one and as it came where the call is refused; an opened image
+-- tells 0 and 0, or the definition's own number and place
+pub record ToldByEntry (text image : List ℕ) (s : State) : Type 0 where
+  pub opened : (t : Table) → openOf image ≡ opened t → openingTold (openOf image) ≡ (0, 0)
+  pub open-refused : (q k : ℕ) → openOf image ≡ not-opened q k → openingTold (openOf image) ≡ (q, k)
+  pub started : (x : State) → freshOf image ≡ fresh x → stateAfter (freshOf image) s ≡ x
+  pub start-refused : (q k : ℕ) → freshOf image ≡ not-started q k → stateAfter (freshOf image) s ≡ s
+  pub run-started : (x : State) → directFresh text ≡ fresh x → stateAfter (directFresh text) s ≡ x
+  pub run-start-refused : (q k : ℕ) → directFresh text ≡ not-started q k → stateAfter (directFresh text) s ≡ s
 
 -- THE C INTERFACE, in the same words: what its functions hand out is what the definitions above say, number by number (include/rabtishu.h).
 

@@ -50,7 +50,8 @@ use Rattle.answers.specs.Answers.{freshTold}
 use Rattle.format.specs.State.{freshOf}
 use Rattle.semantics.specs.Advances.{freshAnswer}
 use Rattle.runtime.proofs.Stored.{is-false, is-true}
-use Rattle.entry.specs.Calling.{Starting, stateAfter}
+use Rattle.theorems.specs.Entry.{stateAfter}
+use Rattle.entry.specs.Calling.{Starting}
 use Rattle.entry.specs.declared.calls.Start.{Start}
 use Rattle.answers.proofs.State as S
 use Rattle.answers.proofs.State.Laws as S′
