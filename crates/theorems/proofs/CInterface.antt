@@ -4,7 +4,7 @@ use Prim.Native.Nat.{ℕ, _<_}
 use native.Mathlib.Omega.{arith}
 use mathlib.Core.Path.{_≡_, refl, sym, ap, _∙_, subst}
 use mathlib.Core.List.{List, [], _∷_, map}
-use lib.ListN.{length, take}
+use lib.ListN.{length, take, length-append}
 use lib.Seq.{take-all, take-at, drop-at}
 use lib.IntN.{ℤ}
 use borrow.Author.Tests.{lt-ltb}
@@ -32,7 +32,7 @@ use Rattle.behaviour.proofs.DirectRun.{direct-run}
 use Rattle.theorems.specs.Compile.{Compile, Compiled, written, not-compiled, compileAnswer, compileOf}
 use Rattle.theorems.specs.CInterface.{numbersOf, stateOfC, cOfState, Left, cycleLeft, startLeft, openNumbers, compileInC, cycleInC, directInC, callsInC}
 use Rattle.theorems.specs.Promises as P
-use Rattle.theorems.specs.Promises.{ToldInC, CallsInC, seenInC, refusedNumbers, doneNumbers}
+use Rattle.theorems.specs.Promises.{SlotsInC, ToldInC, CallsInC, seenInC, refusedNumbers, doneNumbers}
 use Rattle.theorems.proofs.Demand1.{demand1}
 use Rattle.theorems.proofs.Demand3.{wrote, demand3}
 use Rattle.theorems.proofs.Size.{valid-fits}
@@ -73,6 +73,12 @@ told-in-c text buffer image h l c =
       run-started = λ s e. ap (λ (x : Started). startLeft x l) e;
       run-start-refused = λ q k e. ap (λ (x : Started). startLeft x l) e;
     }
+
+-- THE 49 NUMBERS
+pub slots-in-c : (s : State) → length (s .outputs) ≡ 16 → length (s .variables) ≡ 32 → SlotsInC s
+slots-in-c s h k =
+    let e = length-append (s .outputs) (s .variables) in
+    record { place = refl; outputs = take-at (s .outputs) (s .variables) 16 h; variables = drop-at (s .outputs) (s .variables) 16 h; count = omega arith }
 
 -- LISTS OF CALLS
 

@@ -23,7 +23,7 @@ use Rattle.behaviour.specs.Direct.{directOf, directCalls}
 use Rattle.theorems.specs.Compile.{written, compileOf}
 use Rattle.theorems.specs.Lending.{boundsOf}
 use Rattle.theorems.specs.CInterface.{compileInC}
-use Rattle.theorems.specs.Promises.{Demand1, Demand2, Demand3, Handed, SectionsLent, AnswersTold, ToldByEntry, ToldInC, doneNumbers, CallsInC, Compiled, Returned}
+use Rattle.theorems.specs.Promises.{Demand1, Demand2, Demand3, Handed, SectionsLent, AnswersTold, ToldByEntry, SlotsInC, ToldInC, doneNumbers, CallsInC, Compiled, Returned}
 use Rattle.theorems.proofs.Size.{valid-fits}
 use Rattle.theorems.proofs.Demand1 as D1
 use Rattle.theorems.proofs.Demand2 as D2
@@ -64,6 +64,10 @@ told-by-entry = E.told-by-entry
 -- THE C INTERFACE: one call of each function, for every text, buffer, image, 49 numbers and call; every list of calls, where rabtishu_compile told n bytes
 pub told-in-c : (text buffer image : List ℕ) → Bytes image → (l : List ℤ) (c : Call) → ToldInC text buffer image l c
 told-in-c = C.told-in-c
+
+-- every state record has 16 and 32 slots, by its type
+pub slots-in-c : (s : State) → length (s .outputs) ≡ 16 → length (s .variables) ≡ 32 → SlotsInC s
+slots-in-c = C.slots-in-c
 
 pub calls-in-c : (text buffer : List ℕ) (n : ℕ) → compileInC text buffer .0 ≡ doneNumbers n → CallsInC text buffer n
 calls-in-c = C.calls-in-c

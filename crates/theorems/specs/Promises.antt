@@ -5,8 +5,8 @@ use mathlib.Core.Path.{_≡_}
 use mathlib.Core.Logic.{_↔_}
 use mathlib.Core.List.{List, [], _∷_, _++_, map}
 use Prim.Native.Nat.{ℕ, suc, _+_, _≤_, _<_}
-use lib.ListN.{length, take, drop}
-use lib.IntN.{ℤ}
+use lib.ListN.{length, getD, take, drop}
+use lib.IntN.{ℤ, pos}
 use denote.Ref.{RefT, now}
 use Rattle.answers.specs.Answers.{numberOf, placeOf, compileTold, freshTold, cycleTold}
 use Rattle.answers.specs.declared.State.{State}
@@ -238,6 +238,13 @@ refusedNumbers q k = q ∷ k ∷ 0 ∷ []
 
 abbrev pub doneNumbers : ℕ → List ℕ
 doneNumbers n = 0 ∷ 0 ∷ n ∷ []
+
+-- the 49 numbers of a state record: first the place, then 16 outputs, then 32 variables
+pub record SlotsInC (s : State) : Type 0 where
+  pub place : getD (cOfState s) 0 (pos 0) ≡ pos (s .place)
+  pub outputs : take 16 (drop 1 (cOfState s)) ≡ s .outputs
+  pub variables : drop 17 (cOfState s) ≡ s .variables
+  pub count : length (cOfState s) ≡ 49
 
 -- one call of each function, on any bytes, any 49 numbers and any rows: the three numbers are the definition's own number, place and count; a refused call
 -- alters neither buffer, nor the 49 numbers, nor the output row
