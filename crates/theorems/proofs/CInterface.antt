@@ -4,9 +4,9 @@ use Prim.Native.Nat.{ℕ, _<_}
 use native.Mathlib.Omega.{arith}
 use mathlib.Core.Path.{_≡_, refl, sym, ap, _∙_, subst}
 use mathlib.Core.List.{List, [], _∷_, map}
-use lib.ListN.{length, take, length-append}
+use lib.ListN.{length, take, drop, length-append}
 use lib.Seq.{take-all, take-at, drop-at}
-use lib.IntN.{ℤ}
+use lib.IntN.{ℤ, pos}
 use borrow.Author.Tests.{lt-ltb}
 use Rattle.answers.specs.declared.State.{State}
 use Rattle.language.proofs.Judged.{accepts}
@@ -30,7 +30,7 @@ use Rattle.images.proofs.Processes.{encode-bytes}
 use Rattle.behaviour.specs.Direct.{directOf}
 use Rattle.behaviour.proofs.DirectRun.{direct-run}
 use Rattle.theorems.specs.Compile.{Compile, Compiled, written, not-compiled, compileAnswer, compileOf}
-use Rattle.theorems.specs.CInterface.{numbersOf, stateOfC, cOfState, Left, cycleLeft, startLeft, openNumbers, compileInC, cycleInC, directInC, callsInC}
+use Rattle.theorems.specs.CInterface.{numbersOf, placeOfC, stateOfC, cOfState, Left, cycleLeft, startLeft, openNumbers, compileInC, cycleInC, directInC, callsInC}
 use Rattle.theorems.specs.Promises as P
 use Rattle.theorems.specs.Promises.{SlotsInC, ToldInC, CallsInC, seenInC, refusedNumbers, doneNumbers}
 use Rattle.theorems.proofs.Demand1.{demand1}
@@ -90,12 +90,10 @@ pub record Whole (s : State) : Type 0 where
 
 back : (s : State) → Whole s → stateOfC (cOfState s) ≡ s
 back s w =
-    rw (
-      lt-ltb (s .place) 65536 (w .place),
-      take-at (s .outputs) (s .variables) 16 (w .outputs),
-      drop-at (s .outputs) (s .variables) 16 (w .outputs),
-      take-all 32 (s .variables) (let e = w .variables in omega arith),
-    )
+    let l = slots-in-c s (w .outputs) (w .variables) in
+    let place : placeOfC (pos (s .place)) ≡ s .place = rw (lt-ltb (s .place) 65536 (w .place)) in
+    let variables : take 32 (drop 17 (cOfState s)) ≡ s .variables = ap (take 32) (l .variables) ∙ take-all 32 (s .variables) (let e = w .variables in omega arith) in
+    λ j. record { place = place j; outputs = l .outputs j; variables = variables j }
 
 -- what a call on the record s leaves in the 49 numbers of s is seen as the call, and the record is whole again
 record Carried (s : State) (r : Called) : Type 0 where
