@@ -6,7 +6,7 @@ use mathlib.Core.List.{List, [], _∷_}
 use Prim.Native.Nat.{ℕ, zero, suc, _+_}
 use native.Mathlib.Omega.{arith}
 use Rattle.answers.specs.declared.Refusal.{Refusal}
-use Rattle.answers.specs.declared.Refusal.the-variants.{TextTooLong, NoToken, NoSentence, LimitPassed, WrongName, WrongType, NoValue, WrongClock, WrongClass, BufferTooShort, BadSections, BadSignature, BadLine, BadRow, BadState, OutOfRange}
+use Rattle.answers.specs.declared.Refusal.the-variants.{TextTooLong, NoToken, NoSentence, LimitPassed, WrongName, WrongType, NoValue, WrongClock, WrongClass, BufferTooShort, BadSections, BadSignature, BadLine, BadRow, BadState, OutOfRange, BadLengths}
 use Rattle.answers.specs.Answers.{numberOf, placeOf, Told, refusal, refusedBy}
 
 -- a row of the table: the refusal at a place, or none where the row has not that place
@@ -26,7 +26,8 @@ at c p = some (c p)
 abbrev table : List Row
 table =
     at-0 TextTooLong ∷ at NoToken ∷ at NoSentence ∷ at LimitPassed ∷ at WrongName ∷ at WrongType ∷ at NoValue ∷ at WrongClock ∷ at WrongClass
-    ∷ at BufferTooShort ∷ at-0 BadSections ∷ at-0 BadSignature ∷ at BadLine ∷ at BadRow ∷ at-0 BadState ∷ at OutOfRange ∷ []
+    ∷ at BufferTooShort ∷ at-0 BadSections ∷ at-0 BadSignature ∷ at BadLine ∷ at BadRow ∷ at-0 BadState ∷ at OutOfRange ∷ at-0 BadLengths
+    ∷ []
 
 -- the refusal at a place in the row with that index
 rowAt : List Row → ℕ → ℕ → Option Refusal
@@ -96,7 +97,7 @@ table-tells = (
                             placed BadRow 14 (λ p. (refl, refl)),
                             (
                               fixed BadState 15 (refl, refl),
-                              (placed OutOfRange 16 (λ p. (refl, refl)), tt),
+                              (placed OutOfRange 16 (λ p. (refl, refl)), (fixed BadLengths 17 (refl, refl), tt)),
                             ),
                           ),
                         ),
@@ -143,6 +144,7 @@ tells-for (BadLine p) = refl
 tells-for (BadRow p) = refl
 tells-for BadState = refl
 tells-for (OutOfRange p) = refl
+tells-for BadLengths = refl
 
 -- THE LAW: the refusal for a number and a place has this number and this place, and is the only one
 pub told-exactly : (q k : ℕ) (r : Refusal) → (refusalFor q k ≡ some r) ↔ ((numberOf r ≡ q) × (placeOf r ≡ k))

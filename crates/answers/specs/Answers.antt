@@ -2,7 +2,7 @@
 use mathlib.Core.Bool.{Bool, true, false}
 use Prim.Native.Nat.{ℕ}
 use Rattle.answers.specs.declared.Refusal.{Refusal}
-use Rattle.answers.specs.declared.Refusal.the-variants.{TextTooLong, NoToken, NoSentence, LimitPassed, WrongName, WrongType, NoValue, WrongClock, WrongClass, BufferTooShort, BadSections, BadSignature, BadLine, BadRow, BadState, OutOfRange}
+use Rattle.answers.specs.declared.Refusal.the-variants.{TextTooLong, NoToken, NoSentence, LimitPassed, WrongName, WrongType, NoValue, WrongClock, WrongClass, BufferTooShort, BadSections, BadSignature, BadLine, BadRow, BadState, OutOfRange, BadLengths}
 use Rattle.answers.specs.declared.Compiled.{Compiled}
 use Rattle.answers.specs.declared.Compiled.the-variants.{Written, NotCompiled}
 use Rattle.answers.specs.declared.Sections.{Sections}
@@ -10,6 +10,8 @@ use Rattle.answers.specs.declared.Opened.{Opened}
 use Rattle.answers.specs.declared.Opened.the-variants.{Image, NotOpened}
 use Rattle.answers.specs.declared.Cycled.{Cycled}
 use Rattle.answers.specs.declared.Cycled.the-variants.{Performed, NotPerformed}
+use Rattle.answers.specs.declared.Batched.{Batched}
+use Rattle.answers.specs.declared.Batched.the-variants.{Taken, NotTaken}
 use Rattle.answers.specs.declared.Started.{Started}
 use Rattle.answers.specs.declared.Started.the-variants.{Fresh, NotStarted}
 
@@ -31,6 +33,7 @@ numberOf (BadLine p) = 13
 numberOf (BadRow p) = 14
 numberOf BadState = 15
 numberOf (OutOfRange p) = 16
+numberOf BadLengths = 17
 
 -- the column "Place"
 abbrev pub placeOf : Refusal → ℕ
@@ -50,6 +53,7 @@ placeOf (BadLine p) = p
 placeOf (BadRow p) = p
 placeOf BadState = 0
 placeOf (OutOfRange p) = p
+placeOf BadLengths = 0
 
 -- an answer in document 01's terms: done, with what is counted or lent; or turned back, by the number and the place of a row of the table
 pub data Told (A : Type 0) : Type 0 where
@@ -89,6 +93,11 @@ freshTold (NotStarted r) = refusedBy r
 abbrev pub cycleTold : Cycled → Told ℕ
 cycleTold (Performed n) = done n
 cycleTold (NotPerformed r) = refusedBy r
+
+-- many rows in one call: taken, or turned back as a whole
+abbrev pub batchTold : Batched → Told (Unit {0})
+batchTold Taken = done tt
+batchTold (NotTaken r) = refusedBy r
 
 -- how many lines a cycle performed: "A refused cycle answers 0 lines."
 abbrev pub linesOf : Cycled → ℕ

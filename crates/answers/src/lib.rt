@@ -1,4 +1,6 @@
 // What the public operations take and answer: the state record, the refusals of document 01's table, and one enum for each kind of answer.
+pub mod numbers;
+
 ghost use mathlib.Core.Path.{_≡_};
 ghost use Rattle.answers.specs.Answers.{numberOf, placeOf, isPerformed, isFresh};
 ghost use Rattle.answers.specs.declared.Cycled.the-variants.{NotPerformed};
@@ -11,7 +13,7 @@ pub struct State {
 }
 
 // Why a call was turned back: a variant for each row of the table, in its order, with the refusal's place where that is not always 0.
-// Later requests add their rows (17 to 24) at the end.
+// Later requests add their rows (18 to 24) at the end.
 pub enum Refusal {
     TextTooLong,
     NoToken(usize),
@@ -29,6 +31,7 @@ pub enum Refusal {
     BadRow(usize),
     BadState,
     OutOfRange(usize),
+    BadLengths,
 }
 
 // Where the sections of an opened image start, and where the last ends: signature, lines, code.
@@ -61,6 +64,12 @@ pub enum Started {
 pub enum Cycled {
     Performed(usize),
     NotPerformed(Refusal),
+}
+
+// Many rows in one call: all of them were run, each with an answer of its own; or none was.
+pub enum Batched {
+    Taken,
+    NotTaken(Refusal),
 }
 
 // A cycle's answer, and the state after it.
@@ -126,6 +135,7 @@ pub fn number(r: Refusal) -> u32
         Refusal::BadRow(_) => 14,
         Refusal::BadState => 15,
         Refusal::OutOfRange(_) => 16,
+        Refusal::BadLengths => 17,
     }
 }
 
@@ -150,5 +160,6 @@ pub fn place(r: Refusal) -> usize
         Refusal::BadRow(p) => p,
         Refusal::BadState => 0,
         Refusal::OutOfRange(p) => p,
+        Refusal::BadLengths => 0,
     }
 }

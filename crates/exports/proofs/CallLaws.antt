@@ -15,8 +15,8 @@ use Rattle.semantics.specs.Calls.{Answer, performed, not-performed, Called}
 use Rattle.semantics.specs.Advances.{cycleAnswer, freshAnswer, startOf}
 use Rattle.format.specs.Opening.{Opened, opened, not-opened}
 use Rattle.loader.specs.Open.{openAnswer}
-use Rattle.theorems.specs.CInterface.{numbersOf, uncounted, stateOfC, cOfState, cycledSlots, cycleLeft, startLeft, openNumbers}
-use Rattle.exports.specs.Numbers.{startedNumbers, cycledNumbers}
+use Rattle.theorems.specs.CInterface.{stateOfC, cOfState, cycledSlots, cycleLeft, startLeft, openNumbers}
+use Rattle.answers.specs.Numbers.{numbersOf, uncounted, startedNumbers, cycledNumbers}
 
 -- an image opened
 pub opened-numbers : (b : List ℕ) (o : Opened) → numbersOf (uncounted (openAnswer b o)) ≡ openNumbers o

@@ -21,20 +21,10 @@ use Rattle.format.specs.State.{freshOf}
 use Rattle.format.specs.Cycle.{cycleOf}
 use Rattle.behaviour.specs.Direct.{directOf, directFresh}
 use Rattle.theorems.specs.Compile.{Compiled, written, not-compiled, compileOf, compileAnswer}
-use Rattle.theorems.specs.CInterface.{numbersOf, uncounted}
 use Rattle.theorems.proofs.Places.{compile-place, compile-count, open-place, fresh-place, cycle-place, cycle-count, direct-place, direct-count, direct-fresh-place}
 use Rattle.loader.specs.Open.{openAnswer}
-use Rattle.exports.specs.Numbers.{Narrow, compiledNumbers, openedNumbers, startedNumbers, cycledNumbers}
-
--- what is known of an answer is known of one that equals it
-pub narrowed : {X : Type 0} (f : X → List ℕ) {x y : X} → x ≡ y → Narrow (f x) → Narrow (f y)
-narrowed f e h = subst (λ a. Narrow (f a)) e h
-
-refused-narrow : (q k : ℕ) → k ≤ 65535 → Narrow (numbersOf (refusal q k))
-refused-narrow q k h = record { place = omega arith; count = omega arith }
-
-done-narrow : (n : ℕ) → n ≤ 65535 → Narrow (numbersOf (done n))
-done-narrow n h = record { place = omega arith; count = omega arith }
+use Rattle.answers.specs.Numbers.{Narrow, numbersOf, uncounted, compiledNumbers, openedNumbers, startedNumbers, cycledNumbers}
+use Rattle.answers.proofs.Narrow.{narrowed, refused-narrow, done-narrow}
 
 -- a cycle's answer, of an image or of a text
 cycled-narrow : (a : Answer) → ((w : List ℕ) → a ≡ performed w → length w ≤ 512) → ((q k : ℕ) → a ≡ not-performed q k → k ≤ 16384) → Narrow (numbersOf (cycleAnswer a))

@@ -1,6 +1,5 @@
 // The C interface: seven functions with plain names, for C and Rust to link; include/rabtishu.h declares them. Whatever is lent, each call is done or
 // refused as document 01 says; a refused one writes nothing but its answer.
-mod answer;
 mod record;
 
 ghost use mathlib.Core.Path.{_≡_};
@@ -12,7 +11,7 @@ pub extern "C" fn rabtishu_compile(text: &[u8], image: &mut [u8], answer: &mut [
     ensures { λ _. ⌜ (now (answer .exit) ≡ compileInC (now (text .entry)) (now (image .entry)) .0) × (now (image .exit) ≡ compileInC (now (text .entry)) (now (image .entry)) .1) ⌝ }
 {
     let c = compiler::compile(text, image);
-    let numbers = answer::compiled(c);
+    let numbers = answers::numbers::compiled(c);
     *answer = numbers;
 }
 
@@ -22,7 +21,7 @@ pub extern "C" fn rabtishu_open(image: &[u8], answer: &mut [u32; 3])
     ensures { λ _. ⌜ now (answer .exit) ≡ openInC (now (image .entry)) ⌝ }
 {
     let o = loader::open(image);
-    let numbers = answer::opened(o);
+    let numbers = answers::numbers::opened(o);
     *answer = numbers;
 }
 
@@ -33,7 +32,7 @@ pub extern "C" fn rabtishu_fresh(image: &[u8], state: &mut [i32; 49], answer: &m
 {
     let f = runtime::fresh(image);
     let started = f.answer;
-    let numbers = answer::started(started);
+    let numbers = answers::numbers::started(started);
     *answer = numbers;
     if answers::is_fresh(started) {
         let s = f.state;
@@ -59,7 +58,7 @@ pub extern "C" fn rabtishu_cycle(
     let s = record::to_state(before);
     let a = runtime::cycle(image, s, inputs, row);
     let cycled = a.answer;
-    let numbers = answer::cycled(cycled);
+    let numbers = answers::numbers::cycled(cycled);
     *answer = numbers;
     if answers::is_performed(cycled) {
         let after = a.state;
@@ -75,7 +74,7 @@ pub extern "C" fn rabtishu_direct_fresh(text: &[u8], state: &mut [i32; 49], answ
 {
     let f = interpreter::fresh(text);
     let started = f.answer;
-    let numbers = answer::started(started);
+    let numbers = answers::numbers::started(started);
     *answer = numbers;
     if answers::is_fresh(started) {
         let s = f.state;
@@ -101,7 +100,7 @@ pub extern "C" fn rabtishu_direct(
     let s = record::to_state(before);
     let a = interpreter::run(text, s, inputs, row);
     let cycled = a.answer;
-    let numbers = answer::cycled(cycled);
+    let numbers = answers::numbers::cycled(cycled);
     *answer = numbers;
     if answers::is_performed(cycled) {
         let after = a.state;

@@ -10,3 +10,4 @@ pub mod Refusals
 pub mod State
 pub mod Cycle
 pub mod Encode
+pub mod Batch

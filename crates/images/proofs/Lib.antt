@@ -3,3 +3,4 @@ pub mod Tables
 pub mod States
 pub mod Outcomes
 pub mod Processes
+pub mod Places

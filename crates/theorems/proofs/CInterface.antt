@@ -9,6 +9,7 @@ use lib.Seq.{take-all, take-at, drop-at}
 use lib.IntN.{ℤ, pos}
 use borrow.Author.Tests.{lt-ltb}
 use Rattle.answers.specs.declared.State.{State}
+use Rattle.answers.specs.Numbers.{numbersOf}
 use Rattle.language.proofs.Judged.{accepts}
 use Rattle.language.proofs.WellFormed.{valid-well-formed}
 use Rattle.semantics.specs.Equations.{beginning}
@@ -30,7 +31,7 @@ use Rattle.images.proofs.Processes.{encode-bytes}
 use Rattle.behaviour.specs.Direct.{directOf}
 use Rattle.behaviour.proofs.DirectRun.{direct-run}
 use Rattle.theorems.specs.Compile.{Compile, Compiled, written, not-compiled, compileAnswer, compileOf}
-use Rattle.theorems.specs.CInterface.{numbersOf, placeOfC, stateOfC, cOfState, Left, cycleLeft, startLeft, openNumbers, compileInC, cycleInC, directInC, callsInC}
+use Rattle.theorems.specs.CInterface.{placeOfC, stateOfC, cOfState, Left, cycleLeft, startLeft, openNumbers, compileInC, cycleInC, directInC, callsInC}
 use Rattle.theorems.specs.Promises as P
 use Rattle.theorems.specs.Promises.{SlotsInC, ToldInC, CallsInC, seenInC, refusedNumbers, doneNumbers}
 use Rattle.theorems.proofs.Demand1.{demand1}

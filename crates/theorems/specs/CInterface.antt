@@ -5,7 +5,8 @@ use Prim.Native.Nat.{ℕ}
 use lib.ListN.{getD, take, drop, length}
 use lib.IntN.{ℤ, pos, negsuc}
 use lib.Dec.{ltb}
-use Rattle.answers.specs.Answers.{Told, done, refusal}
+use Rattle.answers.specs.Answers.{done, refusal}
+use Rattle.answers.specs.Numbers.{numbersOf}
 use Rattle.answers.specs.declared.State.{State}
 use Rattle.language.specs.Lexer.{tokenAt}
 use Rattle.semantics.specs.Records.{Started, fresh, not-started}
@@ -16,16 +17,6 @@ use Rattle.format.specs.State.{freshOf}
 use Rattle.format.specs.Cycle.{cycleOf}
 use Rattle.behaviour.specs.Direct.{directOf, directFresh}
 use Rattle.theorems.specs.Compile.{compileAnswer, compileOf}
-
--- the three numbers of an answer: the refusal's number or 0, its place or 0, what is counted or 0
-abbrev pub numbersOf : Told ℕ → List ℕ
-numbersOf (done n) = 0 ∷ 0 ∷ n ∷ []
-numbersOf (refusal q k) = q ∷ k ∷ 0 ∷ []
-
--- where nothing is counted
-abbrev pub uncounted : {A : Type 0} → Told A → Told ℕ
-uncounted (done x) = done 0
-uncounted (refusal q k) = refusal q k
 
 -- "A place (512 for the beginning, else a wait's line)": a number outside 0 to 65535 is read as 65535, which is neither 512 nor a wait's line and so is
 -- refused by 15 where 14 does not come first

@@ -1,6 +1,6 @@
 -- `exports::rabtishu_compile` meets its contract: the compiler's, its answer as three numbers, whose place and count have 32 bits. Assumes nothing.
 use mathlib.Core.Path.{ap, _∙_}
-use Rattle.theorems.specs.CInterface.{numbersOf}
+use Rattle.answers.specs.Numbers.{numbersOf}
 use Rattle.exports.proofs.NarrowLaws.{compile-narrow}
 use borrow.Author.Needs.{needs}
 use Rattle.exports.proofs.rabtishu_compile.Statement.{statement}

@@ -3,7 +3,7 @@ use mathlib.Core.Path.{ap, _∙_}
 use Rattle.answers.specs.Answers.{Told}
 use Rattle.answers.specs.declared.Sections.{Sections}
 use Rattle.format.specs.Opening.{openOf}
-use Rattle.theorems.specs.CInterface.{numbersOf, uncounted}
+use Rattle.answers.specs.Numbers.{numbersOf, uncounted}
 use Rattle.exports.proofs.CallLaws.{opened-numbers}
 use native.Mathlib.Omega.{arith}
 use Rattle.runtime.proofs.OpenedImage.{all-bytes}

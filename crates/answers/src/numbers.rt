@@ -1,22 +1,23 @@
-// The three numbers of an answer: the refusal's number or 0, its place or 0, a count. Callers show that place and count have 32 bits, by the theorem `places-fit`
-// of the crate theorems; so the casts lose nothing.
+// The three numbers of an answer: the refusal's number or 0, its place or 0, a count. Callers show that place and count have 32 bits, by images/proofs/Places
+// and by the theorem `places-fit` of the crate theorems; so the casts lose nothing.
 ghost use mathlib.Core.Path.{_≡_};
 ghost use Prim.Native.Nat.{_<_, _^_};
 ghost use Rattle.answers.specs.Answers.{placeOf};
-ghost use Rattle.exports.specs.Numbers.{Narrow, refusedAs, doneAs, compiledNumbers, openedNumbers, startedNumbers, cycledNumbers};
-use answers::Compiled;
-use answers::Cycled;
-use answers::Opened;
-use answers::Refusal;
-use answers::Started;
+ghost use Rattle.answers.specs.Numbers.{Narrow, refusedAs, doneAs, compiledNumbers, openedNumbers, startedNumbers, cycledNumbers, batchedNumbers};
+use crate::Batched;
+use crate::Compiled;
+use crate::Cycled;
+use crate::Opened;
+use crate::Refusal;
+use crate::Started;
 
 // Turned back: number and place.
 fn refused(r: Refusal) -> [u32; 3]
     requires { ⌜ placeOf r < 2 ^ 32 ⌝ }
     ensures { λ a. ⌜ a ≡ refusedAs r ⌝ }
 {
-    let number = answers::number(r);
-    let place = answers::place(r) as u32;
+    let number = crate::number(r);
+    let place = crate::place(r) as u32;
     [number, place, 0]
 }
 
@@ -30,7 +31,7 @@ fn done(n: usize) -> [u32; 3]
 }
 
 // The answer of a compile.
-pub(crate) fn compiled(c: Compiled) -> [u32; 3]
+pub fn compiled(c: Compiled) -> [u32; 3]
     requires { ⌜ Narrow (compiledNumbers c) ⌝ }
     ensures { λ a. ⌜ a ≡ compiledNumbers c ⌝ }
 {
@@ -41,7 +42,7 @@ pub(crate) fn compiled(c: Compiled) -> [u32; 3]
 }
 
 // The answer of an image opened.
-pub(crate) fn opened(o: Opened) -> [u32; 3]
+pub fn opened(o: Opened) -> [u32; 3]
     requires { ⌜ Narrow (openedNumbers o) ⌝ }
     ensures { λ a. ⌜ a ≡ openedNumbers o ⌝ }
 {
@@ -52,7 +53,7 @@ pub(crate) fn opened(o: Opened) -> [u32; 3]
 }
 
 // The answer of a fresh state asked for.
-pub(crate) fn started(s: Started) -> [u32; 3]
+pub fn started(s: Started) -> [u32; 3]
     requires { ⌜ Narrow (startedNumbers s) ⌝ }
     ensures { λ a. ⌜ a ≡ startedNumbers s ⌝ }
 {
@@ -63,12 +64,23 @@ pub(crate) fn started(s: Started) -> [u32; 3]
 }
 
 // The answer of a cycle.
-pub(crate) fn cycled(c: Cycled) -> [u32; 3]
+pub fn cycled(c: Cycled) -> [u32; 3]
     requires { ⌜ Narrow (cycledNumbers c) ⌝ }
     ensures { λ a. ⌜ a ≡ cycledNumbers c ⌝ }
 {
     match c {
         Cycled::Performed(n) => done(n),
         Cycled::NotPerformed(r) => refused(r),
+    }
+}
+
+// The answer to many rows in one call.
+pub fn batched(b: Batched) -> [u32; 3]
+    requires { ⌜ Narrow (batchedNumbers b) ⌝ }
+    ensures { λ a. ⌜ a ≡ batchedNumbers b ⌝ }
+{
+    match b {
+        Batched::Taken => done(0),
+        Batched::NotTaken(r) => refused(r),
     }
 }

@@ -1,11 +1,11 @@
--- `exports::answer::cycled` meets its contract, case by case: the place or count is that of its argument. Assumes nothing.
+-- `answers::numbers::cycled` meets its contract, case by case: the place or count is that of its argument. Assumes nothing.
 use mathlib.Core.Path.{sym, ap, _∙_}
 use native.Mathlib.Omega.{arith}
-use Rattle.exports.specs.Numbers.{cycledNumbers}
-use Rattle.exports.proofs.NarrowLaws.{narrowed}
+use Rattle.answers.specs.Numbers.{cycledNumbers}
+use Rattle.answers.proofs.Narrow.{narrowed}
 use borrow.Author.Needs.{needs}
-use Rattle.exports.proofs.answer.cycled.Statement.{statement}
-use Rattle.exports.proofs.answer.cycled.Tie as tie
+use Rattle.answers.proofs.numbers.cycled.Statement.{statement}
+use Rattle.answers.proofs.numbers.cycled.Tie as tie
 
 enum-known-c : tie.Need-enum-known-c
 enum-known-c c = search needs

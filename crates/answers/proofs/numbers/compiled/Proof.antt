@@ -1,11 +1,11 @@
--- `exports::answer::compiled` meets its contract, case by case: the place or count is that of its argument. Assumes nothing.
+-- `answers::numbers::compiled` meets its contract, case by case: the place or count is that of its argument. Assumes nothing.
 use mathlib.Core.Path.{sym, ap, _∙_}
 use native.Mathlib.Omega.{arith}
-use Rattle.exports.specs.Numbers.{compiledNumbers}
-use Rattle.exports.proofs.NarrowLaws.{narrowed}
+use Rattle.answers.specs.Numbers.{compiledNumbers}
+use Rattle.answers.proofs.Narrow.{narrowed}
 use borrow.Author.Needs.{needs}
-use Rattle.exports.proofs.answer.compiled.Statement.{statement}
-use Rattle.exports.proofs.answer.compiled.Tie as tie
+use Rattle.answers.proofs.numbers.compiled.Statement.{statement}
+use Rattle.answers.proofs.numbers.compiled.Tie as tie
 
 enum-known-c : tie.Need-enum-known-c
 enum-known-c c = search needs

@@ -1,11 +1,11 @@
--- `exports::answer::started` meets its contract, case by case: the place or count is that of its argument. Assumes nothing.
+-- `answers::numbers::started` meets its contract, case by case: the place or count is that of its argument. Assumes nothing.
 use mathlib.Core.Path.{sym, ap, _∙_}
 use native.Mathlib.Omega.{arith}
-use Rattle.exports.specs.Numbers.{startedNumbers}
-use Rattle.exports.proofs.NarrowLaws.{narrowed}
+use Rattle.answers.specs.Numbers.{startedNumbers}
+use Rattle.answers.proofs.Narrow.{narrowed}
 use borrow.Author.Needs.{needs}
-use Rattle.exports.proofs.answer.started.Statement.{statement}
-use Rattle.exports.proofs.answer.started.Tie as tie
+use Rattle.answers.proofs.numbers.started.Statement.{statement}
+use Rattle.answers.proofs.numbers.started.Tie as tie
 
 enum-told : tie.Need-enum-told
 enum-told c = search needs

@@ -1,0 +1,30 @@
+-- `answers::numbers::batched` meets its contract, case by case: the place or count is that of its argument. Assumes nothing.
+use mathlib.Core.Path.{sym, ap, _∙_}
+use native.Mathlib.Omega.{arith}
+use Rattle.answers.specs.Numbers.{batchedNumbers}
+use Rattle.answers.proofs.Narrow.{narrowed}
+use borrow.Author.Needs.{needs}
+use Rattle.answers.proofs.numbers.batched.Statement.{statement}
+use Rattle.answers.proofs.numbers.batched.Tie as tie
+
+enum-told : tie.Need-enum-told
+enum-told c = search needs
+
+done-requires : tie.Need-done-requires
+done-requires c κs = search needs
+
+enum-known-b : tie.Need-enum-known-b
+enum-known-b c = search needs
+
+refused-requires : tie.Need-refused-requires
+refused-requires c κs = omega (arith, narrowed batchedNumbers (c .before .b .given .1) (c .before .before .before .pre) .place)
+
+returns : tie.Need-returns
+returns c = c .done .ensures ∙ sym (ap batchedNumbers (c .before .enum-told .given .1))
+
+returns-2 : tie.Need-returns-2
+returns-2 c = c .refused .ensures ∙ sym (ap batchedNumbers (c .before .before .b .given .1))
+
+pub batched-spec : {M : Type 1} → statement M
+batched-spec =
+    tie.close (tie.spec enum-told done-requires enum-known-b refused-requires returns returns-2)
