@@ -11,3 +11,4 @@ pub mod Encoded
 pub mod Calls
 pub mod Examples
 pub mod Mixed
+pub mod Batch

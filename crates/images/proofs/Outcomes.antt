@@ -19,11 +19,11 @@ use Rattle.format.specs.Walk.{from, tableCycle}
 use Rattle.format.specs.Signature.{types}
 use Rattle.format.specs.Image.{Table}
 use Rattle.format.specs.Good.{GoodTable}
-use Rattle.format.specs.Opening.{opened, openOf}
+use Rattle.format.specs.Opening.{Opened, opened, not-opened, openOf}
 use Rattle.format.specs.State.{stateOk, memoryOf}
 use Rattle.semantics.specs.Records.{stateFor}
 use Rattle.format.specs.Cycle.{rowPlace, ended, tableRow, rowOf, unlessClosed, cycleOf}
-use Rattle.semantics.specs.Calls.{turnedBack, unless14}
+use Rattle.semantics.specs.Calls.{Called, turnedBack, unless14}
 use Rattle.format.proofs.Opens.{opens-exactly}
 use Rattle.simulation.specs.Walked.{WaitAt, Walked, waits-at, refuses-at}
 use Rattle.simulation.proofs.Walked.{from-inside, cycle-walked}
@@ -80,3 +80,18 @@ module _ (t : Table) (g : GoodTable t) (s : State) (i o : List ℤ) where
 pub image-outcome : (b : List ℕ) (t : Table) → Bytes b → openOf b ≡ opened t → (s : State) (i o : List ℤ) → Outcome t s i o (cycleOf b s i o)
 unfolding cycleOf
 image-outcome b t h e s i o = rw (ap (λ z. unlessClosed z s o (λ u. rowOf u s i o)) e) (row-outcome t (opens-exactly b t h .0 e .1) s i o)
+
+-- The output row of every call is as long as it was lent, whatever the bytes are.
+pub row-long : (b : List ℕ) → Bytes b → (s : State) (i o : List ℤ) → length (cycleOf b s i o .row) ≡ length o
+unfolding cycleOf
+row-long b h s i o = on (openOf b) refl
+  where
+    of-outcome : (t : Table) (r : Called) → Outcome t s i o r → length (r .row) ≡ length o
+    of-outcome t _ (row-refused k m) = refl
+    of-outcome t _ (state-refused m g) = refl
+    of-outcome t _ (operator-refused x m g l q) = refl
+    of-outcome t _ (performs p τ m g q w y n l) = l
+
+    on : (z : Opened) → openOf b ≡ z → length (unlessClosed z s o (λ t. rowOf t s i o) .row) ≡ length o
+    on (opened t) e = of-outcome t (rowOf t s i o) (row-outcome t (opens-exactly b t h .0 e .1) s i o)
+    on (not-opened q k) e = refl

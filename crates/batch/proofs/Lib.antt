@@ -1,0 +1,3 @@
+pub mod DueLaws
+pub mod RowLaws
+pub mod CallLaws

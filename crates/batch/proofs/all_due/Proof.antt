@@ -1,0 +1,37 @@
+-- `batch::all_due` meets its contract: inputs, outputs and answers in turn. Assumes nothing.
+use mathlib.Core.Path.{sym, _∙_}
+use Prim.Native.Nat.{_*_}
+use lib.Dec.{eqb}
+use borrow.Author.Needs.{needs}
+use borrow.Author.Tests.{not-true, not-false}
+use Rattle.batch.proofs.DueLaws.{first-not, second-not, first-two}
+use Rattle.batch.proofs.all_due.Statement.{statement}
+use Rattle.batch.proofs.all_due.Tie as tie
+
+due-requires : tie.Need-due-requires
+due-requires c κs = search needs
+
+returns : tie.Need-returns
+returns c =
+    let a = c .before .before .args in
+    first-not (eqb (a .inputs) (a .count * a .width .inputs)) (eqb (a .outputs) (a .count * a .width .outputs)) (eqb (a .answers) (a .count * 3)) (sym (c .before .due .ensures) ∙ not-true _ (c .if1 .taken))
+
+due-requires-2 : tie.Need-due-requires-2
+due-requires-2 c κs = search needs
+
+returns-2 : tie.Need-returns-2
+returns-2 c =
+    let a = c .before .before .before .before .args in
+    second-not (eqb (a .inputs) (a .count * a .width .inputs)) (eqb (a .outputs) (a .count * a .width .outputs)) (eqb (a .answers) (a .count * 3)) (sym (c .before .due2 .ensures) ∙ not-true _ (c .if2 .taken))
+
+due-requires-3 : tie.Need-due-requires-3
+due-requires-3 c κs = search needs
+
+returns-3 : tie.Need-returns-3
+returns-3 c =
+    let a = c .before .before .before .before .before .args in
+    c .due3 .ensures ∙ first-two (eqb (a .inputs) (a .count * a .width .inputs)) (eqb (a .outputs) (a .count * a .width .outputs)) (eqb (a .answers) (a .count * 3))
+    (sym (c .before .before .before .before .due .ensures) ∙ not-false _ (c .before .before .before .if1 .left)) (sym (c .before .before .due2 .ensures) ∙ not-false _ (c .before .if2 .left))
+
+pub all-due-spec : {M : Type 1} → statement M
+all-due-spec = tie.close (tie.spec due-requires returns due-requires-2 returns-2 due-requires-3 returns-3)
