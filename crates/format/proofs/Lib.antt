@@ -12,3 +12,4 @@ pub mod Calls
 pub mod Examples
 pub mod Mixed
 pub mod Batch
+pub mod Unmoved
