@@ -5,8 +5,8 @@ use Prim.Native.Nat.{ℕ}
 use lib.ListN.{getD, take, drop, length}
 use lib.IntN.{ℤ, pos, negsuc}
 use lib.Dec.{ltb}
-use Rattle.answers.specs.Answers.{done, refusal}
-use Rattle.answers.specs.Numbers.{numbersOf}
+use Rattle.answers.specs.Answers.{Told, done, refusal}
+use Rattle.answers.specs.Numbers.{numbersOf, uncounted}
 use Rattle.answers.specs.declared.State.{State}
 use Rattle.language.specs.Lexer.{tokenAt}
 use Rattle.semantics.specs.Records.{Started, fresh, not-started}
@@ -15,6 +15,7 @@ use Rattle.semantics.specs.Advances.{cycleAnswer}
 use Rattle.format.specs.Opening.{Opened, opened, not-opened, openOf}
 use Rattle.format.specs.State.{freshOf}
 use Rattle.format.specs.Cycle.{cycleOf}
+use Rattle.format.specs.Batch.{batchOf}
 use Rattle.behaviour.specs.Direct.{directOf, directFresh}
 use Rattle.theorems.specs.Compile.{compileAnswer, compileOf}
 
@@ -89,3 +90,28 @@ tokenInC text place = length (tokenAt text place)
 unfoldable pub callsInC : (List ℤ → List ℤ → List ℤ → Left) → List ℤ → List Call → List Left
 callsInC f l [] = []
 callsInC f l (c ∷ cs) = let r = f l (c .inputs) (c .outputs) in r ∷ callsInC f (r .slots) cs
+
+-- MANY ROWS IN ONE CALL (document 02, slip 1)
+
+-- the 49 numbers after rows given singly, l before the first: those of the last row that was performed, or as they came
+unfoldable pub slotsLeft : List ℤ → List Called → List ℤ
+slotsLeft l [] = l
+slotsLeft l (r ∷ rs) = slotsLeft (cycledSlots (r .answer) (r .state) l) rs
+
+-- "writing nothing": after a call that is turned away they are as they came
+abbrev pub batchSlots : Told (List Called) → List ℤ → List ℤ
+batchSlots (done rs) l = slotsLeft l rs
+batchSlots (refusal q k) l = l
+
+-- what is left of the caller's memory: the call's own three numbers, the 49 numbers, all output rows and the three numbers of each row
+pub record BatchLeft : Type 0 where
+  pub answer : List ℕ
+  pub slots : List ℤ
+  pub rows : List ℤ
+  pub answers : List ℕ
+
+-- rabtishu_cycles: the rows have their own counts, the call has none
+abbrev pub batchInC : List ℕ → List ℤ → ℕ → List ℤ → List ℤ → List ℕ → BatchLeft
+batchInC image l n is os ns =
+    let r = batchOf image (stateOfC l) n is os ns in
+    record { answer = numbersOf (uncounted (r .answer)); slots = batchSlots (r .answer) l; rows = r .rows; answers = r .answers }
