@@ -1,10 +1,10 @@
--- Place and count of every answer have 32 bits: all are at most 65,535 (theorems/proofs/Places.antt). Assumes nothing.
-use mathlib.Core.Path.{_≡_, refl, sym, subst}
+-- Place and count of every answer have 32 bits: all are at most 65,535 (theorems/proofs/Places.antt); that of a cycle on an image is `cycle-narrow` in
+-- images/proofs/Places.antt. Assumes nothing.
+use mathlib.Core.Path.{_≡_, refl, sym}
 use mathlib.Core.List.{List}
 use Prim.Native.Nat.{ℕ, _≤_}
 use native.Mathlib.Omega.{arith}
 use lib.ListN.{length}
-use lib.IntN.{ℤ}
 use Rattle.answers.specs.Answers.{Told, done, refusal, compileTold, openTold, freshTold, cycleTold}
 use Rattle.answers.specs.declared.Sections.{Sections}
 use Rattle.answers.specs.declared.State.{State}
@@ -18,15 +18,15 @@ use Rattle.semantics.specs.Advances.{cycleAnswer, freshAnswer}
 use Rattle.format.specs.Words.{Bytes}
 use Rattle.format.specs.Opening.{Opened, opened, not-opened, openOf}
 use Rattle.format.specs.State.{freshOf}
-use Rattle.format.specs.Cycle.{cycleOf}
 use Rattle.behaviour.specs.Direct.{directOf, directFresh}
 use Rattle.theorems.specs.Compile.{Compiled, written, not-compiled, compileOf, compileAnswer}
-use Rattle.theorems.proofs.Places.{compile-place, compile-count, open-place, fresh-place, cycle-place, cycle-count, direct-place, direct-count, direct-fresh-place}
+use Rattle.images.proofs.Places.{open-place}
+use Rattle.theorems.proofs.Places.{compile-place, compile-count, fresh-place, direct-place, direct-count, direct-fresh-place}
 use Rattle.loader.specs.Open.{openAnswer}
 use Rattle.answers.specs.Numbers.{Narrow, numbersOf, uncounted, compiledNumbers, openedNumbers, startedNumbers, cycledNumbers}
 use Rattle.answers.proofs.Narrow.{narrowed, refused-narrow, done-narrow}
 
--- a cycle's answer, of an image or of a text
+-- a cycle's answer
 cycled-narrow : (a : Answer) → ((w : List ℕ) → a ≡ performed w → length w ≤ 512) → ((q k : ℕ) → a ≡ not-performed q k → k ≤ 16384) → Narrow (numbersOf (cycleAnswer a))
 cycled-narrow (performed w) f g = let h = f w refl in done-narrow (length w) (omega arith)
 cycled-narrow (not-performed q k) f g = let h = g q k refl in refused-narrow q k (omega arith)
@@ -54,13 +54,6 @@ module _ (image : List ℕ) (h : Bytes image) where
       on : (f : Started) → freshOf image ≡ f → Narrow (numbersOf (uncounted (freshAnswer f)))
       on (fresh s) f = done-narrow 0 (omega arith)
       on (not-started q k) f = let l = fresh-place image h q k f in refused-narrow q k (omega arith)
-
-  pub cycle-narrow : (s : State) (i o : List ℤ) (x : Cycled) → cycleTold x ≡ cycleAnswer (cycleOf image s i o .answer) → Narrow (cycledNumbers x)
-  cycle-narrow s i o x e =
-      let c : Call = record { inputs = i; outputs = o } in
-      narrowed numbersOf (sym e)
-      (cycled-narrow (cycleOf image s i o .answer) (cycle-count image h s c)
-      (λ q k f. let l = cycle-place image h s c q k f in omega arith))
 
 -- texts
 pub direct-fresh-narrow : (text : List ℕ) (x : declared-started.Started) → freshTold x ≡ freshAnswer (directFresh text) → Narrow (startedNumbers x)

@@ -1,37 +1,26 @@
 -- Every place and every count that is answered is small: a place of 1 to 9 is that of a token of the text or the text's length; the bytes of an image are at
--- most 65,535; a line is one of at most 512, and so is every line of a way, none twice. Assumes nothing.
+-- most 65,535; those of calls on an image, and so of the direct run, are at most 512 (images/proofs/Places.antt). Assumes nothing.
 use mathlib.Core.Path.{_≡_, refl, sym, _∙_, ap, subst}
-use mathlib.Core.Logic.{⊎-elim}
 use mathlib.Core.List.{List}
-use Prim.Native.Nat.{ℕ, zero, suc, _≤_, _/_}
+use Prim.Native.Nat.{ℕ, _≤_}
 use native.Mathlib.Omega.{arith}
-use lib.ListN.{length, drop}
-use lib.IntN.{ℤ}
+use lib.ListN.{length}
 use Rattle.answers.specs.declared.State.{State}
 use Rattle.design.specs.Process.{Process}
 use Rattle.language.specs.Validity.{Valid, Refuses, too-long, no-token, no-sentence, past-limit, offends}
 use Rattle.language.specs.Verdict.{Verdict, accepted, refused, verdict}
 use Rattle.language.proofs.Judged as J
 use Rattle.language.proofs.WellFormed.{valid-well-formed}
-use Rattle.semantics.specs.InputRow.{Wrong}
 use Rattle.semantics.specs.Records.{not-started}
-use Rattle.semantics.specs.Calls.{performed, not-performed, Called, Call}
+use Rattle.semantics.specs.Calls.{performed, not-performed, Call}
 use Rattle.format.specs.Words.{Bytes}
-use Rattle.format.specs.Signature.{Signature, GoodSignature}
-use Rattle.format.specs.Image.{Table}
 use Rattle.format.specs.Good.{GoodTable}
-use Rattle.format.specs.Opening.{raws, not-opened, openOf}
-use Rattle.format.specs.Refusals.{Refusal, sections-refused, signature-refused, line-refused, bad-line, not-filled}
-use Rattle.format.specs.Refusals as F
 use Rattle.format.specs.State.{freshOf}
-use Rattle.format.specs.Cycle.{cycleOf}
 use Rattle.format.specs.Encode.{tableOf}
-use Rattle.format.proofs.Opens.{whole-lines-back, opens-exactly}
-use Rattle.format.proofs.Refusals.{refused-exactly}
-use Rattle.format.proofs.Encoded.{nth-below}
-use Rattle.images.specs.Outcome.{Meets14, Outcome, row-refused, state-refused, operator-refused, performs}
+use Rattle.images.specs.Outcome.{Outcome}
 use Rattle.images.proofs.Outcomes.{row-outcome}
 use Rattle.images.proofs.Processes.{process-good}
+use Rattle.images.proofs.Places.{image-place, outcome-place, outcome-count, open-place, cycle-place, cycle-count}
 use Rattle.behaviour.specs.Direct.{unlessRefused, directOf, directFresh}
 use Rattle.theorems.specs.Compile.{written, not-compiled, compileOf}
 use Rattle.theorems.specs.Promises as P
@@ -40,7 +29,6 @@ use Rattle.theorems.proofs.TokensOf.{tokens-of}
 use Rattle.theorems.proofs.LexedPlaces.{By, lexed-places, stopped-place, token-place}
 use Rattle.theorems.proofs.OffencePlaces.{offence-place}
 use Rattle.theorems.proofs.Size.{valid-fits}
-use Rattle.theorems.proofs.Cases.{image-runs}
 use Rattle.theorems.proofs.Direct.{row-direct}
 use Rattle.theorems.proofs.Demand1 as D1
 use Rattle.theorems.proofs.Main.{compiled}
@@ -76,62 +64,9 @@ module _ (text buffer : List ℕ) where
   pub compile-count : (n : ℕ) → compileOf text buffer .answer ≡ written n → n ≤ 65535
   compile-count n e = compiled text buffer n e .size
 
--- 11 TO 13: at most the line count
-raws-count : (n : ℕ) (s : List ℕ) → length (raws n s) ≡ n
-unfolding raws
-raws-count zero s = refl
-raws-count (suc n) s = ap suc (raws-count n (drop 12 s))
-
-image-place : (image : List ℕ) (q k : ℕ) → Refusal image q k → k ≤ 512
-image-place image q k (sections-refused n p x) = omega arith
-image-place image q k (signature-refused n p x s y) = omega arith
-image-place image q k (line-refused n x s σ g l) = go l
-  where
-    go : F.Lowest σ x k → k ≤ 512
-    go (bad-line h b a) = let w = whole-lines-back (x .lines) (s .lines) in let c = raws-count (length (x .lines) / 12) (x .lines) in omega arith
-    go (not-filled h a b) = let w = whole-lines-back (x .lines) (s .lines) in let c = raws-count (length (x .lines) / 12) (x .lines) in omega arith
-
--- 14: an index of the input row, which has at most 16 values
-row-place : (σ : Signature) → GoodSignature σ → (i : List ℤ) (n k : ℕ) → Meets14 σ i n k → k ≤ 512
-unfolding Meets14 Wrong
-row-place σ g i n k m = ⊎-elim (λ h. omega (arith, h .1)) (λ h. omega (arith, g .inputs, nth-below (σ .inputs) k (h .1 .0) (h .1 .2))) m
-
--- A ROW ON A GOOD TABLE: 14, 15 at 0, 16 at a line, or a way of lines
-module _ (t : Table) (g : GoodTable t) (s : State) (i o : List ℤ) where
-  outcome-place : (r : Called) → Outcome t s i o r → (q k : ℕ) → r .answer ≡ not-performed q k → k ≤ 512
-  outcome-place _ (row-refused x m) q k e = let h = row-place (t .signature) (g .signature) i (length o) x m in let z : x ≡ k = cc in omega arith
-  outcome-place _ (state-refused m b) q k e = let z : k ≡ 0 = cc in omega arith
-  outcome-place _ (operator-refused x m b l y) q k e = let z : x ≡ k = cc in omega (arith, g .few-lines)
-  outcome-place _ (performs p τ m b y w v n l) q k e = absurd (let z : _≡_ {A = ℕ} 0 1 = cc in omega arith)
-
-  outcome-count : (r : Called) → Outcome t s i o r → (way : List ℕ) → r .answer ≡ performed way → length way ≤ 512
-  outcome-count _ (row-refused x m) way e = absurd (let z : _≡_ {A = ℕ} 0 1 = cc in omega arith)
-  outcome-count _ (state-refused m b) way e = absurd (let z : _≡_ {A = ℕ} 0 1 = cc in omega arith)
-  outcome-count _ (operator-refused x m b l y) way e = absurd (let z : _≡_ {A = ℕ} 0 1 = cc in omega arith)
-  outcome-count _ (performs p τ m b y w v n l) way e = let z : τ .way ≡ way = cc in let x = ap length z in omega (arith, v .few, g .few-lines)
-
--- IMAGES
-module _ (image : List ℕ) (h : Bytes image) where
-  pub open-place : (q k : ℕ) → openOf image ≡ not-opened q k → k ≤ 512
-  open-place q k e = image-place image q k (refused-exactly image h q k .0 e)
-
-  pub fresh-place : (q k : ℕ) → freshOf image ≡ not-started q k → k ≤ 512
-  fresh-place q k e = image-place image q k (D1.fresh-refused image h q k .0 e)
-
-  module _ (s : State) (c : Call) where
-    run-place : (r : Called) → P.Runs image s c r → (q k : ℕ) → r .answer ≡ not-performed q k → k ≤ 512
-    run-place r (P.Runs.runs t e _ y) q k f = outcome-place t (opens-exactly image t h .0 e .1) s (c .inputs) (c .outputs) r y q k f
-    run-place _ (P.Runs.refuses n x l m y) q k f = let z : x ≡ k = cc in let b = image-place image n x y in omega arith
-
-    run-count : (r : Called) → P.Runs image s c r → (way : List ℕ) → r .answer ≡ performed way → length way ≤ 512
-    run-count r (P.Runs.runs t e _ y) way f = outcome-count t (opens-exactly image t h .0 e .1) s (c .inputs) (c .outputs) r y way f
-    run-count _ (P.Runs.refuses n x l m y) way f = absurd (let z : _≡_ {A = ℕ} 0 1 = cc in omega arith)
-
-    pub cycle-place : (q k : ℕ) → cycleOf image s (c .inputs) (c .outputs) .answer ≡ not-performed q k → k ≤ 512
-    cycle-place = run-place (cycleOf image s (c .inputs) (c .outputs)) (image-runs image h s c)
-
-    pub cycle-count : (way : List ℕ) → cycleOf image s (c .inputs) (c .outputs) .answer ≡ performed way → length way ≤ 512
-    cycle-count = run-count (cycleOf image s (c .inputs) (c .outputs)) (image-runs image h s c)
+-- IMAGES: 11 to 13 are at most the line count; all else is in images/proofs/Places.antt
+pub fresh-place : (image : List ℕ) → Bytes image → (q k : ℕ) → freshOf image ≡ not-started q k → k ≤ 512
+fresh-place image h q k e = image-place image q k (D1.fresh-refused image h q k .0 e)
 
 -- TEXTS: the direct run of an accepted text is the row on its table
 module _ (text : List ℕ) (s : State) (c : Call) where
@@ -187,8 +122,8 @@ places-fit text buffer image h s c =
       compile-count = compile-count text buffer;
       open-place = open-place image h;
       fresh-place = fresh-place image h;
-      cycle-place = cycle-place image h s c;
-      cycle-count = cycle-count image h s c;
+      cycle-place = cycle-place image h s (c .inputs) (c .outputs);
+      cycle-count = cycle-count image h s (c .inputs) (c .outputs);
       direct-place = direct-place text s c;
       direct-count = direct-count text s c;
       direct-fresh-place = direct-fresh-place text;

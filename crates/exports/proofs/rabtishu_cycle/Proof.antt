@@ -5,7 +5,7 @@ use Rattle.semantics.specs.Calls.{Called}
 use Rattle.exports.proofs.CallLaws.{cycled-stored, cycled-kept}
 use native.Mathlib.Omega.{arith}
 use Rattle.runtime.proofs.OpenedImage.{all-bytes}
-use Rattle.exports.proofs.NarrowLaws.{cycle-narrow}
+use Rattle.images.proofs.Places.{cycle-narrow}
 use borrow.Author.Needs.{needs}
 use Rattle.exports.proofs.rabtishu_cycle.Statement.{statement}
 use Rattle.exports.proofs.rabtishu_cycle.Tie as tie
