@@ -18,14 +18,14 @@ use Rattle.theorems.specs.Entry.{stateAfter, openingTold}
 use Rattle.theorems.specs.Promises.{RefusedAs, AnswersTold, ToldByEntry}
 
 -- what is done is not refused
-apart : {A B : Type 0} (x : A) (q k : ℕ) → done x ≡ refusal q k → B
+pub apart : {A B : Type 0} (x : A) (q k : ℕ) → done x ≡ refusal q k → B
 apart x q k e = absurd (let z : _≡_ {A = ℕ} 0 1 = cc in omega arith)
 
-apart-too : {A B : Type 0} (x : A) (q k : ℕ) → refusal q k ≡ done x → B
+pub apart-too : {A B : Type 0} (x : A) (q k : ℕ) → refusal q k ≡ done x → B
 apart-too x q k e = absurd (let z : _≡_ {A = ℕ} 0 1 = cc in omega arith)
 
 -- a refusal that tells q and k
-told-by : {A B : Type 0} (wrap : Refusal → B) (x : Refusal) (q k : ℕ) → _≡_ {A = Told A} (refusal (numberOf x) (placeOf x)) (refusal q k) → RefusedAs wrap (wrap x) q k
+pub told-by : {A B : Type 0} (wrap : Refusal → B) (x : Refusal) (q k : ℕ) → _≡_ {A = Told A} (refusal (numberOf x) (placeOf x)) (refusal q k) → RefusedAs wrap (wrap x) q k
 told-by wrap x q k e = (x, refl, cc, cc)
 
 compiled-is : (r : declared-compiled.Compiled) (n : ℕ) → compileTold r ≡ done n → r ≡ Written n

@@ -16,3 +16,4 @@ pub mod Places
 pub mod Untouched
 pub mod CInterface
 pub mod Entry
+pub mod Batch

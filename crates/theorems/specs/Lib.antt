@@ -3,4 +3,5 @@ pub mod Lending
 pub mod Promises
 pub mod Places
 pub mod CInterface
+pub mod Batch
 pub mod Entry
