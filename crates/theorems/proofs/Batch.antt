@@ -38,7 +38,7 @@ use Rattle.images.proofs.Processes.{encode-opens}
 use Rattle.images.proofs.Places.{cycle-place, cycle-count}
 use Rattle.theorems.specs.Compile.{written, compileOf}
 use Rattle.theorems.specs.Promises.{answerInC, RefusedAs}
-use Rattle.theorems.specs.Batch.{Due, DueTo, BatchRefused, by-image, by-length, endToEnd, Follows, Singly, Batched, BatchTold, BatchOfText}
+use Rattle.theorems.specs.Batch.{Due, DueTo, BatchRefused, by-image, by-length, endToEnd, Singly, Batched, BatchTold, BatchOfText}
 use Rattle.theorems.proofs.Size.{valid-fits}
 use Rattle.theorems.proofs.Demand3.{wrote, demand3}
 use Rattle.theorems.proofs.Entry.{apart, apart-too, told-by}
@@ -130,7 +130,7 @@ module _ (image : List ℕ) (h : Bytes image) (s : State) (n : ℕ) (is os : Lis
               let b : k ≡ 0 = cc in
               by-length t f no a b
 
-  turned-back : BatchRefused image n is os ns q k → batchOf image s n is os ns ≡ record { answer = refusal q k; state = s; rows = os; answers = ns }
+  pub turned-back : BatchRefused image n is os ns q k → batchOf image s n is os ns ≡ record { answer = refusal q k; state = s; rows = os; answers = ns }
   turned-back (by-image r) = closed-batch image s n is os ns q k (refused-exactly image h q k .1 r)
   turned-back (by-length t e d a b) =
       batch-17 image s n is os ns t e d
@@ -278,6 +278,7 @@ batch-told = record { taken = taken-is; refused = refused-is }
     taken-is : (r : declared-batched.Batched) (rs : List Called) → batchTold r ≡ done tt → r ≡ Taken
     taken-is Taken rs e = refl
     taken-is (NotTaken x) rs e = apart-too _ (numberOf x) (placeOf x) e
+
     refused-is : (r : declared-batched.Batched) (q k : ℕ) → batchTold r ≡ refusal q k → RefusedAs NotTaken r q k
     refused-is Taken q k e = apart _ q k e
     refused-is (NotTaken x) q k e = told-by NotTaken x q k e

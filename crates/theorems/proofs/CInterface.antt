@@ -12,7 +12,7 @@ use Rattle.answers.specs.declared.State.{State}
 use Rattle.answers.specs.Numbers.{numbersOf}
 use Rattle.language.proofs.Judged.{accepts}
 use Rattle.language.proofs.WellFormed.{valid-well-formed}
-use Rattle.semantics.specs.Equations.{beginning}
+use Rattle.semantics.specs.Equations.{beginning, Memory}
 use Rattle.semantics.specs.Rows.{Kept, atFirst}
 use Rattle.semantics.specs.Records.{Started, stateFor, fresh}
 use Rattle.semantics.specs.Calls.{performed, not-performed, Called, Call}
@@ -89,7 +89,7 @@ pub record Whole (s : State) : Type 0 where
   pub outputs : length (s .outputs) ≡ 16
   pub variables : length (s .variables) ≡ 32
 
-back : (s : State) → Whole s → stateOfC (cOfState s) ≡ s
+pub back : (s : State) → Whole s → stateOfC (cOfState s) ≡ s
 back s w =
     let l = slots-in-c s (w .outputs) (w .variables) in
     let place : placeOfC (pos (s .place)) ≡ s .place = rw (lt-ltb (s .place) 65536 (w .place)) in
@@ -102,15 +102,19 @@ record Carried (s : State) (r : Called) : Type 0 where
   whole : Whole (r .state)
 
 module _ (image : List ℕ) (h : Bytes image) where
-  row-carried : (t : Table) → openOf image ≡ opened t → (s : State) → Whole s → (c : Call) (r : Called) → Image.Outcome t s (c .inputs) (c .outputs) r → Carried s r
+  -- a record at a wait is whole
+  pub wait-whole : (t : Table) → openOf image ≡ opened t → (p : ℕ) → p < length (t .lines) → (m : Memory) → Whole (stateFor p m)
   unfolding stateFor
+  wait-whole t o p i m =
+      let g = opens-exactly image t h .0 o .1 .few-lines in
+      record { place = omega arith; outputs = pad-length 16 (m .outputs); variables = pad-length 32 (m .variables) }
+
+  row-carried : (t : Table) → openOf image ≡ opened t → (s : State) → Whole s → (c : Call) (r : Called) → Image.Outcome t s (c .inputs) (c .outputs) r → Carried s r
   row-carried t o s w c r (Image.row-refused k m) = record { seen = refl; whole = w }
   row-carried t o s w c r (Image.state-refused m b) = record { seen = refl; whole = w }
   row-carried t o s w c r (Image.operator-refused x m b l q) = record { seen = refl; whole = w }
   row-carried t o s w c r (Image.performs p τ m b q a y n l) =
-      let g = opens-exactly image t h .0 o .1 .few-lines in
-      let i = a .inside in
-      record { seen = refl; whole = record { place = omega arith; outputs = pad-length 16 (τ .memory .outputs); variables = pad-length 32 (τ .memory .variables) } }
+      record { seen = refl; whole = wait-whole t o p (a .inside) (τ .memory) }
 
   carried : (s : State) → Whole s → (c : Call) (r : Called) → P.Runs image s c r → Carried s r
   carried s w c r (P.Runs.runs t o q u) = row-carried t o s w c r u
@@ -148,17 +152,26 @@ laid-whole : (k : Kept) → k .place ≡ beginning → Whole (laid k)
 unfolding stateFor
 laid-whole k e = record { place = rw e (omega arith); outputs = pad-length 16 (k .memory .outputs); variables = pad-length 32 (k .memory .variables) }
 
+pub wrote-in-c : (text buffer : List ℕ) (n : ℕ) → compileInC text buffer .0 ≡ doneNumbers n → compileOf text buffer .answer ≡ written n
+wrote-in-c text buffer n e =
+    told-written text buffer n (compileOf text buffer) (demand1 text buffer [] no-bytes (stateOfC []) (record { inputs = []; outputs = [] }) .compiled) e
+
+-- what rabtishu_compile wrote is a list of bytes
+pub wrote-bytes : (text buffer : List ℕ) (n : ℕ) → compileOf text buffer .answer ≡ written n → Bytes (take n (compileOf text buffer .buffer))
+wrote-bytes text buffer n a =
+    let w = wrote text buffer n a in
+    let v = accepts text (w .process) .0 (w .verdict) in
+    subst Bytes (sym (w .image)) (encode-bytes (w .process) (valid-well-formed v) (valid-fits text (w .process) v))
+
 -- DEMAND 3 AND THE DIRECT RUN IN C
 pub calls-in-c : (text buffer : List ℕ) (n : ℕ) → compileInC text buffer .0 ≡ doneNumbers n → CallsInC text buffer n
 unfolding atFirst
 calls-in-c text buffer n e =
-    let a = told-written text buffer n (compileOf text buffer) (demand1 text buffer [] no-bytes (stateOfC []) (record { inputs = []; outputs = [] }) .compiled) e in
+    let a = wrote-in-c text buffer n e in
     let d = demand3 text buffer n a in
-    let w = wrote text buffer n a in
     let p = d .process in
     let image = take n (compileOf text buffer .buffer) in
-    let v = accepts text (w .process) .0 (w .verdict) in
-    let h : Bytes image = subst Bytes (sym (w .image)) (encode-bytes (w .process) (valid-well-formed v) (valid-fits text (w .process) v)) in
+    let h = wrote-bytes text buffer n a in
     let s : freshOf image ≡ fresh (laid (atFirst p)) = d .direct-start ∙ direct-run text p (d .valid) .starts in
     let t : fresh (d .state) ≡ fresh (laid (atFirst p)) = sym (d .starts) ∙ s in
     let u : laid (atFirst p) ≡ d .state = cc in

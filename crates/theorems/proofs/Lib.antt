@@ -17,3 +17,4 @@ pub mod Untouched
 pub mod CInterface
 pub mod Entry
 pub mod Batch
+pub mod BatchInC

@@ -23,6 +23,7 @@ use Rattle.behaviour.specs.Direct.{directOf, directCalls}
 use Rattle.theorems.specs.Compile.{written, compileOf}
 use Rattle.theorems.specs.Lending.{boundsOf}
 use Rattle.theorems.specs.CInterface.{compileInC}
+use Rattle.theorems.specs.Batch.{Batched, BatchTold, BatchOfText, BatchInC, BatchOfTextInC}
 use Rattle.theorems.specs.Promises.{Demand1, Demand2, Demand3, Handed, SectionsLent, AnswersTold, ToldByEntry, SlotsInC, ToldInC, doneNumbers, CallsInC, Compiled, Returned}
 use Rattle.theorems.proofs.Size.{valid-fits}
 use Rattle.theorems.proofs.Demand1 as D1
@@ -33,6 +34,8 @@ use Rattle.theorems.proofs.Handed as H
 use Rattle.theorems.proofs.SectionsLent as L
 use Rattle.theorems.proofs.Entry as E
 use Rattle.theorems.proofs.CInterface as C
+use Rattle.theorems.proofs.Batch as B
+use Rattle.theorems.proofs.BatchInC as BC
 
 -- DEMAND 1, for every text, buffer, image (a list of bytes), state record and call
 pub demand1 : (text buffer image : List ℕ) → Bytes image → (s : State) (c : Call) → Demand1 text buffer image s c
@@ -71,6 +74,23 @@ slots-in-c = C.slots-in-c
 
 pub calls-in-c : (text buffer : List ℕ) (n : ℕ) → compileInC text buffer .0 ≡ doneNumbers n → CallsInC text buffer n
 calls-in-c = C.calls-in-c
+
+-- MANY ROWS IN ONE CALL, for every image (a list of bytes), state record, count, inputs, outputs and answers; from the fresh state, where the compile wrote m
+-- bytes; the same at the C interface, for every 49 numbers
+pub batched : (image : List ℕ) → Bytes image → (s : State) (n : ℕ) (is os : List ℤ) (ns : List ℕ) → Batched image s n is os ns
+batched = B.batched
+
+pub batch-told : BatchTold
+batch-told = B.batch-told
+
+pub batch-of-text : (text buffer : List ℕ) (m : ℕ) → compileOf text buffer .answer ≡ written m → BatchOfText text buffer m
+batch-of-text = B.batch-of-text
+
+pub batch-in-c : (image : List ℕ) → Bytes image → (l : List ℤ) (n : ℕ) (is os : List ℤ) (ns : List ℕ) → BatchInC image l n is os ns
+batch-in-c = BC.batch-in-c
+
+pub batch-of-text-in-c : (text buffer : List ℕ) (m : ℕ) → compileInC text buffer .0 ≡ doneNumbers m → BatchOfTextInC text buffer m
+batch-of-text-in-c = BC.batch-of-text-in-c
 
 -- calls that agree one by one agree as a list
 calls-agree : (image text : List ℕ) → ((s : State) (c : Call) → cycleOf image s (c .inputs) (c .outputs) ≡ directOf text s c)

@@ -24,7 +24,7 @@ use Rattle.format.specs.State.{freshOf}
 use Rattle.format.specs.Cycle.{cycleOf, callsOf}
 use Rattle.format.specs.Batch.{Batch, callsIn, rowsLeft, answersLeft, stateLeft, batchOf, batchAnswer, isMoved}
 use Rattle.theorems.specs.Compile.{compileOf}
-use Rattle.theorems.specs.CInterface.{Left, BatchLeft, stateOfC, cOfState, compileInC, freshInC, cycleInC, callsInC, batchInC}
+use Rattle.theorems.specs.CInterface.{Left, BatchLeft, cOfState, compileInC, freshInC, cycleInC, callsInC, batchInC}
 use Rattle.theorems.specs.Promises.{RefusedAs, refusedNumbers, doneNumbers, answerInC, seenInC}
 
 -- "the count's due": i input values, o outputs and three numbers for each of n rows
