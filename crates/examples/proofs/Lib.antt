@@ -3,3 +3,4 @@ pub mod Large
 pub mod Equations
 pub mod Images
 pub mod Nine
+pub mod Batches
