@@ -1,5 +1,5 @@
-/* Document 01's tally through the C interface: compiled, opened, run by table and by text, and calls that are refused; then every function with NULL and
- * length 0 in the place of each slice that may be empty. Prints what `expected` holds. */
+/* Document 01's tally through the C interface: compiled, opened, run by table and by text, its rows in one call, and calls that are refused; then every
+ * function with NULL and length 0 in the place of each slice that may be empty. Prints what `expected` holds. */
 #include "rabtishu.h"
 
 #include <stdio.h>
@@ -82,6 +82,58 @@ static void refused(const uint8_t *image, size_t n, int32_t place, int32_t slot)
     printf("%s\n", memcmp(before, state, sizeof state) || row != 99 ? "altered" : "untouched");
 }
 
+/* The first rows in one call, with a guard before and behind the output rows, which are lent as 99, and the answers. The state is the caller's. */
+static void many(const char *what, const uint8_t *image, size_t n, int32_t state[49], size_t count, size_t ni, size_t no, size_t na)
+{
+    int32_t outputs[8], before[49];
+    uint32_t answers[20], answer[3];
+    int same = 1;
+    memset(outputs, 0xa5, sizeof outputs);
+    memset(answers, 0xa5, sizeof answers);
+    memcpy(before, state, sizeof before);
+    for (size_t k = 1; k <= no; k++)
+        outputs[k] = 99;
+    rabtishu_cycles(image, n, state, count, rows, ni, outputs + 1, no, answers + 1, na, answer);
+    told(what, answer);
+    if (answer[0] == 0)
+        for (size_t k = 0; k < count; k++)
+            printf("%zu: %u %u %u output %d\n", k, answers[1 + 3 * k], answers[2 + 3 * k], answers[3 + 3 * k], outputs[1 + k]);
+    for (size_t k = 1; k <= no; k++)
+        same = same && outputs[k] == 99;
+    printf("outputs %s\n", same ? "untouched" : "altered");
+    printf("answers %s\n", guarded(answers, sizeof answers) ? "untouched" : "altered");
+    printf("state %s: ", memcmp(before, state, sizeof before) ? "altered" : "untouched");
+    printf("place %d output %d variable %d\n", state[0], state[1], state[17]);
+    same = guarded(outputs, 4) && guarded(outputs + 1 + no, 4) && guarded(answers, 4) && guarded(answers + 1 + na, 4);
+    printf("guards %s\n", same ? "untouched" : "altered");
+}
+
+/* The six rows in one call, lengths that are not the count's due, no rows, a cut image, and states that are refused row by row. */
+static void in_one_call(const uint8_t *image, size_t n)
+{
+    int32_t state[49];
+    uint32_t answer[3];
+    rabtishu_fresh(image, n, state, answer);
+    many("six rows", image, n, state, 6, 6, 6, 18);
+    rabtishu_fresh(image, n, state, answer);
+    many("two rows of one value", image, n, state, 2, 1, 2, 6);
+    many("six rows with five outputs", image, n, state, 6, 6, 5, 18);
+    many("six rows with six answers", image, n, state, 6, 6, 6, 6);
+    many("as many rows as can be counted", image, n, state, SIZE_MAX, 6, 6, 18);
+    many("no rows", image, n, state, 0, 0, 0, 0);
+    many("no rows of a cut image", image, n - 1, state, 0, 0, 0, 0);
+    rabtishu_cycles(image, n, state, 0, NULL, 0, NULL, 0, NULL, 0, answer);
+    told("no rows without buffers", answer);
+    rabtishu_cycles(NULL, 0, state, 0, NULL, 0, NULL, 0, NULL, 0, answer);
+    told("no rows without image and buffers", answer);
+    rabtishu_cycles(image, n, state, 1, NULL, 0, NULL, 0, NULL, 0, answer);
+    told("one row without buffers", answer);
+    state[0] = 1;
+    many("place 1", image, n, state, 2, 2, 2, 6);
+    state[0] = 70000;
+    many("place 70000", image, n, state, 2, 2, 2, 6);
+}
+
 static void state_told(const int32_t state[49])
 {
     printf("%s\n", guarded(state, 49 * sizeof state[0]) ? "untouched" : "altered");
@@ -159,6 +211,13 @@ static void with_empty_rows(void)
     rabtishu_cycle(image, size, state, NULL, 0, NULL, 0, answer);
     told("bare, cycle", answer);
     printf("place %d\n", state[0]);
+    uint32_t answers[9];
+    rabtishu_cycles(image, size, state, 3, NULL, 0, NULL, 0, answers, 9, answer);
+    told("bare, three rows", answer);
+    for (int k = 0; k < 3; k++)
+        told("row", answers + 3 * k);
+    rabtishu_cycles(image, size, state, SIZE_MAX, NULL, 0, NULL, 0, NULL, 0, answer);
+    told("bare, as many rows as can be counted", answer);
     rabtishu_direct_fresh(process, n, state, answer);
     told("bare, direct fresh", answer);
     rabtishu_direct(process, n, state, NULL, 0, NULL, 0, answer);
@@ -191,6 +250,7 @@ int main(void)
 
     trace(image, 134);
     trace(NULL, 0);
+    in_one_call(image, 134);
 
     refused(image, 134, 513, 0);
     refused(image, 134, 65536 + 512, 0);
