@@ -1,11 +1,14 @@
-//! The seven public functions in the shape of the C interface, so that two implementations can be
+//! The eight public functions in the shape of the C interface, so that two implementations can be
 //! held side by side.
 
 use crate::answer::{answer, Answer, Outcome};
 use crate::state::State;
-use crate::{direct, encoder, lexer, loader, table};
+use crate::{batch, direct, encoder, lexer, loader, table};
 
-/// Seven functions. Nothing but the answer is written on a refusal.
+/// Many rows in one call.
+pub type Cycles = fn(&[u8], &mut State, usize, &[i32], &mut [i32], &mut [u32]) -> Answer;
+
+/// Eight functions. Nothing but the answer is written on a refusal.
 #[derive(Clone, Copy)]
 pub struct Board {
     pub name: &'static str,
@@ -17,6 +20,9 @@ pub struct Board {
     pub fresh: fn(&[u8], &mut State) -> Answer,
     /// Image, state, input row, output row; the count is the number of lines performed.
     pub cycle: fn(&[u8], &mut State, &[i32], &mut [i32]) -> Answer,
+    /// Image, state, row count, input rows, output rows, three numbers for each row; the count in
+    /// the answer is 0.
+    pub cycles: Cycles,
     /// Text, state.
     pub direct_fresh: fn(&[u8], &mut State) -> Answer,
     /// Text, state, input row, output row; the count is the number of lines performed.
@@ -32,6 +38,9 @@ pub const REFERENCE: Board = Board {
     open: |image| answer(loader::open(image).map(|_| 0)),
     fresh: |image, state| stored(table::fresh(image), state),
     cycle: |image, state, inputs, outputs| answer(table::cycle(image, state, inputs, outputs)),
+    cycles: |image, state, count, inputs, outputs, answers| {
+        answer(batch::cycles(image, state, count, inputs, outputs, answers).map(|()| 0))
+    },
     direct_fresh: |text, state| stored(direct::direct_fresh(text), state),
     direct: |text, state, inputs, outputs| answer(direct::direct(text, state, inputs, outputs)),
     token_at: |text, place| lexer::token_at(text, place).len(),

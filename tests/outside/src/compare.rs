@@ -18,16 +18,16 @@ const BYTE: u8 = 0x5a;
 const WORD: i32 = 0x5a5a_5a5a;
 
 /// What rows and states of an image or a text are like.
-struct Shape {
-    inputs: Vec<Type>,
-    outputs: Vec<Type>,
+pub(crate) struct Shape {
+    pub(crate) inputs: Vec<Type>,
+    pub(crate) outputs: Vec<Type>,
     variables: Vec<Type>,
     waits: Vec<usize>,
     lines: usize,
 }
 
 impl Shape {
-    fn of(image: &Image) -> Shape {
+    pub(crate) fn of(image: &Image) -> Shape {
         let is_wait = |line: &usize| image.line(*line).kind == WAIT;
         Shape {
             inputs: image.inputs().collect(),
@@ -39,7 +39,7 @@ impl Shape {
     }
 
     /// For images that do not open: one input, one output.
-    fn unknown() -> Shape {
+    pub(crate) fn unknown() -> Shape {
         Shape {
             inputs: vec![Type::Integer],
             outputs: vec![Type::Integer],
@@ -49,7 +49,7 @@ impl Shape {
         }
     }
 
-    fn state(&self, random: &mut Random) -> State {
+    pub(crate) fn state(&self, random: &mut Random) -> State {
         let state = states::good(&self.outputs, &self.variables, &self.waits, random);
         if random.chance(30) {
             return states::damaged(&state, random);
@@ -257,7 +257,7 @@ pub fn same_on_image(one: &Board, other: &Board, image: &[u8], random: &mut Rand
 }
 
 /// Two boards on all kinds of random inputs, and table against direct run on the second: what a
-/// further implementation has to pass beside the frozen cases.
+/// further implementation has to pass beside the frozen cases and `batches::everything`.
 pub fn everything(one: &Board, other: &Board, seed: u64) {
     for round in 0..rounds(300) {
         let mut random = Random::round(seed, round);

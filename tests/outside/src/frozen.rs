@@ -2,6 +2,7 @@
 //! to them.
 
 use crate::answer::{refusal, Answer, Refusal};
+use crate::batches::{self, Batch, Left};
 use crate::board::Board;
 use crate::state::{State, OUTPUTS, VARIABLES};
 
@@ -37,6 +38,21 @@ pub struct ImageCase {
     pub outputs: Vec<i32>,
 }
 
+/// Many rows in one call, and what the call leaves.
+pub struct BatchCase {
+    pub label: String,
+    pub batch: Batch,
+    pub outcome: Result<Written, Refusal>,
+}
+
+/// What a call for many rows leaves where it is taken.
+pub struct Written {
+    pub state: State,
+    /// Nothing where a number stays the caller's.
+    pub outputs: Vec<Option<i32>>,
+    pub answers: Vec<u32>,
+}
+
 /// The cases of `data/texts.txt`.
 pub fn texts() -> Vec<TextCase> {
     let cases = blocks(include_str!("../data/texts.txt"));
@@ -47,6 +63,24 @@ pub fn texts() -> Vec<TextCase> {
 pub fn images() -> Vec<ImageCase> {
     let cases = blocks(include_str!("../data/images.txt"));
     cases.iter().map(|block| image_case(block)).collect()
+}
+
+/// The cases of `data/request_texts.txt`: apart from `texts`, whose cases the program vectors has.
+pub fn request_texts() -> Vec<TextCase> {
+    let cases = blocks(include_str!("../data/request_texts.txt"));
+    cases.iter().map(|block| text_case(block)).collect()
+}
+
+/// The cases of `data/request_images.txt`.
+pub fn request_images() -> Vec<ImageCase> {
+    let cases = blocks(include_str!("../data/request_images.txt"));
+    cases.iter().map(|block| image_case(block)).collect()
+}
+
+/// The cases of `data/batches.txt`.
+pub fn batches() -> Vec<BatchCase> {
+    let cases = blocks(include_str!("../data/batches.txt"));
+    cases.iter().map(|block| batch_case(block)).collect()
 }
 
 /// Cases are parted by empty lines; a line is a keyword and its value.
@@ -110,6 +144,35 @@ fn image_case(block: &Block) -> ImageCase {
         outcome: outcome(part("cycle")),
         outputs: numbers(part("outputs")),
     }
+}
+
+fn batch_case(block: &Block) -> BatchCase {
+    let part = |key| value(block, key).unwrap_or("");
+    let (outputs, answers) = part("rooms").split_once(' ').expect("two lengths");
+    BatchCase {
+        label: part("case").to_string(),
+        batch: Batch {
+            image: hexadecimal(part("image")),
+            state: state(part("state")),
+            count: number(part("count")),
+            inputs: numbers(part("inputs")),
+            outputs: number(outputs),
+            answers: number(answers),
+        },
+        outcome: match value(block, "refused") {
+            Some(refused) => Err(refused_as(refused)),
+            None => Ok(Written {
+                state: state(part("after")),
+                outputs: part("outputs").split_whitespace().map(written).collect(),
+                answers: numbers(part("answers")).iter().map(|n| *n as u32).collect(),
+            }),
+        },
+    }
+}
+
+/// A number that a call writes; `_` is one that stays the caller's.
+fn written(text: &str) -> Option<i32> {
+    (text != "_").then(|| text.parse().expect("a number"))
 }
 
 /// `refused number place`, or `place lines : outputs : variables`.
@@ -293,4 +356,26 @@ pub fn check_image(board: &Board, case: &ImageCase) {
             assert_eq!(outputs, case.outputs, "outputs of {label}");
         }
     }
+}
+
+/// Holds a board against many rows in one call; panics where it differs.
+pub fn check_batch(board: &Board, case: &BatchCase) {
+    let BatchCase { label, batch, .. } = case;
+    let expected = match &case.outcome {
+        Err(refusal) => Left {
+            answer: refused(*refusal),
+            ..batch.lent()
+        },
+        Ok(written) => Left {
+            answer: [0, 0, 0],
+            state: written.state,
+            outputs: written
+                .outputs
+                .iter()
+                .map(|n| n.unwrap_or(batches::WORD))
+                .collect(),
+            answers: written.answers.clone(),
+        },
+    };
+    assert_eq!(batches::run(board, batch), expected, "{label}");
 }

@@ -1,11 +1,13 @@
 //! An independent implementation of document 01, written from the document alone: the texts, the
 //! images, the cycle on a table, the direct run from the text, and the trace.
 //!
-//! Each file has one topic and quotes the sentences that it follows. `board` gathers the seven
+//! Each file has one topic and quotes the sentences that it follows. `board` gathers the eight
 //! public functions in the shape of the C interface; `generate` makes random inputs for them;
 //! `compare` holds two boards, or the two runs of one board, side by side.
 
 pub mod answer;
+pub mod batch;
+pub mod batches;
 pub mod board;
 pub mod caller;
 pub mod classes;

@@ -19,6 +19,19 @@ extern "C" {
         no: usize,
         answer: *mut u32,
     );
+    fn rabtishu_cycles(
+        image: *const u8,
+        n: usize,
+        state: *mut i32,
+        count: usize,
+        inputs: *const i32,
+        ni: usize,
+        outputs: *mut i32,
+        no: usize,
+        answers: *mut u32,
+        na: usize,
+        answer: *mut u32,
+    );
     fn rabtishu_direct_fresh(text: *const u8, n: usize, state: *mut i32, answer: *mut u32);
     fn rabtishu_direct(
         text: *const u8,
@@ -40,6 +53,7 @@ pub const PROVED: Board = Board {
     open,
     fresh,
     cycle,
+    cycles,
     direct_fresh,
     direct,
     token_at,
@@ -63,9 +77,49 @@ pub const PLAIN: Board = Board {
         answer
     },
     cycle: |image, state, inputs, outputs| plainly(rabtishu_cycle, image, state, inputs, outputs),
+    cycles: |image, state, count, inputs, outputs, answers| {
+        let mut answer = [0; 3];
+        let (n, ni, no, na) = (image.len(), inputs.len(), outputs.len(), answers.len());
+        let (from, at, read) = (image.as_ptr(), state.as_mut_ptr(), inputs.as_ptr());
+        let (to, told) = (outputs.as_mut_ptr(), answers.as_mut_ptr());
+        let own = answer.as_mut_ptr();
+        // SAFETY: as in `compile`; the count is only a number.
+        unsafe { rabtishu_cycles(from, n, at, count, read, ni, to, no, told, na, own) };
+        answer
+    },
     direct: |text, state, inputs, outputs| plainly(rabtishu_direct, text, state, inputs, outputs),
     ..PROVED
 };
+
+/// Many rows in one call, with NULL in the place of every slice that is empty.
+pub const NULLS: Board = Board {
+    name: "NULL for what is empty",
+    cycles: |image, state, count, inputs, outputs, answers| {
+        let mut answer = [0; 3];
+        let (n, ni, no, na) = (image.len(), inputs.len(), outputs.len(), answers.len());
+        let (from, read) = (pointer(image), pointer(inputs));
+        let (to, told) = (pointer_mut(outputs), pointer_mut(answers));
+        let (at, own) = (state.as_mut_ptr(), answer.as_mut_ptr());
+        // SAFETY: as in `PLAIN`; nothing is read or written through a pointer with length 0.
+        unsafe { rabtishu_cycles(from, n, at, count, read, ni, to, no, told, na, own) };
+        answer
+    },
+    ..PROVED
+};
+
+fn pointer<T>(lent: &[T]) -> *const T {
+    match lent {
+        [] => std::ptr::null(),
+        _ => lent.as_ptr(),
+    }
+}
+
+fn pointer_mut<T>(lent: &mut [T]) -> *mut T {
+    match lent {
+        [] => std::ptr::null_mut(),
+        _ => lent.as_mut_ptr(),
+    }
+}
 
 fn plainly(
     run: Run,
@@ -216,6 +270,34 @@ fn ran(run: Run, bytes: &[u8], state: &mut State, inputs: &[i32], outputs: &mut 
 
 fn cycle(image: &[u8], state: &mut State, inputs: &[i32], outputs: &mut [i32]) -> Answer {
     ran(rabtishu_cycle, image, state, inputs, outputs)
+}
+
+fn cycles(
+    image: &[u8],
+    state: &mut State,
+    count: usize,
+    inputs: &[i32],
+    outputs: &mut [i32],
+    answers: &mut [u32],
+) -> Answer {
+    let mut source = Guarded::new(image, BYTE);
+    let mut record = Guarded::new(state.as_slice(), WORD);
+    let mut given = Guarded::new(inputs, WORD);
+    let mut rows = Guarded::new(outputs, WORD);
+    let mut numbers = Guarded::new(answers, ANSWER);
+    let (n, ni, no, na) = (source.len(), given.len(), rows.len(), numbers.len());
+    let (from, at, read) = (source.pointer(), record.pointer(), given.pointer());
+    let (to, told) = (rows.pointer(), numbers.pointer());
+    // SAFETY: as in `ran`; the count is only a number.
+    let answer = answered(|answer| unsafe {
+        rabtishu_cycles(from, n, at, count, read, ni, to, no, told, na, answer)
+    });
+    source.check_read(image);
+    given.check_read(inputs);
+    record.give_back(state);
+    rows.give_back(outputs);
+    numbers.give_back(answers);
+    answer
 }
 
 fn direct(text: &[u8], state: &mut State, inputs: &[i32], outputs: &mut [i32]) -> Answer {

@@ -1,7 +1,9 @@
 //! The reference against the frozen cases.
 
 use reference::board::REFERENCE;
-use reference::frozen::{check_image, check_text, images, texts};
+use reference::frozen::{
+    batches, check_batch, check_image, check_text, images, request_images, request_texts, texts,
+};
 use reference::lexer::token_at;
 use reference::loader::open;
 use reference::trace::{direct_trace, trace};
@@ -58,5 +60,30 @@ fn sections_are_lent_as_frozen() {
         ];
         let lent = [image.signature, image.lines, image.code];
         assert_eq!(lent, parts, "sections of {}", case.label);
+    }
+}
+
+#[test]
+fn what_the_change_requests_keep_is_answered_as_frozen() {
+    let (texts, images) = (request_texts(), request_images());
+    assert_eq!((texts.len(), images.len()), (94, 28));
+    for case in &texts {
+        check_text(&REFERENCE, case);
+        let by_table = trace(&case.text, &case.rows);
+        assert_eq!(by_table, case.trace, "trace of {}", case.label);
+        let by_text = direct_trace(&case.text, &case.rows);
+        assert_eq!(by_text, case.trace, "direct trace of {}", case.label);
+    }
+    for case in &images {
+        check_image(&REFERENCE, case);
+    }
+}
+
+#[test]
+fn many_rows_in_one_call_are_answered_as_frozen() {
+    let cases = batches();
+    assert_eq!(cases.len(), 42);
+    for case in &cases {
+        check_batch(&REFERENCE, case);
     }
 }

@@ -19,7 +19,11 @@ fn the_archive_is_there_if_it_must_be() {
 #[cfg(proved)]
 #[test]
 fn frozen_texts() {
-    for case in &reference::frozen::texts() {
+    let (texts, more) = (
+        reference::frozen::texts(),
+        reference::frozen::request_texts(),
+    );
+    for case in texts.iter().chain(&more) {
         reference::frozen::check_text(&PROVED, case);
     }
 }
@@ -27,7 +31,11 @@ fn frozen_texts() {
 #[cfg(proved)]
 #[test]
 fn frozen_images() {
-    for case in &reference::frozen::images() {
+    let (images, more) = (
+        reference::frozen::images(),
+        reference::frozen::request_images(),
+    );
+    for case in images.iter().chain(&more) {
         reference::frozen::check_image(&PROVED, case);
     }
 }

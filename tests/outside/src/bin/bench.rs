@@ -14,9 +14,11 @@ fn main() {
 
 #[cfg(all(proved, benched))]
 mod proved {
+    use reference::batches::{check, fresh, Batch, Left};
     use reference::board::{Board, REFERENCE};
     use reference::compare::compiled;
     use reference::generate::random::{Random, SEED};
+    use reference::generate::rows::{gcd, small};
     use reference::loops::{self, Loop};
     use reference::proved::PLAIN;
     use std::hint::black_box;
@@ -62,29 +64,6 @@ mod proved {
         }
         text += "wait until clk='1';end process;end a;";
         text.into_bytes()
-    }
-
-    /// Rows of one small number: sums that pass 10 after some rows, for tally.
-    fn small_rows(count: usize, random: &mut Random) -> Vec<i32> {
-        (0..count)
-            .map(|_| random.between(0, 15) as i32 - 3)
-            .collect()
-    }
-
-    /// Rows for GCD: multiples of two neighbours of the Fibonacci numbers, on which its differences
-    /// come to 0 after some waits; now and then no start.
-    fn gcd_rows(count: usize, random: &mut Random) -> Vec<i32> {
-        const NEIGHBOURS: [(i32, i32); 6] = [(2, 1), (3, 2), (5, 3), (8, 5), (13, 8), (21, 13)];
-        let row = |_| {
-            let (a, b) = *random.pick(&NEIGHBOURS);
-            let factor = random.between(1, 1000) as i32;
-            let start = i32::from(random.chance(60));
-            match random.chance(50) {
-                true => [a * factor, b * factor, start],
-                false => [b * factor, a * factor, start],
-            }
-        };
-        (0..count).flat_map(row).collect()
     }
 
     /// The middle of some numbers.
@@ -191,6 +170,47 @@ mod proved {
         open(&format!("open, {name}"), &image, 20 * times);
     }
 
+    /// All rows in one call, against the same rows by single calls of the same interface, and against
+    /// this implementation's one call.
+    fn in_one_call(name: &str, text: &[u8], of: &Rows, times: usize) {
+        let image = compiled(&REFERENCE, text);
+        let batch = Batch::due(&image, &fresh(&image), of.count(), of.values.clone());
+        let left = check(&PLAIN, &batch);
+        assert_eq!(left.answer, [0, 0, 0], "{name}: refused");
+        let (mut ours, mut theirs) = (left.clone(), left);
+        let one = |board: &Board, left: &mut Left| {
+            left.state = batch.state;
+            let image = black_box(&batch.image);
+            let (outputs, answers) = (&mut left.outputs, &mut left.answers);
+            let (count, inputs) = (batch.count, &batch.inputs);
+            black_box((board.cycles)(
+                image,
+                &mut left.state,
+                count,
+                inputs,
+                outputs,
+                answers,
+            ));
+        };
+        let single = |left: &mut Left| {
+            left.state = batch.state;
+            for (row, told) in left.answers.chunks_exact_mut(3).enumerate() {
+                let image = black_box(&batch.image);
+                let values = &batch.inputs[row * of.width..][..of.width];
+                let part = &mut left.outputs[row * of.outputs..][..of.outputs];
+                told.copy_from_slice(&(PLAIN.cycle)(image, &mut left.state, values, part));
+            }
+        };
+        let label = format!("one call against single calls, {name}");
+        let call = || one(&PLAIN, &mut ours);
+        compare(&label, times, of.count(), call, || single(&mut theirs));
+        let label = format!("one call, {name}");
+        let call = || one(&PLAIN, &mut ours);
+        compare(&label, times, of.count(), call, || {
+            one(&REFERENCE, &mut theirs)
+        });
+    }
+
     /// How the time of a compile grows with the text: the two lengths take turns, since the
     /// machine's own speed changes from one second to the next.
     fn growth() {
@@ -214,7 +234,7 @@ mod proved {
 
     pub fn main() {
         let tally = include_bytes!("../../../../examples/tally/process.vhd");
-        let gcd = include_bytes!("../../../../examples/gcd/process.vhd");
+        let gcd_text = include_bytes!("../../../../examples/gcd/process.vhd");
         let many = many_statements();
         println!(
             "{:<44} {:>6}   {:>13} {:>13}",
@@ -230,13 +250,15 @@ mod proved {
             width,
             outputs,
         };
-        cycles("tally", tally, &of(small_rows(400, &mut random), 1, 1), 40);
-        cycles("gcd", gcd, &of(gcd_rows(400, &mut random), 3, 2), 20);
-        cycles(
-            "512 lines",
-            &many,
-            &of(small_rows(40, &mut random), 1, 1),
-            20,
-        );
+        let tally_rows = of(small(400, &mut random), 1, 1);
+        let gcd_rows = of(gcd(400, &mut random), 3, 2);
+        let many_rows = of(small(40, &mut random), 1, 1);
+        cycles("tally", tally, &tally_rows, 40);
+        cycles("gcd", gcd_text, &gcd_rows, 20);
+        cycles("512 lines", &many, &many_rows, 20);
+        println!("many rows; the bar against single calls, in the place of Rust, is 0.75 each");
+        in_one_call("tally", tally, &tally_rows, 40);
+        in_one_call("gcd", gcd_text, &gcd_rows, 20);
+        in_one_call("512 lines", &many, &many_rows, 20);
     }
 }

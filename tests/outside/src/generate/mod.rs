@@ -1,6 +1,7 @@
-//! Random inputs for the seven functions: accepted texts, mutants, texts at the limits, good and
+//! Random inputs for the eight functions: accepted texts, mutants, texts at the limits, good and
 //! damaged images, states and rows.
 
+pub mod batches;
 pub mod expressions;
 pub mod images;
 pub mod limits;

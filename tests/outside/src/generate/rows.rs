@@ -36,3 +36,26 @@ pub fn room(outputs: usize, random: &mut Random) -> usize {
         _ => outputs,
     }
 }
+
+/// Rows of one small number, end to end: sums that pass 10 after some rows, for tally.
+pub fn small(count: usize, random: &mut Random) -> Vec<i32> {
+    (0..count)
+        .map(|_| random.between(0, 15) as i32 - 3)
+        .collect()
+}
+
+/// Rows for GCD, end to end: multiples of two neighbours of the Fibonacci numbers, on which its
+/// differences come to 0 after some waits; now and then no start.
+pub fn gcd(count: usize, random: &mut Random) -> Vec<i32> {
+    const NEIGHBOURS: [(i32, i32); 6] = [(2, 1), (3, 2), (5, 3), (8, 5), (13, 8), (21, 13)];
+    let row = |_| {
+        let (a, b) = *random.pick(&NEIGHBOURS);
+        let factor = random.between(1, 1000) as i32;
+        let start = i32::from(random.chance(60));
+        match random.chance(50) {
+            true => [a * factor, b * factor, start],
+            false => [b * factor, a * factor, start],
+        }
+    };
+    (0..count).flat_map(row).collect()
+}
