@@ -1,22 +1,26 @@
 -- What a call leaves at the C interface: its three numbers, and the 49 numbers, those of the new record where the call was done and as they were where it was
 -- refused. Assumes nothing.
 use Prim.Native.Nat.{ℕ}
-use mathlib.Core.Path.{_≡_, refl, sym, ap, _∙_}
-use mathlib.Core.Bool.{Bool, true, false}
+use mathlib.Core.Path.{_≡_, refl, sym, ap, _∙_, subst}
+use mathlib.Core.Bool.{Bool, true, false, cond}
 use mathlib.Core.List.{List}
 use lib.IntN.{ℤ}
 use Rattle.answers.specs.declared.State.{State}
 use Rattle.answers.specs.declared.Started as declared
 use Rattle.answers.specs.declared.Cycled.{Cycled}
-use Rattle.answers.specs.Answers.{Told, isDone, isPerformed, isFresh, freshTold, cycleTold}
+use Rattle.answers.specs.Answers.{Told, done, refusal, isDone, isPerformed, isFresh, freshTold, cycleTold}
 use Rattle.semantics.proofs.Basic.{false-true}
 use Rattle.semantics.specs.Records.{Started, fresh, not-started}
 use Rattle.semantics.specs.Calls.{Answer, performed, not-performed, Called}
 use Rattle.semantics.specs.Advances.{cycleAnswer, freshAnswer, startOf}
 use Rattle.format.specs.Opening.{Opened, opened, not-opened}
+use Rattle.format.specs.Batch.{batchOf, batchAnswer, isMoved}
 use Rattle.loader.specs.Open.{openAnswer}
-use Rattle.theorems.specs.CInterface.{stateOfC, cOfState, cycledSlots, cycleLeft, startLeft, openNumbers}
-use Rattle.answers.specs.Numbers.{numbersOf, uncounted, startedNumbers, cycledNumbers}
+use Rattle.batch.specs.declared.Outcome.{Outcome}
+use Rattle.batch.specs.Batches.{Batches}
+use Rattle.theorems.proofs.BatchInC.{slots-moved}
+use Rattle.theorems.specs.CInterface.{stateOfC, cOfState, cycledSlots, cycleLeft, startLeft, openNumbers, batchInC}
+use Rattle.answers.specs.Numbers.{numbersOf, uncounted, startedNumbers, cycledNumbers, batchedNumbers}
 
 -- an image opened
 pub opened-numbers : (b : List ℕ) (o : Opened) → numbersOf (uncounted (openAnswer b o)) ≡ openNumbers o
@@ -76,3 +80,33 @@ module _ (call : State → Called) (l : List ℤ) where
         kept (call (stateOfC l) .answer) t (call (stateOfC l) .state) (j ∙ ap isDone f′) k,
         h ∙ ap (λ s. call s .row) e,
       )
+
+-- many rows in one call: l are the 49 numbers before it
+module _ (image : List ℕ) (l : List ℤ) (n : ℕ) (is os : List ℤ) (ns : List ℕ) where
+  abbrev pub AfterRows : List ℕ → List ℤ → List ℤ → List ℕ → Type 0
+  AfterRows m c u v =
+      (m ≡ batchInC image l n is os ns .answer) × (c ≡ batchInC image l n is os ns .slots) × (u ≡ batchInC image l n is os ns .rows) × (v ≡ batchInC image l n is os ns .answers)
+
+  told : (a : Told (List Called)) → numbersOf (uncounted (batchAnswer a)) ≡ numbersOf (uncounted a)
+  told (done rs) = refl
+  told (refusal q k) = refl
+
+  -- the outcome is that of the record that the 49 numbers hold
+  left : (s : State) (r : Outcome) (m : List ℕ) (c u : List ℤ) (v : List ℕ) → s ≡ stateOfC l → Batches (batchOf image s n is os ns) r u v → m ≡ batchedNumbers (r .answer)
+      → c ≡ cond (r .performed) (cOfState (r .state)) l → AfterRows m c u v
+  left s r m c u v e h i j =
+      let k : Batches (batchOf image (stateOfC l) n is os ns) r u v = subst (λ (x : State). Batches (batchOf image x n is os ns) r u v) e h in (
+        i ∙ ap (λ (x : Told (Unit {0})). numbersOf (uncounted x)) (k .answer) ∙ told (batchOf image (stateOfC l) n is os ns .answer),
+        j ∙ ap (λ (x : Bool). cond x (cOfState (r .state)) l) (k .performed)
+            ∙ ap (λ (x : State). cond (isMoved (batchOf image (stateOfC l) n is os ns .answer)) (cOfState x) l) (k .state) ∙ sym (slots-moved image l n is os ns),
+        k .rows,
+        k .answers,
+      )
+
+  pub rows-stored : (s : State) (r : Outcome) (m : List ℕ) (c u : List ℤ) (v : List ℕ) → s ≡ stateOfC l → Batches (batchOf image s n is os ns) r u v → m ≡ batchedNumbers (r .answer)
+      → r .performed ≡ true → c ≡ cOfState (r .state) → AfterRows m c u v
+  rows-stored s r m c u v e h i t j = left s r m c u v e h i (j ∙ sym (ap (λ (x : Bool). cond x (cOfState (r .state)) l) t))
+
+  pub rows-kept : (s : State) (r : Outcome) (m : List ℕ) (u : List ℤ) (v : List ℕ) → s ≡ stateOfC l → Batches (batchOf image s n is os ns) r u v → m ≡ batchedNumbers (r .answer)
+      → r .performed ≡ false → AfterRows m l u v
+  rows-kept s r m u v e h i t = left s r m l u v e h i (sym (ap (λ (x : Bool). cond x (cOfState (r .state)) l) t))

@@ -1,5 +1,5 @@
--- Place and count of every answer have 32 bits: all are at most 65,535 (theorems/proofs/Places.antt); that of a cycle on an image is `cycle-narrow` in
--- images/proofs/Places.antt. Assumes nothing.
+-- Place and count of every answer have 32 bits: all are at most 65,535 (theorems/proofs/Places.antt); those of calls on an
+-- image are `cycle-narrow` (images/proofs/Places.antt) and `batch-narrow` (theorems/proofs/Batch.antt). Assumes nothing.
 use mathlib.Core.Path.{_≡_, refl, sym}
 use mathlib.Core.List.{List}
 use Prim.Native.Nat.{ℕ, _≤_}

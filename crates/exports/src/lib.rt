@@ -1,9 +1,9 @@
-// The C interface: seven functions with plain names, for C and Rust to link; include/rabtishu.h declares them. Whatever is lent, each call is done or
+// The C interface: eight functions with plain names, for C and Rust to link; include/rabtishu.h declares them. Whatever is lent, each call is done or
 // refused as document 01 says; a refused one writes nothing but its answer.
 mod record;
 
 ghost use mathlib.Core.Path.{_≡_};
-ghost use Rattle.theorems.specs.CInterface.{compileInC, openInC, freshInC, cycleInC, directFreshInC, directInC, tokenInC};
+ghost use Rattle.theorems.specs.CInterface.{compileInC, openInC, freshInC, cycleInC, batchInC, directFreshInC, directInC, tokenInC};
 
 // A text to an image in the caller's buffer.
 #[no_mangle]
@@ -64,6 +64,35 @@ pub extern "C" fn rabtishu_cycle(
         let after = a.state;
         let advanced = record::from_state(after);
         *state = advanced;
+    }
+}
+
+// Many rows on an image in one call.
+#[no_mangle]
+pub extern "C" fn rabtishu_cycles(
+    image: &[u8],
+    state: &mut [i32; 49],
+    count: usize,
+    inputs: &[i32],
+    outputs: &mut [i32],
+    answers: &mut [u32],
+    answer: &mut [u32; 3],
+)
+    ensures { λ _. ⌜ (now (answer .exit) ≡ batchInC (now (image .entry)) (now (state .entry)) count (now (inputs .entry)) (now (outputs .entry)) (now (answers .entry)) .answer)
+        × (now (state .exit) ≡ batchInC (now (image .entry)) (now (state .entry)) count (now (inputs .entry)) (now (outputs .entry)) (now (answers .entry)) .slots)
+        × (now (outputs .exit) ≡ batchInC (now (image .entry)) (now (state .entry)) count (now (inputs .entry)) (now (outputs .entry)) (now (answers .entry)) .rows)
+        × (now (answers .exit) ≡ batchInC (now (image .entry)) (now (state .entry)) count (now (inputs .entry)) (now (outputs .entry)) (now (answers .entry)) .answers) ⌝ }
+{
+    let before = *state;
+    let s = record::to_state(before);
+    let r = batch::cycles(image, s, count, inputs, outputs, answers);
+    let batched = r.answer;
+    let numbers = answers::numbers::batched(batched);
+    *answer = numbers;
+    if r.performed {
+        let after = r.state;
+        let stored = record::from_state(after);
+        *state = stored;
     }
 }
 
