@@ -13,3 +13,4 @@ pub mod Examples
 pub mod Mixed
 pub mod Batch
 pub mod Unmoved
+pub mod BatchExamples

@@ -7,7 +7,7 @@ use Prim.Native.Nat.{ℕ}
 use lib.ListN.{length, take}
 use lib.IntN.{ℤ}
 use Rattle.answers.specs.Answers.{isDone}
-use Rattle.answers.specs.Numbers.{numbersOf, uncounted}
+use Rattle.answers.specs.Numbers.{numbersOf}
 use Rattle.answers.specs.declared.State.{State}
 use Rattle.semantics.specs.Calls.{Answer, performed, not-performed, Called, Call}
 use Rattle.semantics.specs.Advances.{cycleAnswer}
@@ -22,7 +22,7 @@ use Rattle.format.specs.Batch.{Batch, callsIn, rowsLeft, answersLeft, stateLeft
 use Rattle.images.specs.Outcome.{Outcome, row-refused, state-refused, operator-refused, performs}
 use Rattle.images.proofs.Outcomes.{image-outcome}
 use Rattle.theorems.specs.Compile.{compileOf}
-use Rattle.theorems.specs.CInterface.{stateOfC, cOfState, cycledSlots, compileInC, cycleInC, callsInC, slotsLeft, batchSlots, batchInC}
+use Rattle.theorems.specs.CInterface.{stateOfC, cOfState, cycledSlots, compileInC, cycleInC, callsInC, slotsLeft, batchSlots, batchLeft, batchInC}
 use Rattle.theorems.specs.Promises.{doneNumbers}
 use Rattle.theorems.specs.Batch.{DueTo, slotsAfter, rowsAfter, answersAfter, endToEndInC, BatchInC, BatchOfTextInC}
 use Rattle.theorems.proofs.CInterface.{back, wait-whole, wrote-in-c, wrote-bytes, calls-in-c}
@@ -88,14 +88,14 @@ module _ (image : List ℕ) (h : Bytes image) (t : Table) (e : openOf image ≡ 
       → batchInC image l n is os ns ≡ endToEndInC l (callsInC (cycleInC image) l (callsIn n (length (t .signature .inputs)) (length (t .signature .outputs)) is os))
   taken-in-c l n is os ns d =
       let k = same-singly l (callsIn n (length (t .signature .inputs)) (length (t .signature .outputs)) is os) in
-      ap (λ (b : Batch). record { answer = numbersOf (uncounted (b .answer)); slots = batchSlots (b .answer) l; rows = b .rows; answers = b .answers }) (batch-taken image (stateOfC l) n is os ns t e d)
+      ap (λ (b : Batch). batchLeft b l) (batch-taken image (stateOfC l) n is os ns t e d)
       ∙ (λ j. record { answer = doneNumbers 0; slots = k .slots j; rows = k .rows j; answers = k .answers j })
 
 -- THE THEOREMS
 pub batch-in-c : (image : List ℕ) → Bytes image → (l : List ℤ) (n : ℕ) (is os : List ℤ) (ns : List ℕ) → BatchInC image l n is os ns
 batch-in-c image h l n is os ns =
     record {
-      refused = λ q k r. ap (λ (b : Batch). record { answer = numbersOf (uncounted (b .answer)); slots = batchSlots (b .answer) l; rows = b .rows; answers = b .answers }) (turned-back image h (stateOfC l) n is os ns q k r);
+      refused = λ q k r. ap (λ (b : Batch). batchLeft b l) (turned-back image h (stateOfC l) n is os ns q k r);
       taken = λ t e d. taken-in-c image h t e l n is os ns d;
     }
 

@@ -15,7 +15,7 @@ use Rattle.semantics.specs.Advances.{cycleAnswer}
 use Rattle.format.specs.Opening.{Opened, opened, not-opened, openOf}
 use Rattle.format.specs.State.{freshOf}
 use Rattle.format.specs.Cycle.{cycleOf}
-use Rattle.format.specs.Batch.{batchOf}
+use Rattle.format.specs.Batch.{Batch, batchOf}
 use Rattle.behaviour.specs.Direct.{directOf, directFresh}
 use Rattle.theorems.specs.Compile.{compileAnswer, compileOf}
 
@@ -110,8 +110,10 @@ pub record BatchLeft : Type 0 where
   pub rows : List ℤ
   pub answers : List ℕ
 
--- rabtishu_cycles: the rows have their own counts, the call has none
+-- by what is left of a state record: the rows have their own counts, the call has none
+abbrev pub batchLeft : Batch → List ℤ → BatchLeft
+batchLeft r l = record { answer = numbersOf (uncounted (r .answer)); slots = batchSlots (r .answer) l; rows = r .rows; answers = r .answers }
+
+-- rabtishu_cycles
 abbrev pub batchInC : List ℕ → List ℤ → ℕ → List ℤ → List ℤ → List ℕ → BatchLeft
-batchInC image l n is os ns =
-    let r = batchOf image (stateOfC l) n is os ns in
-    record { answer = numbersOf (uncounted (r .answer)); slots = batchSlots (r .answer) l; rows = r .rows; answers = r .answers }
+batchInC image l n is os ns = batchLeft (batchOf image (stateOfC l) n is os ns) l
