@@ -11,7 +11,8 @@ use lib.Seq.{length-take-le}
 use lib.IntN.{ℤ}
 use lib.Dec.{eqb}
 use Rattle.answers.specs.Answers.{Told, done, refusal, isDone, numberOf, placeOf, batchTold}
-use Rattle.answers.specs.Numbers.{numbersOf}
+use Rattle.answers.specs.Numbers.{Narrow, numbersOf, uncounted, batchedNumbers}
+use Rattle.answers.proofs.Narrow.{narrowed, refused-narrow, done-narrow}
 use Rattle.answers.specs.declared.State.{State}
 use Rattle.answers.specs.declared.Batched as declared-batched
 use Rattle.answers.specs.declared.Batched.the-variants.{Taken, NotTaken}
@@ -29,13 +30,13 @@ use Rattle.format.specs.Image.{Table}
 use Rattle.format.specs.Opening.{Opened, opened, not-opened, openOf}
 use Rattle.format.specs.Cycle.{cycleOf, callsOf}
 use Rattle.format.specs.Encode.{signatureFor, tableOf, encode}
-use Rattle.format.specs.Batch.{Batch, callsIn, rowsLeft, answersLeft, stateLeft, due, rowsOn, laidOut, batchOf, onePerformed, isMoved}
+use Rattle.format.specs.Batch.{Batch, callsIn, rowsLeft, answersLeft, stateLeft, due, rowsOn, laidOut, batchOf, batchAnswer, onePerformed, isMoved}
 use Rattle.format.proofs.Calls.{refused-untouched}
 use Rattle.format.proofs.Refusals.{refused-exactly}
 use Rattle.images.specs.Outcome.{Outcome, row-refused, state-refused, operator-refused, performs}
 use Rattle.images.proofs.Outcomes.{image-outcome}
 use Rattle.images.proofs.Processes.{encode-opens}
-use Rattle.images.proofs.Places.{cycle-place, cycle-count}
+use Rattle.images.proofs.Places.{image-place, cycle-place, cycle-count}
 use Rattle.theorems.specs.Compile.{written, compileOf}
 use Rattle.theorems.specs.Promises.{answerInC, RefusedAs}
 use Rattle.theorems.specs.Batch.{Due, DueTo, BatchRefused, by-image, by-length, endToEnd, Singly, Batched, BatchTold, BatchOfText}
@@ -136,6 +137,19 @@ module _ (image : List ℕ) (h : Bytes image) (s : State) (n : ℕ) (is os : Lis
       batch-17 image s n is os ns t e d
       ∙ (ap (λ (m : ℕ). record { answer = refusal m 0; state = s; rows = os; answers = ns }) (sym a)
       ∙ ap (λ (m : ℕ). record { answer = refusal q m; state = s; rows = os; answers = ns }) (sym b))
+
+  turned-place : BatchRefused image n is os ns q k → k ≤ 512
+  turned-place (by-image r) = image-place image q k r
+  turned-place (by-length t e d a b) = omega arith
+
+-- 32 bits hold the call's own three numbers
+pub batch-narrow : (image : List ℕ) → Bytes image → (s : State) (n : ℕ) (is os : List ℤ) (ns : List ℕ) (x : declared-batched.Batched)
+    → batchTold x ≡ batchAnswer (batchOf image s n is os ns .answer) → Narrow (batchedNumbers x)
+batch-narrow image h s n is os ns x e = narrowed (λ (t : Told (Unit {0})). numbersOf (uncounted t)) (sym e) (on (batchOf image s n is os ns .answer) refl)
+  where
+    on : (a : Told (List Called)) → batchOf image s n is os ns .answer ≡ a → Narrow (numbersOf (uncounted (batchAnswer a)))
+    on (done rs) f = done-narrow 0 (omega arith)
+    on (refusal q k) f = let l = turned-place image h s n is os ns q k (turned-there image h s n is os ns q k f) in refused-narrow q k (omega arith)
 
 -- ONE ROW AFTER ANOTHER
 none-long : {A : Type 0} (l : List A) → length l ≡ 0 → l ≡ []
@@ -260,6 +274,7 @@ pub batched : (image : List ℕ) → Bytes image → (s : State) (n : ℕ) (is o
 batched image h s n is os ns =
     record {
       refused = λ q k. (turned-there image h s n is os ns q k, λ r. ap (λ (b : Batch). b .answer) (turned-back image h s n is os ns q k r));
+      place = λ q k e. turned-place image h s n is os ns q k (turned-there image h s n is os ns q k e);
       untouched = λ q k. batch-cases image s n is os ns (λ b. b .answer ≡ refusal q k → b ≡ record { answer = refusal q k; state = s; rows = os; answers = ns })
           (λ x y e. ap (λ (a : Told (List Called)). record { answer = a; state = s; rows = os; answers = ns }) e) (λ t e d f. apart _ q k f);
       taken = batch-taken image s n is os ns;

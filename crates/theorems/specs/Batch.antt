@@ -67,6 +67,8 @@ Singly image i o s (suc n) is os ns =
 pub record Batched (image : List ℕ) (s : State) (n : ℕ) (is os : List ℤ) (ns : List ℕ) : Type 0 where
   -- "Turned away: 17 ..; after 13, before 14": 11, 12, 13, then 17, and the call as a whole by no other number
   pub refused : (q k : ℕ) → (batchOf image s n is os ns .answer ≡ refusal q k) ↔ BatchRefused image n is os ns q k
+  -- the place is the image's, or 0: at most 512
+  pub place : (q k : ℕ) → batchOf image s n is os ns .answer ≡ refusal q k → k ≤ 512
   -- "writing nothing"
   pub untouched : (q k : ℕ) → batchOf image s n is os ns .answer ≡ refusal q k
       → batchOf image s n is os ns ≡ record { answer = refusal q k; state = s; rows = os; answers = ns }
