@@ -39,7 +39,7 @@ use Rattle.images.proofs.Processes.{encode-opens}
 use Rattle.images.proofs.Places.{image-place, cycle-place, cycle-count}
 use Rattle.theorems.specs.Compile.{written, compileOf}
 use Rattle.theorems.specs.Promises.{answerInC, RefusedAs}
-use Rattle.theorems.specs.Batch.{Due, DueTo, BatchRefused, by-image, by-length, endToEnd, Singly, Batched, BatchTold, BatchOfText}
+use Rattle.theorems.specs.Batch.{Due, DueTo, BatchRefused, by-image, by-length, endToEnd, Comes, turned-away, takes, Singly, Batched, BatchTold, BatchOfText}
 use Rattle.theorems.proofs.Size.{valid-fits}
 use Rattle.theorems.proofs.Demand3.{wrote, demand3}
 use Rattle.theorems.proofs.Entry.{apart, apart-too, told-by}
@@ -273,6 +273,8 @@ module _ (image : List ℕ) where
 pub batched : (image : List ℕ) → Bytes image → (s : State) (n : ℕ) (is os : List ℤ) (ns : List ℕ) → Batched image s n is os ns
 batched image h s n is os ns =
     record {
+      comes = batch-cases image s n is os ns (λ b. ((q k : ℕ) → b .answer ≡ refusal q k → BatchRefused image n is os ns q k) → Comes image s n is os ns b)
+          (λ q k f. turned-away q k (f q k refl)) (λ t e d f. takes t e d) (turned-there image h s n is os ns);
       refused = λ q k. (turned-there image h s n is os ns q k, λ r. ap (λ (b : Batch). b .answer) (turned-back image h s n is os ns q k r));
       place = λ q k e. turned-place image h s n is os ns q k (turned-there image h s n is os ns q k e);
       untouched = λ q k. batch-cases image s n is os ns (λ b. b .answer ≡ refusal q k → b ≡ record { answer = refusal q k; state = s; rows = os; answers = ns })

@@ -47,6 +47,12 @@ pub data BatchRefused (image : List ℕ) (n : ℕ) (is os : List ℤ) (ns : List
 abbrev pub endToEnd : State → List Called → Batch
 endToEnd s rs = record { answer = done rs; state = stateLeft s rs; rows = rowsLeft rs; answers = answersLeft rs }
 
+-- what a call comes to, as demand 1 has it: turned away, "writing nothing"; or its rows, each from the state that the one before it left
+pub data Comes (image : List ℕ) (s : State) (n : ℕ) (is os : List ℤ) (ns : List ℕ) : Batch → Type 0 where
+  turned-away : (q k : ℕ) → BatchRefused image n is os ns q k → Comes image s n is os ns (record { answer = refusal q k; state = s; rows = os; answers = ns })
+  takes : (t : Table) → openOf image ≡ opened t → DueTo t n is os ns
+      → Comes image s n is os ns (endToEnd s (callsOf image s (callsIn n (length (t .signature .inputs)) (length (t .signature .outputs)) is os)))
+
 -- a call of many rows, by its first row given singly and the call of the other rows: its state is the one that the others leave; in front of their output
 -- rows stands the first row's own, in front of their answers its three numbers, "refusal number or 0, its place or 0, lines"
 pub record Follows (first : Called) (others whole : Batch) : Type 0 where
@@ -65,6 +71,8 @@ Singly image i o s (suc n) is os ns =
 
 -- ON ANY IMAGE
 pub record Batched (image : List ℕ) (s : State) (n : ℕ) (is os : List ℤ) (ns : List ℕ) : Type 0 where
+  -- every call is taken or turned away
+  pub comes : Comes image s n is os ns (batchOf image s n is os ns)
   -- "Turned away: 17 ..; after 13, before 14": 11, 12, 13, then 17, and the call as a whole by no other number
   pub refused : (q k : ℕ) → (batchOf image s n is os ns .answer ≡ refusal q k) ↔ BatchRefused image n is os ns q k
   -- the place is the image's, or 0: at most 512
