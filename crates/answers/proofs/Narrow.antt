@@ -1,10 +1,12 @@
--- Answers whose place and count have 32 bits. Assumes nothing.
+-- Answers whose place and count have 32 bits; and that the three numbers of a refusal tell it. Assumes nothing.
 use mathlib.Core.Path.{_≡_, subst}
 use mathlib.Core.List.{List}
 use Prim.Native.Nat.{ℕ, _≤_}
 use native.Mathlib.Omega.{arith}
-use Rattle.answers.specs.Answers.{done, refusal}
-use Rattle.answers.specs.Numbers.{numbersOf, Narrow}
+use Rattle.answers.specs.declared.Refusal.{Refusal}
+use Rattle.answers.specs.Answers.{numberOf, placeOf, done, refusal}
+use Rattle.answers.specs.Numbers.{numbersOf, Narrow, refusedAs}
+use Rattle.answers.proofs.Refusals.{one-refusal}
 
 -- what is known of an answer is known of one that equals it
 pub narrowed : {X : Type 0} (f : X → List ℕ) {x y : X} → x ≡ y → Narrow (f x) → Narrow (f y)
@@ -16,3 +18,7 @@ refused-narrow q k h = record { place = omega arith; count = omega arith }
 
 pub done-narrow : (n : ℕ) → n ≤ 65535 → Narrow (numbersOf (done n))
 done-narrow n h = record { place = omega arith; count = omega arith }
+
+-- a refusal is told in full: number and place stand among its three numbers
+pub numbers-tell : (r s : Refusal) → refusedAs r ≡ refusedAs s → r ≡ s
+numbers-tell r s e = let a : numberOf r ≡ numberOf s = cc in let b : placeOf r ≡ placeOf s = cc in one-refusal r s a b

@@ -12,11 +12,11 @@ use Rattle.answers.specs.declared.Refusal.{Refusal}
 use Rattle.answers.specs.declared.Refusal.the-variants.{BadLengths}
 use Rattle.answers.specs.declared.Batched.the-variants.{Taken, NotTaken}
 use Rattle.answers.specs.declared.Sections.{Sections}
-use Rattle.answers.specs.Answers.{Told, done, refusal, refusedBy, numberOf, placeOf}
+use Rattle.answers.specs.Answers.{Told, done, refusal, refusedBy}
 use Rattle.semantics.proofs.Basic.{and-left, and-right}
 use Rattle.semantics.specs.Calls.{Called}
 use Rattle.format.specs.Image.{Table}
-use Rattle.format.specs.Opening.{Opened, opened, not-opened, openOf}
+use Rattle.format.specs.Opening.{Opened, opened, openOf}
 use Rattle.format.specs.Cycle.{callsOf}
 use Rattle.format.specs.Batch.{callsIn, Batch, due, rowsOn, laidOut, batchOf}
 use Rattle.loader.specs.Open.{openAnswer}

@@ -5,7 +5,7 @@ use mathlib.Core.List.{List}
 use Prim.Native.Nat.{ℕ, _≤_}
 use native.Mathlib.Omega.{arith}
 use lib.ListN.{length}
-use Rattle.answers.specs.Answers.{Told, done, refusal, compileTold, openTold, freshTold, cycleTold}
+use Rattle.answers.specs.Answers.{Told, compileTold, openTold, freshTold, cycleTold}
 use Rattle.answers.specs.declared.Sections.{Sections}
 use Rattle.answers.specs.declared.State.{State}
 use Rattle.answers.specs.declared.Compiled as declared

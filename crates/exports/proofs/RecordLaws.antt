@@ -7,7 +7,6 @@ use mathlib.Core.List.{List, [], _∷_, _++_, append-nil}
 use lib.ListN.{length, getD, take, drop, set, drop-of-length-le, length-drop, length-set, length-append}
 use lib.Seq.{take-all, take-at, drop-at, length-take-le}
 use lib.IntN.{ℤ, pos, negsuc}
-use lib.Dec.{ltb}
 use borrow.Rule.Slice.PartMut.{putMid}
 use mir.Syntax.{w32}
 use mir.Val.{SFits}

@@ -2,8 +2,8 @@
 -- leave. Assumes nothing.
 use mathlib.Core.Path.{_≡_, refl, sym, _∙_, ap}
 use mathlib.Core.Bool.{Bool, true, false, _||_}
-use mathlib.Core.List.{List, [], _∷_, _++_, append-assoc, append-nil}
-use Prim.Native.Nat.{ℕ, zero, suc, _≤_, _+_, _*_}
+use mathlib.Core.List.{List, _++_, append-assoc, append-nil}
+use Prim.Native.Nat.{ℕ, suc, _≤_, _+_}
 use native.Mathlib.Omega.{arith}
 use lib.ListN.{length, take, drop, length-append}
 use lib.Seq.{take-length, length-take-le, drop-drop, take-at, drop-at}
@@ -12,7 +12,7 @@ use borrow.Rule.Slice.PartMut.{putMid}
 use Rattle.answers.specs.declared.State.{State}
 use Rattle.answers.specs.Answers.{Told, done, refusal, isDone}
 use Rattle.answers.specs.Numbers.{numbersOf}
-use Rattle.semantics.specs.Calls.{Answer, performed, not-performed, Called}
+use Rattle.semantics.specs.Calls.{Called}
 use Rattle.semantics.specs.Advances.{cycleAnswer}
 use Rattle.format.specs.Cycle.{cycleOf, callsOf}
 use Rattle.format.specs.Batch.{callsIn, rowsLeft, answersLeft, stateLeft, onePerformed}

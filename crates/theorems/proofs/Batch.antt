@@ -1,16 +1,16 @@
 -- Many rows in one call: the test of the lengths is its clause, the rows are single calls by one equation, and what holds of them is carried from row to row.
 -- Assumes nothing.
 use mathlib.Core.Path.{_≡_, refl, sym, _∙_, ap, subst}
-use mathlib.Core.Bool.{Bool, true, false, cond, _||_}
+use mathlib.Core.Bool.{Bool, true, false, cond}
 use mathlib.Core.Logic.{_↔_}
 use mathlib.Core.List.{List, [], _∷_, _++_}
 use Prim.Native.Nat.{ℕ, zero, suc, _*_, _≤_}
 use native.Mathlib.Omega.{arith}
-use lib.ListN.{length, getD, take, drop, length-append, length-drop, length-map, take-append-drop}
+use lib.ListN.{length, getD, take, drop, length-append, length-drop, length-map}
 use lib.Seq.{length-take-le}
 use lib.IntN.{ℤ}
 use lib.Dec.{eqb}
-use Rattle.answers.specs.Answers.{Told, done, refusal, isDone, numberOf, placeOf, batchTold}
+use Rattle.answers.specs.Answers.{Told, done, refusal, numberOf, placeOf, batchTold}
 use Rattle.answers.specs.Numbers.{Narrow, numbersOf, uncounted, batchedNumbers}
 use Rattle.answers.proofs.Narrow.{narrowed, refused-narrow, done-narrow}
 use Rattle.answers.specs.declared.State.{State}
@@ -30,11 +30,12 @@ use Rattle.format.specs.Image.{Table}
 use Rattle.format.specs.Opening.{Opened, opened, not-opened, openOf}
 use Rattle.format.specs.Cycle.{cycleOf, callsOf}
 use Rattle.format.specs.Encode.{signatureFor, tableOf, encode}
-use Rattle.format.specs.Batch.{Batch, callsIn, rowsLeft, answersLeft, stateLeft, due, rowsOn, laidOut, batchOf, batchAnswer, onePerformed, isMoved}
-use Rattle.format.proofs.Calls.{refused-untouched}
+use Rattle.format.specs.Batch.{Batch, callsIn, rowsLeft, answersLeft, stateLeft, due, rowsOn, laidOut, batchOf, batchAnswer, isMoved}
+use Rattle.format.proofs.Batch.{three}
+use Rattle.format.proofs.Unmoved.{none-long, state-kept, rows-kept}
 use Rattle.format.proofs.Refusals.{refused-exactly}
 use Rattle.images.specs.Outcome.{Outcome, row-refused, state-refused, operator-refused, performs}
-use Rattle.images.proofs.Outcomes.{image-outcome}
+use Rattle.images.proofs.Outcomes.{image-outcome, row-long}
 use Rattle.images.proofs.Processes.{encode-opens}
 use Rattle.images.proofs.Places.{image-place, cycle-place, cycle-count}
 use Rattle.theorems.specs.Compile.{written, compileOf}
@@ -152,10 +153,6 @@ batch-narrow image h s n is os ns x e = narrowed (λ (t : Told (Unit {0})). numb
     on (refusal q k) f = let l = turned-place image h s n is os ns q k (turned-there image h s n is os ns q k f) in refused-narrow q k (omega arith)
 
 -- ONE ROW AFTER ANOTHER
-none-long : {A : Type 0} (l : List A) → length l ≡ 0 → l ≡ []
-none-long [] e = refl
-none-long (x ∷ l) e = absurd (omega arith)
-
 -- the three numbers of a row
 numbers-are : (a : Answer) → numbersOf (cycleAnswer a) ≡ answerInC a
 numbers-are (performed way) = refl
@@ -184,12 +181,6 @@ module _ (image : List ℕ) (t : Table) (e : openOf image ≡ opened t) where
 
 -- LENGTHS AND SIZES
 module _ (image : List ℕ) (h : Bytes image) (t : Table) (e : openOf image ≡ opened t) where
-  outcome-long : (s : State) (i o : List ℤ) (r : Called) → Outcome t s i o r → length (r .row) ≡ length o
-  outcome-long s i o _ (row-refused x m) = refl
-  outcome-long s i o _ (state-refused m b) = refl
-  outcome-long s i o _ (operator-refused x m b l y) = refl
-  outcome-long s i o _ (performs p τ m b y w v n l) = l
-
   outcome-number : (s : State) (i o : List ℤ) (r : Called) → Outcome t s i o r → (q k : ℕ) → r .answer ≡ not-performed q k → q ≤ 16
   outcome-number s i o _ (row-refused x m) q k f = let z : q ≡ 14 = cc in omega arith
   outcome-number s i o _ (state-refused m b) q k f = let z : q ≡ 15 = cc in omega arith
@@ -203,7 +194,7 @@ module _ (image : List ℕ) (h : Bytes image) (t : Table) (e : openOf image ≡ 
       let r = cycleOf image s (take i is) (take o os) in
       let rs = callsOf image (r .state) (callsIn n i o (drop i is) (drop o os)) in
       let a = length-append (r .row) (rowsLeft rs) in
-      let b = outcome-long s (take i is) (take o os) r (image-outcome image t h e s (take i is) (take o os)) in
+      let b = row-long image h s (take i is) (take o os) in
       let c = length-take-le o os (omega arith) in
       let f = length-drop o os in
       let g = rows-long n i o (r .state) (drop i is) (drop o os) (omega arith) in
@@ -216,12 +207,9 @@ module _ (image : List ℕ) (h : Bytes image) (t : Table) (e : openOf image ≡ 
       let r = cycleOf image s (take i is) (take o os) in
       let rs = callsOf image (r .state) (callsIn n i o (drop i is) (drop o os)) in
       let g = answers-long n i o (r .state) (drop i is) (drop o os) in
-      let a = ap (λ (l : List ℕ). length (l ++ answersLeft rs)) (numbers-are (r .answer)) ∙ three (r .answer) (answersLeft rs) in
+      let a = length-append (numbersOf (cycleAnswer (r .answer))) (answersLeft rs) in
+      let b = three (cycleAnswer (r .answer)) in
       omega arith
-    where
-      three : (a : Answer) (l : List ℕ) → length (answerInC a ++ l) ≡ suc (suc (suc (length l)))
-      three (performed way) l = refl
-      three (not-performed q k) l = refl
 
   numbers-small : (a : Answer) → ((way : List ℕ) → a ≡ performed way → length way ≤ 512) → ((q k : ℕ) → a ≡ not-performed q k → q ≤ 16) → ((q k : ℕ) → a ≡ not-performed q k → k ≤ 512)
       → (l : List ℕ) → ((k : ℕ) → getD l k 0 ≤ 512) → (k : ℕ) → getD (numbersOf (cycleAnswer a) ++ l) k 0 ≤ 512
@@ -242,32 +230,6 @@ module _ (image : List ℕ) (h : Bytes image) (t : Table) (e : openOf image ≡ 
       numbers-small (r .answer) (cycle-count image h s (c .inputs) (c .outputs))
       (outcome-number s (c .inputs) (c .outputs) r (image-outcome image t h e s (c .inputs) (c .outputs)))
       (cycle-place image h s (c .inputs) (c .outputs)) (answersLeft (callsOf image (r .state) cs)) (answers-small (r .state) cs) k
-
--- WHERE NO ROW WAS PERFORMED
-not-done : (a : Answer) (b : Bool) → (isDone (cycleAnswer a) || b) ≡ false → ((q k : ℕ) × (a ≡ not-performed q k)) × (b ≡ false)
-not-done (performed way) b e = absurd (false-true (sym e))
-not-done (not-performed q k) b e = ((q, k, refl), e)
-
-module _ (image : List ℕ) where
-  pub state-kept : (s : State) (cs : List Call) → onePerformed (callsOf image s cs) ≡ false → stateLeft s (callsOf image s cs) ≡ s
-  unfolding callsOf onePerformed stateLeft
-  state-kept s [] e = refl
-  state-kept s (c ∷ cs) e =
-      let r = cycleOf image s (c .inputs) (c .outputs) in
-      let n = not-done (r .answer) (onePerformed (callsOf image (r .state) cs)) e in
-      state-kept (r .state) cs (n .1) ∙ refused-untouched s (c .outputs) image (c .inputs) (n .0 .0) (n .0 .1) (n .0 .2) .0
-
-  rows-kept : (n i o : ℕ) (s : State) (is os : List ℤ) → length os ≡ n * o → onePerformed (callsOf image s (callsIn n i o is os)) ≡ false
-      → rowsLeft (callsOf image s (callsIn n i o is os)) ≡ os
-  unfolding callsIn callsOf onePerformed rowsLeft
-  rows-kept zero i o s is os d e = sym (none-long os (omega arith))
-  rows-kept (suc n) i o s is os d e =
-      let r = cycleOf image s (take i is) (take o os) in
-      let x = not-done (r .answer) (onePerformed (callsOf image (r .state) (callsIn n i o (drop i is) (drop o os)))) e in
-      let f = length-drop o os in
-      let a : r .row ≡ take o os = refused-untouched s (take o os) image (take i is) (x .0 .0) (x .0 .1) (x .0 .2) .1 in
-      let b = rows-kept n i o (r .state) (drop i is) (drop o os) (omega arith) (x .1) in
-      ap (λ (l : List ℤ). l ++ rowsLeft (callsOf image (r .state) (callsIn n i o (drop i is) (drop o os)))) a ∙ (ap (λ (l : List ℤ). take o os ++ l) b ∙ take-append-drop o os)
 
 -- THE THEOREM
 pub batched : (image : List ℕ) → Bytes image → (s : State) (n : ℕ) (is os : List ℤ) (ns : List ℕ) → Batched image s n is os ns

@@ -19,6 +19,7 @@ use Rattle.format.specs.Opening.{opened, openOf}
 use Rattle.format.specs.Cycle.{cycleOf, callsOf}
 use Rattle.format.specs.Encode.{tableOf}
 use Rattle.format.specs.Batch.{Batch, callsIn, rowsLeft, answersLeft, stateLeft, batchOf, onePerformed, isMoved}
+use Rattle.format.proofs.Unmoved.{state-kept}
 use Rattle.images.specs.Outcome.{Outcome, row-refused, state-refused, operator-refused, performs}
 use Rattle.images.proofs.Outcomes.{image-outcome}
 use Rattle.theorems.specs.Compile.{compileOf}
@@ -26,7 +27,7 @@ use Rattle.theorems.specs.CInterface.{stateOfC, cOfState, cycledSlots, c
 use Rattle.theorems.specs.Promises.{doneNumbers}
 use Rattle.theorems.specs.Batch.{DueTo, slotsAfter, rowsAfter, answersAfter, endToEndInC, BatchInC, BatchOfTextInC}
 use Rattle.theorems.proofs.CInterface.{back, wait-whole, wrote-in-c, wrote-bytes, calls-in-c}
-use Rattle.theorems.proofs.Batch.{batch-cases, batch-taken, state-kept, turned-back, text-opens, text-due, text-calls}
+use Rattle.theorems.proofs.Batch.{batch-cases, batch-taken, turned-back, text-opens, text-due, text-calls}
 
 -- THE 49 NUMBERS AFTER THE ROWS: stored where a row was performed, else as they came
 module _ (image : List ℕ) where

@@ -1,5 +1,4 @@
 -- `batch::due` meets its contract, by quotient and remainder. Assumes nothing.
-use native.Mathlib.Omega.{arith}
 use borrow.Author.Needs.{needs}
 use Rattle.batch.proofs.DueLaws.{due-none, due-rest, due-whole}
 use Rattle.batch.proofs.due.Statement.{statement}
