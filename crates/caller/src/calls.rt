@@ -1,8 +1,15 @@
 // The operations that take the caller's own state record by `&mut`, one function for each: a record is lent to the operation, and stands beside its answer
 // as the operation has left it.
 use answers::Advanced;
+use answers::Batched;
 use answers::FreshState;
 use answers::State;
+
+// The answer to many rows, and the state after them.
+pub(crate) struct AfterRows {
+    pub(crate) state: State,
+    pub(crate) answer: Batched,
+}
 
 // The fresh state of an image.
 pub(crate) fn fresh(image: &[u8], s: State) -> FreshState {
@@ -29,6 +36,23 @@ pub(crate) fn cycle(image: &[u8], s: State, inputs: &[i32], row: &mut [i32]) -> 
     let mut state = s;
     let answer = entry::cycle(image, &mut state, inputs, row);
     Advanced {
+        state: state,
+        answer: answer,
+    }
+}
+
+// Many rows on an image.
+pub(crate) fn rows(
+    image: &[u8],
+    s: State,
+    count: usize,
+    inputs: &[i32],
+    outputs: &mut [i32],
+    answers: &mut [u32],
+) -> AfterRows {
+    let mut state = s;
+    let answer = batch::advance_rows(image, &mut state, count, inputs, outputs, answers);
+    AfterRows {
         state: state,
         answer: answer,
     }

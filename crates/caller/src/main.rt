@@ -1,10 +1,11 @@
-// Every public function of the crate entry, called in the forms that document 01 names: the state record by `&mut`, the opened image with its accessors, the
-// token as a part of the text. The first text is 16385 blanks; each line of a file that an argument names is one more.
+// Every public function of the crate entry, and many rows in one call, in the forms that documents 01 and 02 name: the state record by `&mut`, the opened image
+// with its accessors, the token as a part of the text. The first text is 16385 blanks; each line of a file that an argument names is one more.
 // Of a text are printed the answer of `compile`, whether the buffer still holds 165 where nothing is written, and the tokens. Of a refused one: the token at the
 // refusal's place, and the direct calls. Of an accepted one: a compile into a byte less than it needs; the image opened, with its sections; the calls on the
-// text, then on the image; and the image with a byte changed, cut or empty, opened and called.
-// `fresh` and `cycle` tell the answer and the record that the call leaves. Before `fresh` the record has place 7, 3 in output slot 15 and -5 in variable slot 31;
-// an output row holds 99 before a call.
+// text, then on the image; its rows in one call from the fresh state, and the same with a count that they are too few for; and the image with a byte changed,
+// cut or empty, opened and called.
+// `fresh`, `cycle` and `rows` tell the answer and the record that the call leaves. Before `fresh` the record has place 7, 3 in output slot 15 and -5 in variable slot 31;
+// an output row, and the answers of many rows, hold 99 before a call.
 ghost use Prim.Native.Nat.{_≤_};
 ghost use lib.ListN.{length};
 use answers::Compiled;
@@ -14,6 +15,7 @@ use libc::STDOUT_FILENO;
 use rows::Rows;
 use words::byte;
 
+mod batches;
 mod calls;
 mod opened;
 mod print;
@@ -149,6 +151,7 @@ fn run_image(image: &[u8]) {
     let rows = rows_of(image, true);
     print::words(b" image\n");
     rows::run(image, rows);
+    batches::run(image, rows, fresh_state(image));
     opened::damaged(image, rows, fresh_state(image));
 }
 

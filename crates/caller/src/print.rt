@@ -1,4 +1,5 @@
 // What is printed of numbers, bytes, answers, rows and states.
+use answers::Batched;
 use answers::Cycled;
 use answers::Refusal;
 use answers::Started;
@@ -56,6 +57,26 @@ pub(crate) fn cycled(answer: Cycled) {
     match answer {
         Cycled::Performed(n) => number(n),
         Cycled::NotPerformed(r) => refusal(r),
+    }
+}
+
+pub(crate) fn batched(answer: Batched) {
+    if let Batched::NotTaken(r) = answer {
+        refusal(r);
+    }
+}
+
+fn word(n: u32) {
+    number(n as usize);
+}
+
+// The three numbers of each row.
+pub(crate) fn answers_of(numbers: &[u32]) {
+    io::write_all(STDOUT_FILENO, b" answers");
+    let mut k = 0;
+    while k < numbers.len() {
+        word(numbers[k]);
+        k += 1;
     }
 }
 

@@ -13,10 +13,10 @@ pub(crate) struct Rows {
 }
 
 // How many rows are run.
-const COUNT: usize = 8;
+pub(crate) const COUNT: usize = 8;
 
 // The value of all inputs in a row.
-fn value(k: usize) -> i32 {
+pub(crate) fn value(k: usize) -> i32 {
     let values = [1i32, 0, 7, 7, -5, 1, -2147483648, -5];
     if k < COUNT {
         return values[k];
@@ -38,7 +38,7 @@ pub(crate) fn marked() -> State {
 }
 
 // The first n values, or all where there are fewer.
-fn first_values<'a>(s: &'a [i32], n: usize) -> &'a [i32] {
+pub(crate) fn first_values<'a>(s: &'a [i32], n: usize) -> &'a [i32] {
     if s.len() < n {
         return s;
     }

@@ -1,5 +1,6 @@
-//! What the test program `caller`, which calls every public function of the crate entry, must print
-//! for the texts of its file: the answers of this implementation, in the program's own words.
+//! What the test program `caller`, which calls every public function of the crate entry and many rows
+//! in one call, must print for the texts of its file: the answers of this implementation, in the
+//! program's own words.
 
 use std::fmt::Write;
 
@@ -68,6 +69,7 @@ fn text_answers(out: &mut String, number: usize, text: &[u8]) {
     calls(text, false).run(out);
     out.push_str(" image\n");
     calls(image, true).run(out);
+    calls(image, true).batches(out);
     damaged(out, image, |bytes| calls(bytes, true));
 }
 
@@ -167,6 +169,20 @@ fn marked() -> State {
     state
 }
 
+/// What a call with many rows leaves: answers, outputs and state.
+fn batched(out: &mut String, answers: &[u32], outputs: &[i32], state: &State) {
+    out.push_str(" answers");
+    for number in answers {
+        write!(out, " {number}").expect("written");
+    }
+    out.push_str(" row");
+    for value in outputs {
+        write!(out, " {value}").expect("written");
+    }
+    print_state(out, state);
+    out.push('\n');
+}
+
 /// Calls on an image or on a text, with so many inputs and outputs in a row.
 struct Calls<'a> {
     bytes: &'a [u8],
@@ -210,6 +226,29 @@ impl Calls<'_> {
         let after = self.row(out, state, value);
         out.push('\n');
         after
+    }
+
+    /// The rows in one call from the fresh state: the same rows given singly, laid end to end. Then a
+    /// count of one more, for which they are too few: 17.
+    fn batches(&self, out: &mut String) {
+        let mut fresh = marked();
+        (REFERENCE.fresh)(self.bytes, &mut fresh);
+        let mut state = fresh;
+        let mut answers = Vec::new();
+        let mut rows = Vec::new();
+        for value in VALUES {
+            let mut row = vec![WORD; self.outputs];
+            let inputs = vec![value; self.inputs];
+            answers.extend((REFERENCE.cycle)(self.bytes, &mut state, &inputs, &mut row));
+            rows.extend(row);
+        }
+        write!(out, " rows {}", VALUES.len()).expect("written");
+        batched(out, &answers, &rows, &state);
+        write!(out, " rows {}", VALUES.len() + 1).expect("written");
+        refused(out, [17, 0, 0]);
+        answers.fill(WORD as u32);
+        rows.fill(WORD);
+        batched(out, &answers, &rows, &fresh);
     }
 
     /// The rows, then rows of wrong lengths, then states that are changed.
