@@ -1,5 +1,5 @@
 // The calls on texts and images. Those that advance the caller's own state record store the new state only where the call was done; the cycle on an
-// image is `runtime::advance_state`.
+// image is `runtime::advance_state`, many rows in one call `batch::advance_rows`.
 ghost use mathlib.Core.Path.{_≡_};
 ghost use Rattle.answers.specs.Answers.{cycleTold, freshTold};
 ghost use Rattle.format.specs.State.{freshOf};
