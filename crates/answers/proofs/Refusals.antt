@@ -1,13 +1,13 @@
 -- Number and place tell a refusal: a row of the table at a place that it can have is one refusal, and nothing else is any. Assumes nothing.
 use mathlib.Core.Path.{_≡_, refl, sym, subst, _∙_}
-use mathlib.Core.Logic.{_↔_}
+use mathlib.Core.Logic.{_↔_, _⊎_, inl, inr}
 use mathlib.Core.Option.{Option, none, some}
 use mathlib.Core.List.{List, [], _∷_}
 use Prim.Native.Nat.{ℕ, zero, suc, _+_}
 use native.Mathlib.Omega.{arith}
 use Rattle.answers.specs.declared.Refusal.{Refusal}
-use Rattle.answers.specs.declared.Refusal.the-variants.{TextTooLong, NoToken, NoSentence, LimitPassed, WrongName, WrongType, NoValue, WrongClock, WrongClass, BufferTooShort, BadSections, BadSignature, BadLine, BadRow, BadState, OutOfRange, BadLengths}
-use Rattle.answers.specs.Answers.{numberOf, placeOf, Told, refusal, refusedBy}
+use Rattle.answers.specs.declared.Refusal.the-variants.{TextTooLong, NoToken, NoSentence, LimitPassed, WrongName, WrongType, NoValue, WrongClock, WrongClass, BufferTooShort, BadSections, BadSignature, BadLine, BadRow, BadState, OutOfRange, BadLengths, ZeroDivisor}
+use Rattle.answers.specs.Answers.{numberOf, placeOf, operatorRefusal, Told, refusal, refusedBy}
 
 -- a row of the table: the refusal at a place, or none where the row has not that place
 abbrev Row : Type 0
@@ -27,7 +27,7 @@ abbrev table : List Row
 table =
     at-0 TextTooLong ∷ at NoToken ∷ at NoSentence ∷ at LimitPassed ∷ at WrongName ∷ at WrongType ∷ at NoValue ∷ at WrongClock ∷ at WrongClass
     ∷ at BufferTooShort ∷ at-0 BadSections ∷ at-0 BadSignature ∷ at BadLine ∷ at BadRow ∷ at-0 BadState ∷ at OutOfRange ∷ at-0 BadLengths
-    ∷ []
+    ∷ at ZeroDivisor ∷ []
 
 -- the refusal at a place in the row with that index
 rowAt : List Row → ℕ → ℕ → Option Refusal
@@ -97,7 +97,10 @@ table-tells = (
                             placed BadRow 14 (λ p. (refl, refl)),
                             (
                               fixed BadState 15 (refl, refl),
-                              (placed OutOfRange 16 (λ p. (refl, refl)), (fixed BadLengths 17 (refl, refl), tt)),
+                              (
+                                placed OutOfRange 16 (λ p. (refl, refl)),
+                                (fixed BadLengths 17 (refl, refl), (placed ZeroDivisor 18 (λ p. (refl, refl)), tt)),
+                              ),
                             ),
                           ),
                         ),
@@ -145,6 +148,7 @@ tells-for (BadRow p) = refl
 tells-for BadState = refl
 tells-for (OutOfRange p) = refl
 tells-for BadLengths = refl
+tells-for (ZeroDivisor p) = refl
 
 -- THE LAW: the refusal for a number and a place has this number and this place, and is the only one
 pub told-exactly : (q k : ℕ) (r : Refusal) → (refusalFor q k ≡ some r) ↔ ((numberOf r ≡ q) × (placeOf r ≡ k))
@@ -157,3 +161,8 @@ one-refusal r s e f = let z : some r ≡ some s = sym (told-exactly _ _ r .1 (e,
 -- a refusal told by one operation is told alike by another
 pub told-again : {A B : Type 0} (r : Refusal) (q k : ℕ) → _≡_ {A = Told A} (refusedBy r) (refusal q k) → _≡_ {A = Told B} (refusedBy r) (refusal q k)
 told-again r q k e = let y : numberOf r ≡ q = cc in let z : placeOf r ≡ k = cc in rw (y, z)
+
+-- an operator's number is told as itself, at its line
+pub operator-told : {A : Type 0} (q n : ℕ) → (q ≡ 16) ⊎ (q ≡ 18) → _≡_ {A = Told A} (refusedBy (operatorRefusal q n)) (refusal q n)
+operator-told q n (inl e) = rw e refl
+operator-told q n (inr e) = rw e refl

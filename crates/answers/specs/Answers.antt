@@ -1,8 +1,9 @@
 -- Document 01's number, place and values for each case of an answer: what every contract says of an answer, it says through these. Assumes nothing.
-use mathlib.Core.Bool.{Bool, true, false}
+use mathlib.Core.Bool.{Bool, true, false, cond}
 use Prim.Native.Nat.{ℕ}
+use lib.Dec.{eqb}
 use Rattle.answers.specs.declared.Refusal.{Refusal}
-use Rattle.answers.specs.declared.Refusal.the-variants.{TextTooLong, NoToken, NoSentence, LimitPassed, WrongName, WrongType, NoValue, WrongClock, WrongClass, BufferTooShort, BadSections, BadSignature, BadLine, BadRow, BadState, OutOfRange, BadLengths}
+use Rattle.answers.specs.declared.Refusal.the-variants.{TextTooLong, NoToken, NoSentence, LimitPassed, WrongName, WrongType, NoValue, WrongClock, WrongClass, BufferTooShort, BadSections, BadSignature, BadLine, BadRow, BadState, OutOfRange, BadLengths, ZeroDivisor}
 use Rattle.answers.specs.declared.Compiled.{Compiled}
 use Rattle.answers.specs.declared.Compiled.the-variants.{Written, NotCompiled}
 use Rattle.answers.specs.declared.Sections.{Sections}
@@ -34,6 +35,7 @@ numberOf (BadRow p) = 14
 numberOf BadState = 15
 numberOf (OutOfRange p) = 16
 numberOf BadLengths = 17
+numberOf (ZeroDivisor p) = 18
 
 -- the column "Place"
 abbrev pub placeOf : Refusal → ℕ
@@ -54,6 +56,11 @@ placeOf (BadRow p) = p
 placeOf BadState = 0
 placeOf (OutOfRange p) = p
 placeOf BadLengths = 0
+placeOf (ZeroDivisor p) = p
+
+-- the row of an operator refused on a line: 18 or 16, the two numbers an operator is refused by (`operator-told`)
+abbrev pub operatorRefusal : (number line : ℕ) → Refusal
+operatorRefusal number line = cond (eqb number 18) (ZeroDivisor line) (OutOfRange line)
 
 -- an answer in document 01's terms: done, with what is counted or lent; or turned back, by the number and the place of a row of the table
 pub data Told (A : Type 0) : Type 0 where

@@ -2,7 +2,7 @@
 pub mod numbers;
 
 ghost use mathlib.Core.Path.{_≡_};
-ghost use Rattle.answers.specs.Answers.{numberOf, placeOf, isPerformed, isFresh};
+ghost use Rattle.answers.specs.Answers.{numberOf, placeOf, operatorRefusal, isPerformed, isFresh};
 ghost use Rattle.answers.specs.declared.Cycled.the-variants.{NotPerformed};
 
 // "A place (512 for the beginning, else a wait's line), 16 output and 32 variable slots".
@@ -13,7 +13,7 @@ pub struct State {
 }
 
 // Why a call was turned back: a variant for each row of the table, in its order, with the refusal's place where that is not always 0.
-// Later requests add their rows (18 to 24) at the end.
+// Later requests add their rows (19 to 24) at the end.
 pub enum Refusal {
     TextTooLong,
     NoToken(usize),
@@ -32,6 +32,7 @@ pub enum Refusal {
     BadState,
     OutOfRange(usize),
     BadLengths,
+    ZeroDivisor(usize),
 }
 
 // Where the sections of an opened image start, and where the last ends: signature, lines, code.
@@ -82,6 +83,16 @@ pub struct Advanced {
 pub struct FreshState {
     pub state: State,
     pub answer: Started,
+}
+
+// The refusal of an operator on a line, by its number: 18 for a zero divisor, else 16.
+pub fn operator_refusal(number: u8, line: usize) -> Refusal
+    ensures { λ r. ⌜ r ≡ operatorRefusal number line ⌝ }
+{
+    if number == 18 {
+        return Refusal::ZeroDivisor(line);
+    }
+    Refusal::OutOfRange(line)
 }
 
 // A refused cycle: the state as it came.
@@ -136,6 +147,7 @@ pub fn number(r: Refusal) -> u32
         Refusal::BadState => 15,
         Refusal::OutOfRange(_) => 16,
         Refusal::BadLengths => 17,
+        Refusal::ZeroDivisor(_) => 18,
     }
 }
 
@@ -161,5 +173,6 @@ pub fn place(r: Refusal) -> usize
         Refusal::BadState => 0,
         Refusal::OutOfRange(p) => p,
         Refusal::BadLengths => 0,
+        Refusal::ZeroDivisor(p) => p,
     }
 }

@@ -17,9 +17,9 @@ pub data Leaf : Type 0 where
 pub data Unary : Type 0 where
   sign invert : Unary
 
--- + - = /= < <= > >= and or xor
+-- + - = /= < <= > >= and or xor; * / mod rem
 pub data Binary : Type 0 where
-  plus minus equal unequal less at-most greater at-least and or xor : Binary
+  plus minus equal unequal less at-most greater at-least and or xor times divide modulo remainder : Binary
 
 -- an operator stands with the type of its operands; the left operand comes first
 pub data Expr : Type 0 where
@@ -74,6 +74,10 @@ binaryType at-least t = orderType t
 binaryType and t = logicalType t
 binaryType or t = logicalType t
 binaryType xor t = logicalType t
+binaryType times t = sumType t
+binaryType divide t = sumType t
+binaryType modulo t = sumType t
+binaryType remainder t = sumType t
 
 -- Recursion over an expression: what an algebra makes of the leaves and, left operand first, of the operators. A fault is a refusal's number.
 pub data Out (X : Type 0) : Type 0 where

@@ -10,7 +10,7 @@ use lib.Seq.{sets}
 use lib.Dec.{eqb, ltb}
 use lib.IntN.{ℤ, pos}
 use Rattle.design.specs.Types.{Ty, ExprTy}
-use Rattle.design.specs.Expression.{Leaf, int, bit, input, variable, Unary, sign, invert, Binary, plus, minus, equal, unequal, less, at-most, greater, at-least, and, or, xor, Expr, leaf, unary, binary, leafType, unaryType, binaryType, typeOf}
+use Rattle.design.specs.Expression.{Leaf, int, bit, input, variable, Unary, sign, invert, Binary, plus, minus, equal, unequal, less, at-most, greater, at-least, and, or, xor, times, divide, modulo, remainder, Expr, leaf, unary, binary, leafType, unaryType, binaryType, typeOf}
 use Rattle.design.proofs.Postfix.{Steps, lay-whole}
 use Rattle.semantics.specs.Twos.{unsigned32}
 use Rattle.format.specs.Words as Words
@@ -83,6 +83,10 @@ binary-flat at-least = refl
 binary-flat and = refl
 binary-flat or = refl
 binary-flat xor = refl
+binary-flat times = refl
+binary-flat divide = refl
+binary-flat modulo = refl
+binary-flat remainder = refl
 
 module _ (is vs : List Ty) (hi : length is ≤ 256) (hv : length vs ≤ 256) where
   leaf-flat : (l : Leaf) (t : ExprTy) → leafType is vs l ≡ some t → flatBytes (leafOp l ∷ []) ≡ operationBytes (push l ∷ [])

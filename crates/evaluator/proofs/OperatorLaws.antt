@@ -6,16 +6,16 @@ use mathlib.Core.Bool.{Bool, true, false, cond}
 use mathlib.Core.Option.{Option, none, some, Option·map}
 use mathlib.Core.List.{List, [], _∷_}
 use native.Mathlib.Omega.{arith}
-use borrow.Author.Tests.{eqb-true, ne-eqb}
+use borrow.Author.Tests.{eqb-true, eqb-false, ne-eqb}
 use lib.ListN.{getD}
 use lib.IntN.{ℤ}
 use lib.Dec.{eqb}
 use Rattle.design.specs.Types.{std-logic, integer, ExprTy, plain, boolean, sameTy, sameType}
-use Rattle.design.specs.Expression.{Unary, sign, invert, Binary, plus, minus, equal, unequal, less, at-most, greater, at-least, and, or, xor}
+use Rattle.design.specs.Expression.{Unary, sign, invert, Binary, plus, minus, equal, unequal, less, at-most, greater, at-least, and, or, xor, times, divide, modulo, remainder}
 use Rattle.design.specs.Expression.{Out, fine, fault, bind, sumType, orderType, equalityType, logicalType, unaryType, binaryType}
 use Rattle.semantics.specs.Evaluation.{applyBinary}
 use Rattle.format.specs.Code.{Operation, apply1, apply2, unaryByte, binaryByte, operator, withType}
-use Rattle.signed.specs.Signed.{checkedOf}
+use Rattle.signed.specs.Signed.{checkedOf, scaling, scaledOf}
 use Rattle.evaluator.specs.Position.{nextOf, fetchAt}
 use Rattle.evaluator.specs.Value.{Cell, machineFor, evaluatedOf, typeOfTag}
 use Rattle.evaluator.specs.Operators.{operators, unaryOf, binaryOf, logicalOf, taggedAs, integerOf, unaryNext, binaryNext}
@@ -36,7 +36,8 @@ operator-cases P k n f g =
     pick P k 16 (f sign) (pick P k 17 (f invert)
     (pick P k 18 (g plus) (pick P k 19 (g minus) (pick P k 20 (g equal) (pick P k 21 (g unequal)
     (pick P k 22 (g less) (pick P k 23 (g at-most) (pick P k 24 (g greater) (pick P k 25 (g at-least)
-    (pick P k 26 (g and) (pick P k 27 (g or) (pick P k 28 (g xor) n))))))))))))
+    (pick P k 26 (g and) (pick P k 27 (g or) (pick P k 28 (g xor)
+    (pick P k 29 (g times) (pick P k 30 (g divide) (pick P k 31 (g modulo) (pick P k 32 (g remainder) n))))))))))))))))
 
 unary-byte : (o : Unary) → operator (unaryByte o) ≡ some (apply1 o)
 unary-byte sign = refl
@@ -54,6 +55,10 @@ binary-byte at-least = refl
 binary-byte and = refl
 binary-byte or = refl
 binary-byte xor = refl
+binary-byte times = refl
+binary-byte divide = refl
+binary-byte modulo = refl
+binary-byte remainder = refl
 
 -- an arm of the code at an operator's byte
 pub unary-arm : (o : Unary) (k : ℕ) (x : Cell) {r : Evaluated}
@@ -74,12 +79,13 @@ unfolding withType bind
 integer-checked (fine z) = refl
 integer-checked (fault q) = refl
 
--- Integers take + - and the comparisons: no other byte.
-pub integers-other : (k : ℕ) (x y : ℤ)
+-- Integers take + - and the comparisons, and * / mod rem: no other byte.
+integers-none : (k : ℕ) (x y : ℤ)
     → (k ≡ 18 → ⊥) → (k ≡ 19 → ⊥) → (k ≡ 20 → ⊥) → (k ≡ 21 → ⊥) → (k ≡ 22 → ⊥) → (k ≡ 23 → ⊥) → (k ≡ 24 → ⊥) → (k ≡ 25 → ⊥)
+    → (k ≡ 29 → ⊥) → (k ≡ 30 → ⊥) → (k ≡ 31 → ⊥) → (k ≡ 32 → ⊥)
     → Fault 13 ≡ evaluatedOf (binaryOf (operator k) (plain integer, x) (plain integer, y))
 unfolding sameType sameTy withType binaryType logicalType
-integers-other k x y a b c d e f g h = operator-cases (λ o. Fault 13 ≡ evaluatedOf (binaryOf o (plain integer, x) (plain integer, y))) k refl (λ o q. refl) two
+integers-none k x y a b c d e f g h l m n o′ = operator-cases (λ o. Fault 13 ≡ evaluatedOf (binaryOf o (plain integer, x) (plain integer, y))) k refl (λ o q. refl) two
   where
     two : (o : Binary) → k ≡ binaryByte o → Fault 13 ≡ evaluatedOf (binaryOf (some (apply2 o)) (plain integer, x) (plain integer, y))
     two plus q = absurd (a q)
@@ -93,6 +99,51 @@ integers-other k x y a b c d e f g h = operator-cases (λ o. Fault 13 ≡ evalua
     two and q = refl
     two or q = refl
     two xor q = refl
+    two times q = absurd (l q)
+    two divide q = absurd (m q)
+    two modulo q = absurd (n q)
+    two remainder q = absurd (o′ q)
+
+scaling-none : (k : ℕ) → (k ≡ 29 → ⊥) → (k ≡ 30 → ⊥) → (k ≡ 31 → ⊥) → (k ≡ 32 → ⊥) → scaling k ≡ none
+scaling-none k l m n o = rw (ne-eqb k 29 l, ne-eqb k 30 m, ne-eqb k 31 n, ne-eqb k 32 o)
+
+scaled-arm : (o : Binary) (x y : ℤ) → binaryType o (plain integer) ≡ some (plain integer)
+    → applyBinary o boolean x y ≡ applyBinary o (plain integer) x y
+    → integerOf (checkedOf (applyBinary o boolean x y)) ≡ evaluatedOf (operators .ofBinary o (plain integer, x) (plain integer, y))
+unfolding sameType sameTy
+scaled-arm o x y t e = rw t (ap (λ (z : Out ℤ). integerOf (checkedOf z)) e ∙ integer-checked (applyBinary o (plain integer) x y))
+
+pub integers-other : (k : ℕ) (x y : ℤ)
+    → (k ≡ 18 → ⊥) → (k ≡ 19 → ⊥) → (k ≡ 20 → ⊥) → (k ≡ 21 → ⊥) → (k ≡ 22 → ⊥) → (k ≡ 23 → ⊥) → (k ≡ 24 → ⊥) → (k ≡ 25 → ⊥)
+    → integerOf (checkedOf (scaledOf (scaling k) x y)) ≡ evaluatedOf (binaryOf (operator k) (plain integer, x) (plain integer, y))
+unfolding binaryType sumType applyBinary
+integers-other k x y a b c d e f g h = by (eqb k 29) refl
+  where
+    Said : Type 0
+    Said = integerOf (checkedOf (scaledOf (scaling k) x y)) ≡ evaluatedOf (binaryOf (operator k) (plain integer, x) (plain integer, y))
+
+    at : (o : Binary) → k ≡ binaryByte o → scaling (binaryByte o) ≡ some o
+        → binaryType o (plain integer) ≡ some (plain integer) → applyBinary o boolean x y ≡ applyBinary o (plain integer) x y → Said
+    at o q s t u = rw (q, s, binary-byte o) (scaled-arm o x y t u)
+
+    rest : (k ≡ 29 → ⊥) → (k ≡ 30 → ⊥) → (k ≡ 31 → ⊥) → (k ≡ 32 → ⊥) → Said
+    rest l m n o′ = ap (λ (o : Option Binary). integerOf (checkedOf (scaledOf o x y))) (scaling-none k l m n o′) ∙ integers-none k x y a b c d e f g h l m n o′
+
+    by : (z : Bool) → eqb k 29 ≡ z → Said
+    by true q = at times (eqb-true k 29 q) refl refl refl
+    by false q = by2 (eqb k 30) refl
+      where
+        by2 : (z : Bool) → eqb k 30 ≡ z → Said
+        by2 true r = at divide (eqb-true k 30 r) refl refl refl
+        by2 false r = by3 (eqb k 31) refl
+          where
+            by3 : (z : Bool) → eqb k 31 ≡ z → Said
+            by3 true s = at modulo (eqb-true k 31 s) refl refl refl
+            by3 false s = by4 (eqb k 32) refl
+              where
+                by4 : (z : Bool) → eqb k 32 ≡ z → Said
+                by4 true t = at remainder (eqb-true k 32 t) refl refl refl
+                by4 false t = rest (eqb-false k 29 q) (eqb-false k 30 r) (eqb-false k 31 s) (eqb-false k 32 t)
 
 -- Truth values take and, or, xor: no other byte.
 pub logical-other : (k t : ℕ) (x y : ℤ) → (k ≡ 26 → ⊥) → (k ≡ 27 → ⊥) → (k ≡ 28 → ⊥) → Fault 13 ≡ taggedAs t (logicalOf (operator k) x y)
@@ -111,6 +162,10 @@ logical-other k t x y a b c = operator-cases (λ o. Fault 13 ≡ taggedAs t (log
     two and q = absurd (a q)
     two or q = absurd (b q)
     two xor q = absurd (c q)
+    two times q = refl
+    two divide q = refl
+    two modulo q = refl
+    two remainder q = refl
 
 -- Booleans are truth values of their type.
 pub booleans : (k : ℕ) (x y : ℤ) → taggedAs 255 (logicalOf (operator k) x y) ≡ evaluatedOf (binaryOf (operator k) (boolean, x) (boolean, y))
@@ -129,6 +184,10 @@ booleans k x y = operator-cases (λ o. taggedAs 255 (logicalOf o x y) ≡ evalua
     two and q = refl
     two or q = refl
     two xor q = refl
+    two times q = refl
+    two divide q = refl
+    two modulo q = refl
+    two remainder q = refl
 
 -- So are std_logics, but for = and /=.
 pub bits-other : (k : ℕ) (x y : ℤ) → (k ≡ 20 → ⊥) → (k ≡ 21 → ⊥)
@@ -150,6 +209,10 @@ bits-other k x y a b =
     two and q = refl
     two or q = refl
     two xor q = refl
+    two times q = refl
+    two divide q = refl
+    two modulo q = refl
+    two remainder q = refl
 
 -- Operands of two types: no operator takes them.
 pub types-differ : (k : ℕ) (t u : ExprTy) (x y : ℤ) → sameType t u ≡ false → Fault 13 ≡ evaluatedOf (binaryOf (operator k) (t, x) (u, y))
@@ -222,6 +285,10 @@ binary-high at-least = omega arith
 binary-high and = omega arith
 binary-high or = omega arith
 binary-high xor = omega arith
+binary-high times = omega arith
+binary-high divide = omega arith
+binary-high modulo = omega arith
+binary-high remainder = omega arith
 
 abbrev fetched : Option Operation → Option (Operation × ℕ)
 fetched o = Option·map (λ i. (i, 1)) o

@@ -60,7 +60,7 @@ fn integers(op: u8, x: i32, y: i32) -> Evaluated
         23 => logic(255, signed::at_most(x, y)),
         24 => logic(255, signed::less(y, x)),
         25 => logic(255, signed::at_most(y, x)),
-        _ => Evaluated::Fault(13),
+        _ => checked(signed::scaled(op, x, y)),
     }
 }
 

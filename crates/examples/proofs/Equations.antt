@@ -13,6 +13,7 @@ use Rattle.language.proofs.Computing.{computed}
 use Rattle.language.proofs.Examples.{stmts}
 use Rattle.language.proofs.ExamplesReadings.{tallyText, gcdText}
 use Rattle.semantics.specs.Evaluation as Evaluation
+use Rattle.semantics.specs.Division as Division
 use Rattle.semantics.specs.Equations as Equations
 use Rattle.semantics.specs.Equations.{beginning, at}
 use Rattle.semantics.specs.Rows.{Call, Kept, Outcome, performed, row-refused, operator-refused, rows}
@@ -28,7 +29,7 @@ rowsOf b cs = onVerdict (verdict b)
 
 -- opens all that rows compute by
 unfoldable pub opened : List ℕ → List Call → Option (List (Outcome × Kept))
-unfolding computed rowsOf Types.inRange Types.inType Expression.bind Expression.fold Statement.size Statement.has Evaluation.unaryResult Evaluation.binaryResult Evaluation.asInteger Evaluation.applyUnary Evaluation.applyBinary Evaluation.leafValue Evaluation.evaluate Equations.perform Equations.holds Equations.log Equations.then Equations.acted Equations.tested Equations.pick Equations.start Equations.resume Equations.enter Equations.cycle Rows.atFirst Rows.wrongValue Rows.rowRefusal Rows.concluded Rows.judged Rows.row Rows.rowsFrom Rows.rows
+unfolding computed rowsOf Types.inRange Types.inType Expression.bind Expression.fold Statement.size Statement.has Evaluation.unaryResult Evaluation.binaryResult Evaluation.asInteger Evaluation.applyUnary Evaluation.applyBinary Evaluation.leafValue Evaluation.evaluate Division.byNonzero Equations.perform Equations.holds Equations.log Equations.then Equations.acted Equations.tested Equations.pick Equations.start Equations.resume Equations.enter Equations.cycle Rows.atFirst Rows.wrongValue Rows.rowRefusal Rows.concluded Rows.judged Rows.row Rows.rowsFrom Rows.rows
 opened b cs = rowsOf b cs
 
 -- a row of inputs, with room for so many outputs
@@ -46,7 +47,7 @@ pub p1 : rowsOf tallyText (call 1 (pos 7 ∷ []) ∷ call 1 (pos 7 ∷ []) ∷ c
     (performed (pos 0 ∷ []) (0 ∷ 1 ∷ 2 ∷ []), kept 2 (pos 0 ∷ []) (pos 14 ∷ [])) ∷
     (performed (pos 14 ∷ []) (0 ∷ 3 ∷ 4 ∷ 5 ∷ []), kept 5 (pos 14 ∷ []) (pos 0 ∷ [])) ∷
     (performed (pos 14 ∷ []) (0 ∷ 1 ∷ 2 ∷ []), kept 2 (pos 14 ∷ []) (negsuc 4 ∷ [])) ∷
-    (operator-refused 1, kept 2 (pos 14 ∷ []) (negsuc 4 ∷ [])) ∷
+    (operator-refused 16 1, kept 2 (pos 14 ∷ []) (negsuc 4 ∷ [])) ∷
     (performed (pos 14 ∷ []) (0 ∷ 1 ∷ 2 ∷ []), kept 2 (pos 14 ∷ []) (pos 15 ∷ [])) ∷ [])
 unfolding opened
 p1 = refl
@@ -71,13 +72,13 @@ unfolding opened
 p8 = refl
 
 pub p8-negative : rowsOf (stmts "s := 3; u := -(-2147483647 - 1);") (row8 ∷ [])
-    ≡ some ((operator-refused 1, record { place = beginning; memory = record { outputs = pos 0 ∷ pos 0 ∷ []; variables = pos 0 ∷ pos 0 ∷ pos 1 ∷ [] } }) ∷ [])
+    ≡ some ((operator-refused 16 1, record { place = beginning; memory = record { outputs = pos 0 ∷ pos 0 ∷ []; variables = pos 0 ∷ pos 0 ∷ pos 1 ∷ [] } }) ∷ [])
 unfolding opened
 p8-negative = refl
 
 -- both operands are evaluated, left first, also of a chain that is already decided; an operator that is not reached refuses nothing
 pub both-evaluated : rowsOf (stmts "if d = 0 and 2147483647 + d > 0 then null; end if;") (row8 ∷ [])
-    ≡ some ((operator-refused 0, record { place = beginning; memory = record { outputs = pos 0 ∷ pos 0 ∷ []; variables = pos 0 ∷ pos 0 ∷ pos 1 ∷ [] } }) ∷ [])
+    ≡ some ((operator-refused 16 0, record { place = beginning; memory = record { outputs = pos 0 ∷ pos 0 ∷ []; variables = pos 0 ∷ pos 0 ∷ pos 1 ∷ [] } }) ∷ [])
 unfolding opened
 both-evaluated = refl
 
@@ -105,7 +106,7 @@ gcd-rows = refl
 abbrev refusedAt : Outcome → Option ℕ
 refusedAt (performed o w) = none
 refusedAt (row-refused p) = none
-refusedAt (operator-refused n) = some n
+refusedAt (operator-refused q n) = some n
 
 -- so many rows are performed, and then comes this refusal
 unfoldable pub performedThen : ℕ → List (Outcome × Kept) → Option (ℕ × ℕ)

@@ -7,7 +7,7 @@ use mathlib.Core.Option.{Option, some, Option·map, bind as andThen, none}
 use mathlib.Core.List.{List, [], _∷_, _++_, append-nil}
 use lib.ListN.{length, length-append}
 use Rattle.design.specs.Types.{inRange}
-use Rattle.design.specs.Expression.{Leaf, int, bit, input, variable, Unary, sign, invert, Binary, plus, minus, equal, unequal, less, at-most, greater, at-least, and, or, xor, Expr, leaf, unary, binary, items, Out, fine, fault, bind, Algebra, fold}
+use Rattle.design.specs.Expression.{Leaf, int, bit, input, variable, Unary, sign, invert, Binary, plus, minus, equal, unequal, less, at-most, greater, at-least, and, or, xor, times, divide, modulo, remainder, Expr, leaf, unary, binary, items, Out, fine, fault, bind, Algebra, fold}
 use Rattle.design.proofs.Postfix.{Lays, lay-items, stack-law}
 use Rattle.semantics.proofs.Basic.{none-some}
 use Rattle.format.specs.Code.{Operation, push, apply1, apply2, post, unaryByte, binaryByte, bitByte, first, others, operationBytes, code, Taken, readOperation, operations, Machine, onto, run, runOperations, runCode}
@@ -106,6 +106,10 @@ read-apply2 at-least s = refl
 read-apply2 and s = refl
 read-apply2 or s = refl
 read-apply2 xor s = refl
+read-apply2 times s = refl
+read-apply2 divide s = refl
+read-apply2 modulo s = refl
+read-apply2 remainder s = refl
 
 read-bit : (b : Bool) (s : List ℕ) → readOperation 2 (bitByte b ∷ s) ≡ some (push (bit b), s)
 read-bit true s = refl

@@ -10,7 +10,7 @@ use lib.ListN.{length}
 use lib.IntN.{ℤ}
 use lib.Dec.{eqb}
 use Rattle.design.specs.Types.{Ty, ExprTy, boolean, sameType, inRange}
-use Rattle.design.specs.Expression.{Leaf, int, bit, input, variable, Unary, sign, invert, Binary, plus, minus, equal, unequal, less, at-most, greater, at-least, and, or, xor, Expr, leaf, unary, binary, Out, fine, fault, bind, Algebra, fold, leafType, unaryType, binaryType, given, given2, typeOf}
+use Rattle.design.specs.Expression.{Leaf, int, bit, input, variable, Unary, sign, invert, Binary, plus, minus, equal, unequal, less, at-most, greater, at-least, and, or, xor, times, divide, modulo, remainder, Expr, leaf, unary, binary, Out, fine, fault, bind, Algebra, fold, leafType, unaryType, binaryType, given, given2, typeOf}
 use Rattle.design.proofs.Types.{sameType-eq, sameType-refl}
 use Rattle.design.proofs.Postfix.{Steps, lay-whole}
 use Rattle.semantics.specs.Evaluation.{applyUnary, applyBinary, values, evaluate}
@@ -113,6 +113,10 @@ binary-any at-least t x y = refl
 binary-any and t x y = refl
 binary-any or t x y = refl
 binary-any xor t x y = refl
+binary-any times t x y = refl
+binary-any divide t x y = refl
+binary-any modulo t x y = refl
+binary-any remainder t x y = refl
 
 fold-values : (i v : List ℤ) (e : Expr) → fold (untypedAlgebra (untyped (values i v))) e ≡ fold (values i v) e
 unfolding fold
@@ -208,7 +212,9 @@ operator-read k i e =
     (λ q e6. cond-case (eqb k 22) e6 (is-binary k 22 less i refl) (λ q e7. cond-case (eqb k 23) e7 (is-binary k 23 at-most i refl)
     (λ q e8. cond-case (eqb k 24) e8 (is-binary k 24 greater i refl) (λ q e9. cond-case (eqb k 25) e9 (is-binary k 25 at-least i refl)
     (λ q e10. cond-case (eqb k 26) e10 (is-binary k 26 and i refl) (λ q e11. cond-case (eqb k 27) e11 (is-binary k 27 or i refl)
-    (λ q e12. cond-case (eqb k 28) e12 (is-binary k 28 xor i refl) (λ q e13. none-some i e13)))))))))))))
+    (λ q e12. cond-case (eqb k 28) e12 (is-binary k 28 xor i refl)
+    (λ q e13. cond-case (eqb k 29) e13 (is-binary k 29 times i refl) (λ q e14. cond-case (eqb k 30) e14 (is-binary k 30 divide i refl)
+    (λ q e15. cond-case (eqb k 31) e15 (is-binary k 31 modulo i refl) (λ q e16. cond-case (eqb k 32) e16 (is-binary k 32 remainder i refl) (λ q e17. none-some i e17)))))))))))))))))
 
 read-byte : (k n : ℕ) (s : List ℕ) (p : Operation × List ℕ) → eqb k n ≡ true → Read n s (p .0) (p .1) → Read k s (p .0) (p .1)
 read-byte k n s p q b = rw (eqb-true k n q) b

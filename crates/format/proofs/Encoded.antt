@@ -7,7 +7,7 @@ use mathlib.Core.Option.{Option, none, some}
 use mathlib.Core.List.{List, [], _∷_, _++_, append-assoc}
 use lib.ListN.{length, length-map}
 use Rattle.design.specs.Types.{Ty, std-logic, integer, ExprTy}
-use Rattle.design.specs.Expression.{Leaf, int, bit, input, variable, Unary, sign, invert, Binary, plus, minus, equal, unequal, less, at-most, greater, at-least, and, or, xor, Expr, leaf, unary, binary, nth, plainly, leafType, unaryType, binaryType, typeOf}
+use Rattle.design.specs.Expression.{Leaf, int, bit, input, variable, Unary, sign, invert, Binary, plus, minus, equal, unequal, less, at-most, greater, at-least, and, or, xor, times, divide, modulo, remainder, Expr, leaf, unary, binary, nth, plainly, leafType, unaryType, binaryType, typeOf}
 use Rattle.design.proofs.Postfix.{Steps, lay-whole}
 use Rattle.design.specs.Statement.{output, variable as assign, null}
 use Rattle.design.specs.Process.{typedAct}
@@ -60,6 +60,10 @@ binary-small at-least = omega arith
 binary-small and = omega arith
 binary-small or = omega arith
 binary-small xor = omega arith
+binary-small times = omega arith
+binary-small divide = omega arith
+binary-small modulo = omega arith
+binary-small remainder = omega arith
 
 unary-bytes : (o : Unary) → Bytes (operationBytes (apply1 o ∷ []))
 unfolding operationBytes Bytes

@@ -6,7 +6,7 @@ use Prim.Native.Nat.{ℕ, zero, suc}
 use lib.ListN.{length}
 use lib.Dec.{eqb}
 use Rattle.design.specs.Types.{Ty, ExprTy, boolean, sameType}
-use Rattle.design.specs.Expression.{Leaf, int, bit, input, variable, Unary, sign, invert, Binary, plus, minus, equal, unequal, less, at-most, greater, at-least, and, or, xor, Expr, leaf, unary, binary, Out, fine, fault, bind, Algebra, leafType, unaryType, binaryType}
+use Rattle.design.specs.Expression.{Leaf, int, bit, input, variable, Unary, sign, invert, Binary, plus, minus, equal, unequal, less, at-most, greater, at-least, and, or, xor, times, divide, modulo, remainder, Expr, leaf, unary, binary, Out, fine, fault, bind, Algebra, leafType, unaryType, binaryType}
 use Rattle.format.specs.Words.{word4, bytes4}
 use Rattle.semantics.specs.Twos.{signed32, unsigned32}
 
@@ -40,6 +40,10 @@ binaryByte at-least = 25
 binaryByte and = 26
 binaryByte or = 27
 binaryByte xor = 28
+binaryByte times = 29
+binaryByte divide = 30
+binaryByte modulo = 31
+binaryByte remainder = 32
 
 -- '0' and '1'
 abbrev pub bitByte : Bool → ℕ
@@ -110,7 +114,9 @@ operator k =
     (cond (eqb k 22) (some (apply2 less)) (cond (eqb k 23) (some (apply2 at-most))
     (cond (eqb k 24) (some (apply2 greater)) (cond (eqb k 25) (some (apply2 at-least))
     (cond (eqb k 26) (some (apply2 and)) (cond (eqb k 27) (some (apply2 or))
-    (cond (eqb k 28) (some (apply2 xor)) none))))))))))))
+    (cond (eqb k 28) (some (apply2 xor))
+    (cond (eqb k 29) (some (apply2 times)) (cond (eqb k 30) (some (apply2 divide))
+    (cond (eqb k 31) (some (apply2 modulo)) (cond (eqb k 32) (some (apply2 remainder)) none))))))))))))))))
 
 -- the operation that begins with the byte k
 abbrev pub readOperation : ℕ → List ℕ → Taken

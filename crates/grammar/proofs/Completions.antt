@@ -6,7 +6,7 @@ use mathlib.Core.List.{List, [], _∷_}
 use Prim.Native.Nat.{ℕ, zero, suc}
 use lib.Dec.{T}
 use Rattle.grammar.specs.Grammar.{NonTerminal, text, ports, morePorts, port, names, moreNames, mode, type, init, value, vars, body, more, statement, target, else-part}
-use Rattle.grammar.specs.Grammar.{expression, chain, ands, ors, xors, relation, compared, simple, terms, factor, primary, Sym, tk, nt, Production, productions, textProduction}
+use Rattle.grammar.specs.Grammar.{expression, chain, ands, ors, xors, relation, compared, simple, terms, term, factors, factor, primary, Sym, tk, nt, Production, productions, textProduction}
 use Rattle.grammar.specs.Derivation.{_∈_, here, there, Tree, by, Trees, empty, token, child}
 
 andAlso : {A B : Type 0} → Option A → (A → Option B) → Option B
@@ -59,6 +59,8 @@ all-found relation = tt
 all-found compared = tt
 all-found simple = tt
 all-found terms = tt
+all-found term = tt
+all-found factors = tt
 all-found factor = tt
 all-found primary = tt
 

@@ -9,7 +9,7 @@ use lib.Dec.{T, eqb, eqb→eq}
 use lib.ListN.{length}
 use Rattle.grammar.specs.Token.{Token, PLUS, MINUS}
 use Rattle.grammar.specs.Tree.{Expr, binary}
-use Rattle.grammar.specs.Grammar.{NonTerminal, terms, factor, Says, Mark, item, Sym, tk, nt, Fun, Production, productions, _↠_}
+use Rattle.grammar.specs.Grammar.{NonTerminal, terms, term, Says, Mark, item, Sym, tk, nt, Fun, Production, productions, _↠_}
 use Rattle.grammar.specs.Meter.{Meter}
 use Rattle.grammar.specs.Derivation.{_∈_, here}
 use Rattle.grammar.specs.Reader.{choose, compose, elem, first, follow, firsts, nullables, nullable, chosen, pick, take, run}
@@ -31,7 +31,7 @@ loop lim fac (suc n) a c (x ∷ ts) =
 
 -- the production of an operator
 abbrev op : Mark → ℕ → Production terms
-op m k = tk m k ∷ nt factor ∷ nt terms ∷ [] ↠ λ x b f a. f (binary x a b)
+op m k = tk m k ∷ nt term ∷ nt terms ∷ [] ↠ λ x b f a. f (binary x a b)
 
 plus : (k : ℕ) → k ≡ PLUS → pick (productions terms) k ≡ take (op item PLUS)
 unfolding pick productions chosen firsts nullables first nullable follow elem
@@ -49,7 +49,7 @@ neither : (k : ℕ) → eqb k PLUS ≡ false → eqb k MINUS ≡ false → T (el
 unfolding elem first
 neither k p q t = subst T (ap (λ (b : Bool). b || (eqb k MINUS || false)) p ∙ ap (λ (b : Bool). b || false) q) t
 
-module _ (lim : Meter → Bool) (fac : Meter → List Token → Got Expr) (shorter : (c : Meter) (ts : List Token) → All (Shorter ts) (fac c ts)) (does : (c : Meter) (ts : List Token) → Does lim factor c ts (fac c ts)) (S : NonTerminal) (γ : List Sym) (κ : Expr → Fun γ (Says S)) (o : Ok (nt terms ∷ γ)) where
+module _ (lim : Meter → Bool) (fac : Meter → List Token → Got Expr) (shorter : (c : Meter) (ts : List Token) → All (Shorter ts) (fac c ts)) (does : (c : Meter) (ts : List Token) → Does lim term c ts (fac c ts)) (S : NonTerminal) (γ : List Sym) (κ : Expr → Fun γ (Says S)) (o : Ok (nt terms ∷ γ)) where
   abbrev Goes : ℕ → Type 0
   Goes n = (a : Expr) (c : Meter) (ts : List Token) → length ts < n → run lim ts S c (nt terms ∷ γ) (λ f. κ (f a)) ≡ whole (loop lim fac n a c ts) (λ v c′ ts′. run lim ts′ S c′ γ (κ v))
 
@@ -58,16 +58,16 @@ module _ (lim : Meter → Bool) (fac : Meter → List Token → Got Expr) (short
   unfolding compose
   turn n ih k x ts h e a c =
       by-rule lim x ts S c terms γ (λ f. κ (f a)) (op item k) e
-      ∙ (one-whole lim item k c (x ∷ ts) S (nt factor ∷ nt terms ∷ γ) (λ y b f. κ (f (binary y a b)))
-      ∙ (whole-same (Shorter (x ∷ ts)) (one lim item k c (x ∷ ts)) (λ y c′ ts′. run lim ts′ S c′ (nt factor ∷ nt terms ∷ γ) (λ b f. κ (f (binary y a b)))) (λ y c′ ts′. whole (next (fac c′ ts′) (λ b c″ ts″. loop lim fac n (binary y a b) c″ ts″)) (λ v c′ ts′. run lim ts′ S c′ γ (κ v))) (one-shorter lim item k c (x ∷ ts))
+      ∙ (one-whole lim item k c (x ∷ ts) S (nt term ∷ nt terms ∷ γ) (λ y b f. κ (f (binary y a b)))
+      ∙ (whole-same (Shorter (x ∷ ts)) (one lim item k c (x ∷ ts)) (λ y c′ ts′. run lim ts′ S c′ (nt term ∷ nt terms ∷ γ) (λ b f. κ (f (binary y a b)))) (λ y c′ ts′. whole (next (fac c′ ts′) (λ b c″ ts″. loop lim fac n (binary y a b) c″ ts″)) (λ v c′ ts′. run lim ts′ S c′ γ (κ v))) (one-shorter lim item k c (x ∷ ts))
       (λ y c′ ts′ p. does c′ ts′ S (nt terms ∷ γ) (λ b f. κ (f (binary y a b))) ok
       ∙ (whole-same (Shorter ts′) (fac c′ ts′) (λ b c″ ts″. run lim ts″ S c″ (nt terms ∷ γ) (λ f. κ (f (binary y a b)))) (λ b c″ ts″. whole (loop lim fac n (binary y a b) c″ ts″) (λ v c′ ts′. run lim ts′ S c′ γ (κ v))) (shorter c′ ts′)
       (λ b c″ ts″ q. ih (binary y a b) c″ ts″ (less p q h))
       ∙ sym (whole-next (fac c′ ts′) (λ b c″ ts″. loop lim fac n (binary y a b) c″ ts″) (λ v c′ ts′. run lim ts′ S c′ γ (κ v)))))
       ∙ sym (whole-next (one lim item k c (x ∷ ts)) (λ y c′ ts′. next (fac c′ ts′) (λ b c″ ts″. loop lim fac n (binary y a b) c″ ts″)) (λ v c′ ts′. run lim ts′ S c′ γ (κ v)))))
     where
-      ok : Ok (nt factor ∷ nt terms ∷ γ)
-      ok = ok-rule terms (tk item k ∷ nt factor ∷ nt terms ∷ []) γ (inside-ok (pick-rule (op item k) (x .kind) e)) o
+      ok : Ok (nt term ∷ nt terms ∷ γ)
+      ok = ok-rule terms (tk item k ∷ nt term ∷ nt terms ∷ []) γ (inside-ok (pick-rule (op item k) (x .kind) e)) o
 
       less : {d f g m : ℕ} → d < suc f → g < d → f < m → g < m
       less u v w = omega arith

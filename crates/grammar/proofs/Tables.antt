@@ -6,7 +6,7 @@ use Prim.Native.Nat.{ℕ}
 use native.Mathlib.Omega.{arith}
 use lib.Dec.{T, ltb}
 use Rattle.grammar.specs.Grammar.{NonTerminal, text, ports, morePorts, port, names, moreNames, mode, type, init, value, vars, body, more, statement, target, else-part}
-use Rattle.grammar.specs.Grammar.{expression, chain, ands, ors, xors, relation, compared, simple, terms, factor, primary, Sym, tk, nt, Production, productions, textProduction}
+use Rattle.grammar.specs.Grammar.{expression, chain, ands, ors, xors, relation, compared, simple, terms, term, factors, factor, primary, Sym, tk, nt, Production, productions, textProduction}
 use Rattle.grammar.specs.Derivation.{_∈_, here, there}
 use Rattle.grammar.specs.Reader.{nullable, first, follow, rank, elem, choose, nullables, firsts, chosen, Pick, take, no-rule, pick}
 use Rattle.grammar.proofs.Sets.{and-left, and-right, subset, within, disjoint, apart}
@@ -65,6 +65,8 @@ all-ok relation = tt
 all-ok compared = tt
 all-ok simple = tt
 all-ok terms = tt
+all-ok term = tt
+all-ok factors = tt
 all-ok factor = tt
 all-ok primary = tt
 

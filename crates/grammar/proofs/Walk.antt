@@ -10,7 +10,7 @@ use lib.Dec.{eqb}
 use lib.ListN.{length}
 use Rattle.grammar.specs.Token.{Token, NAME, NUMBER}
 use Rattle.grammar.specs.Tree.{Expr, number, bit, name, sign, negate, binary, parens, Stmt, output, assign, null, wait, if-then, if-else, while, Body, only, andThen, Init, without, integer-literal, logic-literal, minus, Mode, input, output-port, variable-mode, Group, Text}
-use Rattle.grammar.specs.Grammar.{NonTerminal, text, ports, morePorts, port, names, moreNames, mode, type, init, value, vars, body, more, statement, target, else-part, expression, chain, ands, ors, xors, relation, compared, simple, terms, factor, primary, Says}
+use Rattle.grammar.specs.Grammar.{NonTerminal, text, ports, morePorts, port, names, moreNames, mode, type, init, value, vars, body, more, statement, target, else-part, expression, chain, ands, ors, xors, relation, compared, simple, terms, term, factors, factor, primary, Says}
 use Rattle.grammar.specs.Grammar.{Mark, plain, item, opens, closes, fresh, stmt, stmt-fresh, deeper, shallower, declares, ins, outs, variables, Sym, tk, nt, Fun, Production, productions, textProduction}
 use Rattle.grammar.specs.Derivation.{_∈_, here, there, Tree, by, Trees, empty, token, child, span, spans, mark, marks, says, saysAll, Reads}
 use Rattle.grammar.proofs.Marks.{mark-length}
@@ -150,6 +150,8 @@ module _ {C : Type 0} (μ : Machine C) where
   R compared f c d = Continues f c d
   R simple e c d = d ≡ onExpr e c
   R terms f c d = Continues f c d
+  R term e c d = d ≡ onExpr e c
+  R factors f c d = Continues f c d
   R factor e c d = d ≡ onExpr e c
   R primary e c d = d ≡ onExpr e c
 
@@ -209,6 +211,9 @@ module _ {C : Type 0} (μ : Machine C) where
       (λ c a b h. h, (λ c x _ b d h a r g. cc, (λ c x _ b d h a r g. cc, (λ c x _ b d h a r g. cc, (λ c x _ b d h a r g. cc, (λ c x _ b d h a r g. cc, (λ c x _ b d h a r g. cc, tt)))))))
   all-walked simple = (λ c a d h f e k. k a c h, (λ c s _ a d h f e k. k (sign s a) c h, tt))
   all-walked terms = (λ c a b h. h, (λ c x _ b d h f e k a r g. k (binary x a b) r (cc), (λ c x _ b d h f e k a r g. k (binary x a b) r (cc), tt)))
+  all-walked term = (λ c a d h f e k. k a c h, tt)
+  all-walked factors =
+      (λ c a b h. h, (λ c x _ b d h f e k a r g. k (binary x a b) r (cc), (λ c x _ b d h f e k a r g. k (binary x a b) r (cc), (λ c x _ b d h f e k a r g. k (binary x a b) r (cc), (λ c x _ b d h f e k a r g. k (binary x a b) r (cc), tt)))))
   all-walked factor = (λ c a d h. h, (λ c x _ a d h. h, tt))
   all-walked primary = (λ c x _. refl, (λ c x _. refl, (λ c x _. refl, (λ c x _. refl, (λ c _ _ a d h _ _. cc, tt)))))
 

@@ -2,7 +2,7 @@
 -- symbols say, in their order (a token says itself, also where nobody looks at it). A word in quotes above a production is document 01's. Assumes nothing.
 use Prim.Native.Nat.{ℕ}
 use mathlib.Core.List.{List, [], _∷_}
-use Rattle.grammar.specs.Token.{Token, NAME, NUMBER, ZERO, ONE, LP, RP, SEMI, COLON, COMMA, BECOMES, PLUS, MINUS, EQ, NE, LT, LE, GT, GE, AND, OR, XOR, NOT}
+use Rattle.grammar.specs.Token.{Token, NAME, NUMBER, ZERO, ONE, LP, RP, SEMI, COLON, COMMA, BECOMES, PLUS, MINUS, EQ, NE, LT, LE, GT, GE, AND, OR, XOR, NOT, TIMES, DIVIDE, MOD, REM}
 use Rattle.grammar.specs.Token.{ENTITY, IS, PORT, END, ARCHITECTURE, OF, BEGIN, PROCESS, IN, OUT, VARIABLE, NULL, WAIT, UNTIL, IF, THEN, ELSE, WHILE, LOOP, STD-LOGIC, INTEGER}
 use Rattle.grammar.specs.Tree.{Expr, number, bit, name, sign, negate, binary, parens, Stmt, output, assign, null, wait, if-then, if-else, while, Body, only, andThen, Init, without, integer-literal, logic-literal, minus, Mode, input, output-port, variable-mode, Group, Text}
 
@@ -10,7 +10,7 @@ use Rattle.grammar.specs.Tree.{Expr, number, bit, name, sign, negate, bi
 pub data NonTerminal : Type 0 where
   text ports morePorts port names moreNames mode type init value vars : NonTerminal
   body more statement target else-part : NonTerminal
-  expression chain ands ors xors relation compared simple terms factor primary : NonTerminal
+  expression chain ands ors xors relation compared simple terms term factors factor primary : NonTerminal
 
 -- What each nonterminal says. One that goes on after an operand, as `terms`, says what it makes of that operand.
 abbrev pub Says : NonTerminal → Type 0
@@ -39,6 +39,8 @@ Says relation = Expr
 Says compared = Expr → Expr
 Says simple = Expr
 Says terms = Expr → Expr
+Says term = Expr
+Says factors = Expr → Expr
 Says factor = Expr
 Says primary = Expr
 
@@ -143,13 +145,21 @@ productions compared =
     (tk item EQ ∷ nt simple ∷ [] ↠ λ x b a. binary x a b) ∷ (tk item NE ∷ nt simple ∷ [] ↠ λ x b a. binary x a b) ∷
     (tk item LT ∷ nt simple ∷ [] ↠ λ x b a. binary x a b) ∷ (tk item LE ∷ nt simple ∷ [] ↠ λ x b a. binary x a b) ∷
     (tk item GT ∷ nt simple ∷ [] ↠ λ x b a. binary x a b) ∷ (tk item GE ∷ nt simple ∷ [] ↠ λ x b a. binary x a b) ∷ []
--- "then + -, with at most one - as sign before the first term"
+-- "then + -, with at most one - as sign before the first term"; "a sign covers the whole first term"
 productions simple =
-    (nt factor ∷ nt terms ∷ [] ↠ λ a f. f a) ∷ (tk item MINUS ∷ nt factor ∷ nt terms ∷ [] ↠ λ s a f. f (sign s a)) ∷ []
+    (nt term ∷ nt terms ∷ [] ↠ λ a f. f a) ∷ (tk item MINUS ∷ nt term ∷ nt terms ∷ [] ↠ λ s a f. f (sign s a)) ∷ []
 productions terms =
     ([] ↠ λ a. a) ∷
-    (tk item PLUS ∷ nt factor ∷ nt terms ∷ [] ↠ λ x b f a. f (binary x a b)) ∷
-    (tk item MINUS ∷ nt factor ∷ nt terms ∷ [] ↠ λ x b f a. f (binary x a b)) ∷ []
+    (tk item PLUS ∷ nt term ∷ nt terms ∷ [] ↠ λ x b f a. f (binary x a b)) ∷
+    (tk item MINUS ∷ nt term ∷ nt terms ∷ [] ↠ λ x b f a. f (binary x a b)) ∷ []
+-- "*, /, mod and rem on integers, binding tighter than +"
+productions term = (nt factor ∷ nt factors ∷ [] ↠ λ a f. f a) ∷ []
+productions factors =
+    ([] ↠ λ a. a) ∷
+    (tk item TIMES ∷ nt factor ∷ nt factors ∷ [] ↠ λ x b f a. f (binary x a b)) ∷
+    (tk item DIVIDE ∷ nt factor ∷ nt factors ∷ [] ↠ λ x b f a. f (binary x a b)) ∷
+    (tk item MOD ∷ nt factor ∷ nt factors ∷ [] ↠ λ x b f a. f (binary x a b)) ∷
+    (tk item REM ∷ nt factor ∷ nt factors ∷ [] ↠ λ x b f a. f (binary x a b)) ∷ []
 -- "not on a primary"
 productions factor = (nt primary ∷ [] ↠ λ a. a) ∷ (tk item NOT ∷ nt primary ∷ [] ↠ λ x a. negate x a) ∷ []
 -- "A primary is a literal, a name or ( e ): a parenthesised expression is again an expression."

@@ -5,10 +5,10 @@ use mathlib.Core.List.{List, [], _∷_, _++_}
 use Prim.Native.Nat.{ℕ, zero, suc, _-_}
 use lib.Dec.{eqb}
 use lib.ListN.{length}
-use Rattle.grammar.specs.Token.{Token, NAME, NUMBER, ZERO, ONE, LP, RP, SEMI, COLON, COMMA, BECOMES, PLUS, MINUS, EQ, NE, LT, LE, GT, GE, AND, OR, XOR, NOT}
+use Rattle.grammar.specs.Token.{Token, NAME, NUMBER, ZERO, ONE, LP, RP, SEMI, COLON, COMMA, BECOMES, PLUS, MINUS, EQ, NE, LT, LE, GT, GE, AND, OR, XOR, NOT, TIMES, DIVIDE, MOD, REM}
 use Rattle.grammar.specs.Token.{ENTITY, END, BEGIN, IN, OUT, VARIABLE, NULL, WAIT, IF, THEN, ELSE, WHILE, LOOP, STD-LOGIC, INTEGER}
 use Rattle.grammar.specs.Grammar.{NonTerminal, text, ports, morePorts, port, names, moreNames, mode, type, init, value, vars, body, more, statement, target, else-part}
-use Rattle.grammar.specs.Grammar.{expression, chain, ands, ors, xors, relation, compared, simple, terms, factor, primary, Says, Mark, Sym, tk, nt, Fun, Production, productions, textProduction}
+use Rattle.grammar.specs.Grammar.{expression, chain, ands, ors, xors, relation, compared, simple, terms, term, factors, factor, primary, Says, Mark, Sym, tk, nt, Fun, Production, productions, textProduction}
 use Rattle.grammar.specs.Tree.{Text}
 use Rattle.grammar.specs.Meter.{Meter, zeroes, tick, over}
 use Rattle.grammar.specs.Acceptance.{Answer, accepted, no-sentence, past-limit}
@@ -40,6 +40,8 @@ nullable relation = false
 nullable compared = true
 nullable simple = false
 nullable terms = true
+nullable term = false
+nullable factors = true
 nullable factor = false
 nullable primary = false
 
@@ -49,6 +51,9 @@ starts = NAME ∷ NULL ∷ WAIT ∷ IF ∷ WHILE ∷ []
 
 abbrev primaries : List ℕ
 primaries = NUMBER ∷ ZERO ∷ ONE ∷ NAME ∷ LP ∷ []
+
+abbrev scales : List ℕ
+scales = TIMES ∷ DIVIDE ∷ MOD ∷ REM ∷ []
 
 unfoldable pub first : NonTerminal → List ℕ
 first text = ENTITY ∷ []
@@ -76,6 +81,8 @@ first relation = MINUS ∷ NOT ∷ primaries
 first compared = EQ ∷ NE ∷ LT ∷ LE ∷ GT ∷ GE ∷ []
 first simple = MINUS ∷ NOT ∷ primaries
 first terms = PLUS ∷ MINUS ∷ []
+first term = NOT ∷ primaries
+first factors = scales
 first factor = NOT ∷ primaries
 first primary = primaries
 
@@ -88,6 +95,9 @@ afterR = AND ∷ OR ∷ XOR ∷ afterE
 
 abbrev afterS : List ℕ
 afterS = EQ ∷ NE ∷ LT ∷ LE ∷ GT ∷ GE ∷ afterR
+
+abbrev afterT : List ℕ
+afterT = PLUS ∷ MINUS ∷ afterS
 
 unfoldable pub follow : NonTerminal → List ℕ
 follow text = []
@@ -115,8 +125,10 @@ follow relation = afterR
 follow compared = afterR
 follow simple = afterS
 follow terms = afterS
-follow factor = PLUS ∷ MINUS ∷ afterS
-follow primary = PLUS ∷ MINUS ∷ afterS
+follow term = afterT
+follow factors = afterT
+follow factor = TIMES ∷ DIVIDE ∷ MOD ∷ REM ∷ afterT
+follow primary = TIMES ∷ DIVIDE ∷ MOD ∷ REM ∷ afterT
 
 -- how many productions deep a nonterminal can go before its first token
 unfoldable pub rank : NonTerminal → ℕ
@@ -136,15 +148,17 @@ rank more = 1
 rank statement = 0
 rank target = 0
 rank else-part = 0
-rank expression = 4
+rank expression = 5
 rank chain = 0
 rank ands = 0
 rank ors = 0
 rank xors = 0
-rank relation = 3
+rank relation = 4
 rank compared = 0
-rank simple = 2
+rank simple = 3
 rank terms = 0
+rank term = 2
+rank factors = 0
 rank factor = 1
 rank primary = 0
 

@@ -1,4 +1,4 @@
--- Tokens, as the grammar sees them, and the 43 kinds of token. Assumes nothing.
+-- Tokens, as the grammar sees them, and the 47 kinds of token. Assumes nothing.
 use Prim.Native.Nat.{ℕ}
 
 -- A token's kind; its value (a name: its folded bytes as one number, base 256; a number: its value, cut at 2147483648; '0' and '1': 0 and 1);
@@ -142,3 +142,16 @@ STD-LOGIC = 42
 
 abbrev pub INTEGER : ℕ
 INTEGER = 43
+
+-- operators: * / mod rem
+abbrev pub TIMES : ℕ
+TIMES = 44
+
+abbrev pub DIVIDE : ℕ
+DIVIDE = 45
+
+abbrev pub MOD : ℕ
+MOD = 46
+
+abbrev pub REM : ℕ
+REM = 47

@@ -57,7 +57,7 @@ module _ (t : Table) (g : GoodTable t) (s : State) (i o : List ℤ) where
       performs p τ (row-none (t .signature) i (length o) r) k e w y (record { place = inr w; memory = τ .memory; typed = f; slots = refl })
       (values-length (types (t .signature .outputs)) (τ .memory .outputs) (f .outputs) ∙ types-length (t .signature .outputs)
       ∙ sym (row-right (t .signature) i (length o) r .1))
-  ended-outcome r k z e f (refuses-at x b) = operator-refused x (row-none (t .signature) i (length o) r) k b e
+  ended-outcome r k z e f (refuses-at q x u b) = operator-refused q x u (row-none (t .signature) i (length o) r) k b e
 
   -- Every row on a good table.
   pub row-outcome : Outcome t s i o (rowOf t s i o)
@@ -89,7 +89,7 @@ row-long b h s i o = on (openOf b) refl
     of-outcome : (t : Table) (r : Called) → Outcome t s i o r → length (r .row) ≡ length o
     of-outcome t _ (row-refused k m) = refl
     of-outcome t _ (state-refused m g) = refl
-    of-outcome t _ (operator-refused x m g l q) = refl
+    of-outcome t _ (operator-refused q x o m g l y) = refl
     of-outcome t _ (performs p τ m g q w y n l) = l
 
     on : (z : Opened) → openOf b ≡ z → length (unlessClosed z s o (λ t. rowOf t s i o) .row) ≡ length o

@@ -54,13 +54,13 @@ module _ (t : Table) (g : GoodTable t) (s : State) (i o : List ℤ) where
   pub outcome-place : (r : Called) → Outcome t s i o r → (q k : ℕ) → r .answer ≡ not-performed q k → k ≤ 512
   outcome-place _ (row-refused x m) q k e = let h = row-place (t .signature) (g .signature) i (length o) x m in let z : x ≡ k = cc in omega arith
   outcome-place _ (state-refused m b) q k e = let z : k ≡ 0 = cc in omega arith
-  outcome-place _ (operator-refused x m b l y) q k e = let z : x ≡ k = cc in omega (arith, g .few-lines)
+  outcome-place _ (operator-refused n x o m b l y) q k e = let z : x ≡ k = cc in omega (arith, g .few-lines)
   outcome-place _ (performs p τ m b y w v n l) q k e = absurd (let z : _≡_ {A = ℕ} 0 1 = cc in omega arith)
 
   pub outcome-count : (r : Called) → Outcome t s i o r → (way : List ℕ) → r .answer ≡ performed way → length way ≤ 512
   outcome-count _ (row-refused x m) way e = absurd (let z : _≡_ {A = ℕ} 0 1 = cc in omega arith)
   outcome-count _ (state-refused m b) way e = absurd (let z : _≡_ {A = ℕ} 0 1 = cc in omega arith)
-  outcome-count _ (operator-refused x m b l y) way e = absurd (let z : _≡_ {A = ℕ} 0 1 = cc in omega arith)
+  outcome-count _ (operator-refused n x o m b l y) way e = absurd (let z : _≡_ {A = ℕ} 0 1 = cc in omega arith)
   outcome-count _ (performs p τ m b y w v n l) way e = let z : τ .way ≡ way = cc in let x = ap length z in omega (arith, v .few, g .few-lines)
 
 -- IMAGES

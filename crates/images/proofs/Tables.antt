@@ -91,6 +91,6 @@ module _ (t : Table) (g : GoodTable t) (i : List ℤ) (hi : Values (t .signature
   walk-typed zero x σ b w = tt
   walk-typed (suc k) x σ b w =
       let l = line-good t g x b in
-      step-holds (TypedResult (t .signature)) (line (t .lines) x) x i σ _ (λ f e. w) tt
+      step-holds (TypedResult (t .signature)) (line (t .lines) x) x i σ _ (λ f e. w) (λ q o. tt)
       (λ z m n. walk-typed k z _ (next-inside (length (t .lines)) (line (t .lines) x) (l .0) i _ m z n)
       (next-typed (t .signature) i hi (line (t .lines) x) (l .2) _ m z n w))

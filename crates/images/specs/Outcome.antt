@@ -7,6 +7,7 @@ use lib.ListN.{length}
 use lib.IntN.{ℤ}
 use Rattle.answers.specs.declared.State.{State}
 use Rattle.semantics.specs.Equations.{Memory, Run, reached, refused}
+use Rattle.semantics.specs.Faults.{OperatorNumber}
 use Rattle.semantics.specs.InputRow.{Wrong}
 use Rattle.semantics.specs.Values.{Typed as TypedBy}
 use Rattle.format.specs.Walk.{from, tableCycle}
@@ -42,9 +43,9 @@ pub record GoodState (t : Table) (s : State) : Type 0 where
 pub data Outcome (t : Table) (s : State) (i o : List ℤ) : Called → Type 0 where
   row-refused : (k : ℕ) → Meets14 (t .signature) i (length o) k → Outcome t s i o (turnedBack 14 k s o)
   state-refused : ((k : ℕ) → Meets14 (t .signature) i (length o) k → ⊥) → (GoodState t s → ⊥) → Outcome t s i o (turnedBack 15 0 s o)
-  operator-refused : (x : ℕ) → ((k : ℕ) → Meets14 (t .signature) i (length o) k → ⊥) → GoodState t s → x < length (t .lines)
-      → tableCycle (t .lines) (t .reaches) (s .place) i (record { way = []; memory = memoryOf (t .signature) s }) ≡ refused 16 x
-      → Outcome t s i o (turnedBack 16 x s o)
+  operator-refused : (q x : ℕ) → OperatorNumber q → ((k : ℕ) → Meets14 (t .signature) i (length o) k → ⊥) → GoodState t s → x < length (t .lines)
+      → tableCycle (t .lines) (t .reaches) (s .place) i (record { way = []; memory = memoryOf (t .signature) s }) ≡ refused q x
+      → Outcome t s i o (turnedBack q x s o)
   performs : (p : ℕ) (τ : Run) → ((k : ℕ) → Meets14 (t .signature) i (length o) k → ⊥) → GoodState t s
       → tableCycle (t .lines) (t .reaches) (s .place) i (record { way = []; memory = memoryOf (t .signature) s }) ≡ reached p τ
       → WaitAt (t .lines) p → WayFrom (t .lines) (t .reaches) (from (t .lines) (s .place)) (τ .way)

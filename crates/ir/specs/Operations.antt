@@ -3,7 +3,7 @@ use mathlib.Core.Bool.{Bool, true, false}
 use mathlib.Core.List.{List, [], _∷_, _++_}
 use Prim.Native.Nat.{ℕ}
 use lib.IntN.{ℤ, pos}
-use Rattle.design.specs.Expression.{Leaf, int, bit, input, variable, Unary, sign, invert, Binary, plus, minus, equal, unequal, less, at-most, greater, at-least, and, or, xor, Expr, leaf, unary, binary}
+use Rattle.design.specs.Expression.{Leaf, int, bit, input, variable, Unary, sign, invert, Binary, plus, minus, equal, unequal, less, at-most, greater, at-least, and, or, xor, times, divide, modulo, remainder, Expr, leaf, unary, binary}
 
 -- an operation: its code, and a literal's value or a name's index (0 for an operator)
 pub record Op : Type 0 where
@@ -30,7 +30,7 @@ abbrev pub unaryCode : Unary → ℕ
 unaryCode sign = 16
 unaryCode invert = 17
 
--- 18 +, 19 -, 20 =, 21 /=, 22 <, 23 <=, 24 >, 25 >=, 26 and, 27 or, 28 xor
+-- 18 +, 19 -, 20 =, 21 /=, 22 <, 23 <=, 24 >, 25 >=, 26 and, 27 or, 28 xor, 29 *, 30 /, 31 mod, 32 rem
 abbrev pub binaryCode : Binary → ℕ
 binaryCode plus = 18
 binaryCode minus = 19
@@ -43,6 +43,10 @@ binaryCode at-least = 25
 binaryCode and = 26
 binaryCode or = 27
 binaryCode xor = 28
+binaryCode times = 29
+binaryCode divide = 30
+binaryCode modulo = 31
+binaryCode remainder = 32
 
 -- left operand first
 unfoldable pub ops : Expr → List Op

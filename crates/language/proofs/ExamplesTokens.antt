@@ -13,7 +13,10 @@ examples =
     -- "byte that begins no token"
     refused-at 2 (vars "variable ^_a : integer := 0;") "" ∷
     refused-at 2 (stmts "s := 1^#;") "" ∷
-    refused-at 2 (stmts "s := 1 ^/ 2;") "" ∷
+    accepts (stmts "s := -7 mod 3 * s / 2 rem s;") ∷
+    refused-at 3 (stmts "s := s / ^= 2;") "=" ∷
+    refused-at 3 (stmts "s := s * ^-2;") "-" ∷
+    refused-at 3 (vars "variable ^mod : integer := 0;") "mod" ∷
     refused-at 2 (stmts "f := ^'2';") "" ∷
     refused-at 2 (stmts "f := ^'0 ;") "" ∷
     refused-at 2 (stmts "f := ^'';") "" ∷
@@ -35,5 +38,5 @@ examples =
     accepts (bytes "ENTITY e Is pOrT(CLK:IN STD_LOGIC;O:OUT INTEGER:=0);END E;Architecture T Of E IS BEGIN PROCESS VARIABLE S:Integer:=1;BEGIN " ++
     bytes "IF NOT(s=1)Then O<=S;ELSE NULL;END IF;WHILE (s<1 AND S>1)Or(S=1 XOR s=2)LOOP WAIT UNTIL Clk='1';END LOOP;wait Until cLK='1';END PROCESS;END T;") ∷
     -- words that document 01 does not show are names
-    accepts (whole "clk : in std_logic" "variable elsif, mod, boolean, signal, rem : integer := 0;" "process" (bytes "elsif := mod; wait until clk = '1';")) ∷
+    accepts (whole "clk : in std_logic" "variable elsif, mod_1, boolean, signal, remx : integer := 0;" "process" (bytes "elsif := mod_1; wait until clk = '1';")) ∷
     []

@@ -6,7 +6,7 @@ use mathlib.Core.List.{List, [], _∷_}
 use Prim.Native.Nat.{ℕ}
 use Rattle.grammar.specs.Token.{Token}
 use Rattle.grammar.specs.Tree.{Group, Text}
-use Rattle.grammar.specs.Grammar.{NonTerminal, text, ports, morePorts, port, names, moreNames, mode, type, init, value, vars, body, more, statement, target, else-part, expression, chain, ands, ors, xors, relation, compared, simple, terms, factor, primary}
+use Rattle.grammar.specs.Grammar.{NonTerminal, text, ports, morePorts, port, names, moreNames, mode, type, init, value, vars, body, more, statement, target, else-part, expression, chain, ands, ors, xors, relation, compared, simple, terms, term, factors, factor, primary}
 use Rattle.grammar.specs.Grammar.{Says, Mark, Sym, tk, nt, Fun, Production, productions, textProduction}
 use Rattle.grammar.specs.Derivation.{span, Reads}
 use Rattle.grammar.specs.Limits.{Each}
@@ -46,6 +46,8 @@ Kept relation v = Unit {0}
 Kept compared v = Unit {0}
 Kept simple v = Unit {0}
 Kept terms v = Unit {0}
+Kept term v = Unit {0}
+Kept factors v = Unit {0}
 Kept factor v = Unit {0}
 Kept primary v = Unit {0}
 
@@ -89,6 +91,8 @@ all-keep relation = free relation (λ v. tt) (productions relation)
 all-keep compared = free compared (λ v. tt) (productions compared)
 all-keep simple = free simple (λ v. tt) (productions simple)
 all-keep terms = free terms (λ v. tt) (productions terms)
+all-keep term = free term (λ v. tt) (productions term)
+all-keep factors = free factors (λ v. tt) (productions factors)
 all-keep factor = free factor (λ v. tt) (productions factor)
 all-keep primary = free primary (λ v. tt) (productions primary)
 

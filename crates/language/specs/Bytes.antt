@@ -31,7 +31,7 @@ byteKind b =
     (cond (eqb b 95) underscore
     (cond (elem b (32 ∷ 9 ∷ 10 ∷ 13 ∷ [])) blank
     (cond (eqb b 39) quote
-    (cond (elem b (bytes "();:,+-=<>/")) mark none)))))
+    (cond (elem b (bytes "();:,+-*/=<>")) mark none)))))
 
 abbrev pub kindCode : ByteKind → ℕ
 kindCode letter = 0

@@ -4,7 +4,7 @@ use mathlib.Core.List.{List, [], _∷_}
 use Prim.Native.Nat.{ℕ, _+_, _*_, _-_, min}
 use Prim.Native.String.{String}
 use lib.Dec.{eqb}
-use Rattle.grammar.specs.Token.{NAME, ZERO, ONE, LP, RP, SEMI, COLON, COMMA, BECOMES, PLUS, MINUS, EQ, NE, LT, LE, GT, GE, AND, OR, XOR, NOT}
+use Rattle.grammar.specs.Token.{NAME, ZERO, ONE, LP, RP, SEMI, COLON, COMMA, BECOMES, PLUS, MINUS, EQ, NE, LT, LE, GT, GE, AND, OR, XOR, NOT, TIMES, DIVIDE, MOD, REM}
 use Rattle.grammar.specs.Token.{ENTITY, IS, PORT, END, ARCHITECTURE, OF, BEGIN, PROCESS, IN, OUT, VARIABLE, NULL, WAIT, UNTIL, IF, THEN, ELSE, WHILE, LOOP, STD-LOGIC, INTEGER}
 use Rattle.language.specs.Bytes.{bytes, isUnder, lower}
 
@@ -37,7 +37,7 @@ reserved =
     word "entity" ENTITY ∷ word "is" IS ∷ word "port" PORT ∷ word "end" END ∷ word "architecture" ARCHITECTURE ∷ word "of" OF ∷
     word "begin" BEGIN ∷ word "process" PROCESS ∷ word "in" IN ∷ word "out" OUT ∷ word "variable" VARIABLE ∷ word "null" NULL ∷
     word "wait" WAIT ∷ word "until" UNTIL ∷ word "if" IF ∷ word "then" THEN ∷ word "else" ELSE ∷ word "while" WHILE ∷ word "loop" LOOP ∷
-    word "and" AND ∷ word "or" OR ∷ word "xor" XOR ∷ word "not" NOT ∷ word "std_logic" STD-LOGIC ∷ word "integer" INTEGER ∷ []
+    word "and" AND ∷ word "or" OR ∷ word "xor" XOR ∷ word "not" NOT ∷ word "mod" MOD ∷ word "rem" REM ∷ word "std_logic" STD-LOGIC ∷ word "integer" INTEGER ∷ []
 
 -- the kind of a word, by its folded number: that of its reserved word, else a name
 unfoldable pub wordKind : List Word → ℕ → ℕ
@@ -60,7 +60,7 @@ unfoldable pub fixed : List Fixed
 fixed =
     bit "'0'" ZERO 0 ∷ bit "'1'" ONE 1 ∷
     mark ":=" BECOMES ∷ mark "/=" NE ∷ mark "<=" LE ∷ mark ">=" GE ∷
-    mark "(" LP ∷ mark ")" RP ∷ mark ";" SEMI ∷ mark ":" COLON ∷ mark "," COMMA ∷ mark "+" PLUS ∷ mark "-" MINUS ∷ mark "=" EQ ∷ mark "<" LT ∷ mark ">" GT ∷ []
+    mark "(" LP ∷ mark ")" RP ∷ mark ";" SEMI ∷ mark ":" COLON ∷ mark "," COMMA ∷ mark "+" PLUS ∷ mark "-" MINUS ∷ mark "=" EQ ∷ mark "<" LT ∷ mark ">" GT ∷ mark "*" TIMES ∷ mark "/" DIVIDE ∷ []
 
 -- the byte after
 unfoldable pub peek : List ℕ → ℕ

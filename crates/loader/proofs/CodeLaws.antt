@@ -12,7 +12,7 @@ use lib.Seq.{getD-drop, drop-drop, drop-cons}
 use lib.Dec.{ltb, leb, eqb}
 use borrow.Author.Tests.{lt-ltb, le-ltb, le-leb, lt-leb, eqb-true, eqb-false, ne-eqb}
 use Rattle.design.specs.Types.{Ty, std-logic, integer, ExprTy, plain, boolean, sameTy, sameType}
-use Rattle.design.specs.Expression.{Leaf, int, bit, input, variable, Unary, sign, invert, Binary, plus, minus, equal, unequal, less, at-most, greater, at-least, and, or, xor, Expr, leaf, unary, binary, items, Out, fine, fault, bind, nth, plainly, leafType, sumType, orderType, equalityType, logicalType, unaryType, binaryType}
+use Rattle.design.specs.Expression.{Leaf, int, bit, input, variable, Unary, sign, invert, Binary, plus, minus, equal, unequal, less, at-most, greater, at-least, and, or, xor, times, divide, modulo, remainder, Expr, leaf, unary, binary, items, Out, fine, fault, bind, nth, plainly, leafType, sumType, orderType, equalityType, logicalType, unaryType, binaryType}
 use Rattle.semantics.proofs.Basic.{none-some, fault-fine, some-injective, fine-injective}
 use Rattle.format.specs.Words.{Bytes, word4At, onlyIf}
 use Rattle.semantics.specs.Twos.{signed32}
@@ -232,7 +232,7 @@ code-tags is vs s = go (operations (length s) s) refl (operations 64 s) refl
 above : (n k : ℕ) → n ≤ k → (k ≡ n → ⊥) → suc n ≤ k
 above n k h e = omega arith
 
-apart : (k : ℕ) → 29 ≤ k → k < 29 → ⊥
+apart : (k : ℕ) → 33 ≤ k → k < 33 → ⊥
 apart k h l = omega arith
 
 -- a number is n or another
@@ -339,19 +339,19 @@ module _ (is vs : List Ty) where
   binary-step k o h (y ∷ []) = refl
   binary-step k o h (y ∷ x ∷ st) = ap (λ z. cond (eqb x y) z none) (h x st)
 
-  binary-past : (k : ℕ) → 29 ≤ k → (st : List ℕ) → binaryStep k st ≡ none
+  binary-past : (k : ℕ) → 33 ≤ k → (st : List ℕ) → binaryStep k st ≡ none
   unfolding binaryStep
   binary-past k h [] = refl
   binary-past k h (y ∷ []) = refl
   binary-past k h (y ∷ x ∷ st) =
-      rw (le-ltb k 20 (omega arith), le-ltb k 22 (omega arith), le-ltb k 26 (omega arith), le-ltb k 29 h) (either (eqb x y))
+      rw (le-ltb k 20 (omega arith), le-ltb k 22 (omega arith), le-ltb k 26 (omega arith), le-ltb k 29 (omega arith), le-ltb k 33 h) (either (eqb x y))
     where
       either : (b : Bool) → _≡_ {A = Option (List ℕ)} (cond b none none) none
       either true = refl
       either false = refl
 
   -- no operator has these first bytes
-  no-operation : (k : ℕ) (r : List ℕ) → (k ≡ 1 → ⊥) → (k ≡ 2 → ⊥) → (k ≡ 3 → ⊥) → (k ≡ 4 → ⊥) → (16 ≤ k → k < 29 → ⊥) → readOperation k r ≡ none
+  no-operation : (k : ℕ) (r : List ℕ) → (k ≡ 1 → ⊥) → (k ≡ 2 → ⊥) → (k ≡ 3 → ⊥) → (k ≡ 4 → ⊥) → (16 ≤ k → k < 33 → ⊥) → readOperation k r ≡ none
   no-operation k r n1 n2 n3 n4 n =
       rw (
         ne-eqb k 1 n1,
@@ -371,6 +371,10 @@ module _ (is vs : List Ty) where
         ne-eqb k 26 (λ e. n (omega arith) (omega arith)),
         ne-eqb k 27 (λ e. n (omega arith) (omega arith)),
         ne-eqb k 28 (λ e. n (omega arith) (omega arith)),
+        ne-eqb k 29 (λ e. n (omega arith) (omega arith)),
+        ne-eqb k 30 (λ e. n (omega arith) (omega arith)),
+        ne-eqb k 31 (λ e. n (omega arith) (omega arith)),
+        ne-eqb k 32 (λ e. n (omega arith) (omega arith)),
       )
 
   -- One operation by place, in the code s whose elements are bytes.
@@ -507,7 +511,7 @@ module _ (is vs : List Ty) where
         → ((x : ℕ) (u : List ℕ) → stacked (andThen (untag x) (binaryType o)) u ≡ pushed (binaryTag k x) u) → binaryStep k st ≡ stepAt is vs s at k st → Step k
     step-binary k o w e h g = step-some k 1 (apply2 o) (binaryStep k st) w (operator-read k (apply2 o) e) (binary-step k o h st) g
 
-    step-other : (k : ℕ) → (k ≡ 1 → ⊥) → (k ≡ 2 → ⊥) → (k ≡ 3 → ⊥) → (k ≡ 4 → ⊥) → (16 ≤ k → k < 29 → ⊥) → Step k
+    step-other : (k : ℕ) → (k ≡ 1 → ⊥) → (k ≡ 2 → ⊥) → (k ≡ 3 → ⊥) → (k ≡ 4 → ⊥) → (16 ≤ k → k < 33 → ⊥) → Step k
     unfolding stepAt leafTag
     step-other k n1 n2 n3 n4 n = step-stop k (no-operation k (drop (suc at) s) n1 n2 n3 n4 n) (go (decLt k 16))
       where
@@ -520,10 +524,10 @@ module _ (is vs : List Ty) where
         go (yes h) =
             rw (lt-ltb k 16 h, ne-eqb k 1 n1, ne-eqb k 2 n2, ne-eqb k 3 n3, ne-eqb k 4 n4) (ap (λ z. pushed z st) (three (ltb (length s) (at + 2))))
         go (no h) =
-            let l : 29 ≤ k = late (decLt k 29) (omega arith) in
+            let l : 33 ≤ k = late (decLt k 33) (omega arith) in
             rw (le-ltb k 16 (omega arith), le-ltb k 18 (omega arith)) (sym (binary-past k l st))
           where
-            late : Dec (k < 29) → 16 ≤ k → 29 ≤ k
+            late : Dec (k < 33) → 16 ≤ k → 33 ≤ k
             late (yes q) p = absurd (n p q)
             late (no q) p = omega arith
 
@@ -544,13 +548,18 @@ module _ (is vs : List Ty) where
         byte-case Step k 26 (step-binary 26 and refl refl logical-tag refl) (λ n26.
         byte-case Step k 27 (step-binary 27 or refl refl logical-tag refl) (λ n27.
         byte-case Step k 28 (step-binary 28 xor refl refl logical-tag refl) (λ n28.
-        step-other k n1 n2 n3 n4 (λ l h. none-left l h n16 n17 n18 n19 n20 n21 n22 n23 n24 n25 n26 n27 n28))))))))))))))))))
+        byte-case Step k 29 (step-binary 29 times refl refl sum-tag refl) (λ n29.
+        byte-case Step k 30 (step-binary 30 divide refl refl sum-tag refl) (λ n30.
+        byte-case Step k 31 (step-binary 31 modulo refl refl sum-tag refl) (λ n31.
+        byte-case Step k 32 (step-binary 32 remainder refl refl sum-tag refl) (λ n32.
+        step-other k n1 n2 n3 n4 (λ l h. none-left l h n16 n17 n18 n19 n20 n21 n22 n23 n24 n25 n26 n27 n28 n29 n30 n31 n32))))))))))))))))))))))
       where
-        none-left : 16 ≤ k → k < 29 → (k ≡ 16 → ⊥) → (k ≡ 17 → ⊥) → (k ≡ 18 → ⊥) → (k ≡ 19 → ⊥) → (k ≡ 20 → ⊥) → (k ≡ 21 → ⊥) → (k ≡ 22 → ⊥) → (k ≡ 23
-            → ⊥) → (k ≡ 24 → ⊥) → (k ≡ 25 → ⊥) → (k ≡ 26 → ⊥) → (k ≡ 27 → ⊥) → (k ≡ 28 → ⊥) → ⊥
-        none-left l h n16 n17 n18 n19 n20 n21 n22 n23 n24 n25 n26 n27 n28 =
-            apart k (above 28 k (above 27 k (above 26 k (above 25 k (above 24 k (above 23 k (above 22 k (above 21 k (above 20 k (above 19 k (above 18
-            k (above 17 k (above 16 k l n16) n17) n18) n19) n20) n21) n22) n23) n24) n25) n26) n27) n28) h
+        none-left : 16 ≤ k → k < 33 → (k ≡ 16 → ⊥) → (k ≡ 17 → ⊥) → (k ≡ 18 → ⊥) → (k ≡ 19 → ⊥) → (k ≡ 20 → ⊥) → (k ≡ 21 → ⊥) → (k ≡ 22 → ⊥) → (k ≡ 23
+            → ⊥) → (k ≡ 24 → ⊥) → (k ≡ 25 → ⊥) → (k ≡ 26 → ⊥) → (k ≡ 27 → ⊥) → (k ≡ 28 → ⊥)
+            → (k ≡ 29 → ⊥) → (k ≡ 30 → ⊥) → (k ≡ 31 → ⊥) → (k ≡ 32 → ⊥) → ⊥
+        none-left l h n16 n17 n18 n19 n20 n21 n22 n23 n24 n25 n26 n27 n28 n29 n30 n31 n32 =
+            apart k (above 32 k (above 31 k (above 30 k (above 29 k (above 28 k (above 27 k (above 26 k (above 25 k (above 24 k (above 23 k (above 22 k (above 21 k (above 20 k (above 19 k (above 18
+            k (above 17 k (above 16 k l n16) n17) n18) n19) n20) n21) n22) n23) n24) n25) n26) n27) n28) n29) n30) n31) n32) h
 
   -- What the loop over the operations keeps: the rest of the code, with f operations left.
   abbrev pub restOf : List ℕ → ℕ → ℕ → List ℕ → ℕ

@@ -66,9 +66,9 @@ logicalTag t = cond (eqb t 0) 0 (cond (eqb t 2) 2 3)
 abbrev pub unaryTag : ℕ → ℕ → ℕ
 unaryTag k t = cond (eqb k 16) (sumTag t) (logicalTag t)
 
--- "18 +, 19 -, 20 =, 21 /=, 22 <, 23 <=, 24 >, 25 >=, 26 and, 27 or, 28 xor"
+-- "18 +, 19 -, 20 =, 21 /=, 22 <, 23 <=, 24 >, 25 >=, 26 and, 27 or, 28 xor, 29 *, 30 /, 31 mod, 32 rem"
 abbrev pub binaryTag : ℕ → ℕ → ℕ
-binaryTag k t = cond (ltb k 20) (sumTag t) (cond (ltb k 22) (equalityTag t) (cond (ltb k 26) (orderTag t) (cond (ltb k 29) (logicalTag t) 3)))
+binaryTag k t = cond (ltb k 20) (sumTag t) (cond (ltb k 22) (equalityTag t) (cond (ltb k 26) (orderTag t) (cond (ltb k 29) (logicalTag t) (cond (ltb k 33) (sumTag t) 3))))
 
 -- "1 integer (4 bytes), 2 std_logic (1 byte), 3 input, 4 variable (1-byte index)": the tag of the leaf at the place `at` whose first byte is k
 unfoldable pub leafTag : List Ty → List Ty → List ℕ → ℕ → ℕ → ℕ

@@ -43,7 +43,7 @@ pub(crate) fn variable_type(signature: &[u8], k: usize) -> u8
     3
 }
 
-// The sign, + and -.
+// The sign, + - * / mod and rem.
 fn sum_type(t: u8) -> u8
     ensures { λ r. ⌜ r ≡ sumTag t ⌝ }
 {
@@ -102,6 +102,9 @@ fn binary_type(k: u8, t: u8) -> u8
     }
     if k < 29 {
         return logical_type(t);
+    }
+    if k < 33 {
+        return sum_type(t);
     }
     3
 }

@@ -8,7 +8,7 @@ use borrow.Author.Tests.{lt-ltb}
 use lib.ListN.{length}
 use lib.IntN.{ℤ, pos}
 use Rattle.design.specs.Types.{ExprTy, boolean}
-use Rattle.design.specs.Expression.{Leaf, int, bit, input, variable, Unary, sign, invert, Binary, plus, minus, equal, unequal, less, at-most, greater, at-least, and, or, xor, Expr, items, Out, fine, fault, bind}
+use Rattle.design.specs.Expression.{Leaf, int, bit, input, variable, Unary, sign, invert, Binary, plus, minus, equal, unequal, less, at-most, greater, at-least, and, or, xor, times, divide, modulo, remainder, Expr, items, Out, fine, fault, bind}
 use Rattle.design.proofs.Postfix.{stack-law}
 use Rattle.semantics.specs.Evaluation.{applyUnary, applyBinary, leafValue, values, evaluate}
 use Rattle.signed.specs.Signed.{checkedOf}
@@ -55,6 +55,10 @@ module _ (i v : List ℤ) where
   by-code and x y st = refl
   by-code or x y st = refl
   by-code xor x y st = refl
+  by-code times x y st = refl
+  by-code divide x y st = refl
+  by-code modulo x y st = refl
+  by-code remainder x y st = refl
 
   step-binary : (o : Binary) (t : ExprTy) (x y : ℤ) (st : List ℤ) → stepOf i v (op (binaryCode o) (pos 0)) (y ∷ x ∷ st) ≡ bind (applyBinary o t x y) (λ z. fine (z ∷ st))
   step-binary o t x y st = by-code o x y st ∙ (ap (λ (r : Out ℤ). pushed r st) (binary-any o t x y) ∙ pushed-is (applyBinary o t x y) st)

@@ -10,6 +10,7 @@ use Rattle.design.specs.Types.{boolean}
 use Rattle.design.specs.Expression.{Unary, sign, invert, Binary, plus, minus, equal, unequal, less, at-most, greater, at-least, and, or, xor, Out, fine, fault, bind}
 use Rattle.semantics.specs.Evaluation.{applyUnary, applyBinary}
 use Rattle.semantics.specs.Twos.{unsigned32}
+use Rattle.signed.specs.Signed.{scaling}
 use Rattle.ir.specs.Operations.{Op}
 use Rattle.ir.specs.Arrays.{opsFrom}
 
@@ -17,12 +18,12 @@ use Rattle.ir.specs.Arrays.{opsFrom}
 abbrev pub unaryFor : ℕ → Option Unary
 unaryFor k = cond (eqb k 16) (some sign) (cond (eqb k 17) (some invert) none)
 
--- "18 +, 19 -, 20 =, 21 /=, 22 <, 23 <=, 24 >, 25 >=, 26 and, 27 or, 28 xor"
+-- "18 +, 19 -, 20 =, 21 /=, 22 <, 23 <=, 24 >, 25 >=, 26 and, 27 or, 28 xor", "29 *, 30 /, 31 mod, 32 rem"
 abbrev pub binaryFor : ℕ → Option Binary
 binaryFor k =
     cond (eqb k 18) (some plus) (cond (eqb k 19) (some minus) (cond (eqb k 20) (some equal) (cond (eqb k 21) (some unequal)
     (cond (eqb k 22) (some less) (cond (eqb k 23) (some at-most) (cond (eqb k 24) (some greater) (cond (eqb k 25) (some at-least)
-    (cond (eqb k 26) (some and) (cond (eqb k 27) (some or) (cond (eqb k 28) (some xor) none))))))))))
+    (cond (eqb k 26) (some and) (cond (eqb k 27) (some or) (cond (eqb k 28) (some xor) (scaling k)))))))))))
 
 -- an operator applied; 13 where there is none. No operator's result depends on the type of its operands: see `unary-any` and `binary-any`.
 abbrev pub unaryOf : Option Unary → ℤ → Out ℤ

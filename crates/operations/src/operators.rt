@@ -62,6 +62,6 @@ pub(crate) fn binary(op: u8, x: i32, y: i32) -> Checked
         26 => logic(both(signed::is_one(x), signed::is_one(y))),
         27 => logic(either(signed::is_one(x), signed::is_one(y))),
         28 => logic(differs(signed::is_one(x), signed::is_one(y))),
-        _ => Checked::Refused(13),
+        _ => signed::scaled(op, x, y),
     }
 }

@@ -10,7 +10,6 @@ use Rattle.semantics.specs.Equations.{Memory, Run, Result, passed, reach
 use Rattle.semantics.specs.Way.{Ended, at-wait, at-operator}
 use Rattle.semantics.proofs.Basic.{eqb-same, or-left, or-right}
 use Rattle.semantics.proofs.Results.{then-passed, C-stops}
-use Rattle.semantics.proofs.Refusal.{refusal-16}
 
 -- where a wait is reached, P holds of its number
 abbrev Reaches : (ℕ → Type 0) → Result → Type 0
@@ -90,4 +89,4 @@ cycle-ends s c q i σ = go (cycle s q i σ) refl (cycle-reaches s q i σ)
     go : (r : Result) → cycle s q i σ ≡ r → Reaches (λ p. has s 0 p ≡ true) r → Ended s r
     go (passed τ) e h = absurd (cycle-stops s c q i σ τ e)
     go (reached p τ) e h = at-wait p τ h
-    go (refused x n) e h = rw (refusal-16 i s q σ x n e) (at-operator n)
+    go (refused x n) e h = at-operator x n

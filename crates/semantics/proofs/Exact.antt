@@ -6,9 +6,10 @@ use mathlib.Core.Path.{_≡_, refl, sym, ap, _∙_}
 use mathlib.Core.Bool.{Bool, true, false, cond}
 use mathlib.Core.Option.{Option, none, some}
 use mathlib.Core.List.{List}
-use lib.IntN.{ℤ}
-use Rattle.design.specs.Expression.{Expr, leaf, unary, binary, Out, fine, fault, fold, Unary, sign, invert, Binary, plus, minus, equal, unequal, less, at-most, greater, at-least, and, or, xor}
-use Rattle.design.specs.Types.{ExprTy, inRange}
+use lib.IntN.{ℤ, pos}
+use Rattle.design.specs.Expression.{Expr, leaf, unary, binary, Out, fine, fault, fold, Unary, sign, invert, Binary, plus, minus, equal, unequal, less, at-most, greater, at-least, and, or, xor, times, divide, modulo, remainder}
+use Rattle.design.specs.Types.{ExprTy, eqZ, inRange}
+use Rattle.semantics.specs.Division.{byNonzero}
 use Rattle.design.specs.Statement.{Stmt, C, classOf, LoopsC}
 use Rattle.semantics.specs.Evaluation.{unaryResult, binaryResult, asInteger, applyUnary, applyBinary, evaluate, exactValue}
 use Rattle.semantics.specs.Equations.{Run, reached, cycle}
@@ -30,6 +31,14 @@ asInteger-is x z e = go (inRange x) e
     go true h = fine-injective x z h
     go false h = fault-fine 16 z h
 
+nonzero-is : (y : ℤ) (o : Out ℤ) (z : ℤ) → byNonzero y o ≡ fine z → o ≡ fine z
+unfolding byNonzero
+nonzero-is y o z e = go (eqZ y (pos 0)) e
+  where
+    go : (b : Bool) → cond b (fault 18) o ≡ fine z → o ≡ fine z
+    go true h = fault-fine 18 z h
+    go false h = h
+
 unary-is : (o : Unary) (t : ExprTy) (x z : ℤ) → applyUnary o t x ≡ fine z → unaryResult o x ≡ z
 unfolding applyUnary
 unary-is sign t x z e = asInteger-is _ z e
@@ -48,6 +57,10 @@ binary-is at-least t x y z e = fine-injective _ z e
 binary-is and t x y z e = fine-injective _ z e
 binary-is or t x y z e = fine-injective _ z e
 binary-is xor t x y z e = fine-injective _ z e
+binary-is times t x y z e = asInteger-is _ z e
+binary-is divide t x y z e = asInteger-is _ z (nonzero-is y _ z e)
+binary-is modulo t x y z e = fine-injective _ z (nonzero-is y _ z e)
+binary-is remainder t x y z e = fine-injective _ z (nonzero-is y _ z e)
 
 -- An expression that is not refused has its exact value.
 pub value-exact : (e : Expr) (i v : List ℤ) (z : ℤ) → evaluate e i v ≡ fine z → z ≡ exactValue e i v

@@ -1,6 +1,7 @@
 pub mod Basic
 pub mod Slots
-pub mod Overflow
+pub mod Faults
+pub mod Divided
 pub mod Names
 pub mod Values
 pub mod Results

@@ -84,7 +84,7 @@ module _ (p : Process) where
           ≡ ofPerformed (rowAnswers ((o, m) ∷ rowsFrom p m (map fed cs))) (map rowCalled ((o, m) ∷ rowsFrom p m (map fed cs)))
       go (performed row way) m e = ap (λ (l : List (ω × declared.State)). (row, laid m) ∷ l) e
       go (row-refused x) m e = e
-      go (operator-refused n) m e = e
+      go (operator-refused q n) m e = e
 
   pub calls-printed : WellFormed p → (cs : List Call) → CallsPrinted p cs (equationCalls p (atFirst p) cs)
   unfolding printedRows publishedRows rows

@@ -19,7 +19,7 @@ use Rattle.semantics.specs.Rows.{Call, Kept, atFirst, wrongValue, rowRef
 use Rattle.semantics.specs.Values.{Values}
 use Rattle.semantics.specs.Way.{Ended, at-wait, at-operator}
 use Rattle.semantics.specs.InputRow.{Fitting, Wrong, Meets14}
-use Rattle.semantics.specs.Answer.{fresh, Answers, by-14, by-16, performs, Placed, Invariant, AllAnswer}
+use Rattle.semantics.specs.Answer.{fresh, Answers, by-14, by-operator, performs, Placed, Invariant, AllAnswer}
 use Rattle.semantics.proofs.Basic.{false-true, none-some, some-injective, eqb-true, eqb-same, and-left, and-right}
 use Rattle.semantics.proofs.Way.{cycle-way}
 use Rattle.semantics.proofs.Ends.{cycle-ends}
@@ -165,7 +165,7 @@ module _ (p : Process) (g : WellFormed p) (k : Kept) (c : Call) where
 
       at-end : rowRefusal p c ≡ none → (r : Result) → Ended (p .body) r → result ≡ r → Answers p k c (concluded r k)
       at-end e r (at-wait x τ h) q = performs x τ (not-14 e) q (cycle-way (p .body) (g .loops) (g .class) (k .place) (c .inputs) (fresh (k .memory)) τ x refl q)
-      at-end e r (at-operator n) q = by-16 n (not-14 e) (refusal-exactly (c .inputs) (p .body) (k .place) (fresh (k .memory)) n .0 q)
+      at-end e r (at-operator m n) q = by-operator m n (not-14 e) (refusal-exactly (c .inputs) m (p .body) (k .place) (fresh (k .memory)) n .0 q)
 
       go : (o : Option ℕ) → rowRefusal p c ≡ o → Answers p k c (judged o p k c)
       go none e = at-end e result (cycle-ends (p .body) (g .class) (k .place) (c .inputs) (fresh (k .memory))) refl
@@ -179,7 +179,7 @@ module _ (p : Process) (g : WellFormed p) (k : Kept) (c : Call) where
       at-end : rowRefusal p c ≡ none → (r : Result) → Ended (p .body) r → result ≡ r → Invariant p (concluded r k .1)
       at-end e r (at-wait x τ h) q =
           record { place = h; well-typed = cycle-well-typed p (c .inputs) (meets-none p c e .1) (g .typed) (k .place) (fresh (k .memory)) τ x (s .well-typed) q }
-      at-end e r (at-operator n) q = s
+      at-end e r (at-operator m n) q = s
 
       go : (o : Option ℕ) → rowRefusal p c ≡ o → Invariant p (judged o p k c .1)
       go none e = at-end e result (cycle-ends (p .body) (g .class) (k .place) (c .inputs) (fresh (k .memory))) refl

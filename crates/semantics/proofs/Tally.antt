@@ -28,7 +28,7 @@ trace =
     ∷ (performed (pos 0 ∷ []) (0 ∷ 1 ∷ 2 ∷ []), record { place = at 2; memory = record { outputs = pos 0 ∷ []; variables = pos 14 ∷ [] } })
     ∷ (performed (pos 14 ∷ []) (0 ∷ 3 ∷ 4 ∷ 5 ∷ []), record { place = at 5; memory = record { outputs = pos 14 ∷ []; variables = pos 0 ∷ [] } })
     ∷ (performed (pos 14 ∷ []) (0 ∷ 1 ∷ 2 ∷ []), record { place = at 2; memory = record { outputs = pos 14 ∷ []; variables = negsuc 4 ∷ [] } })
-    ∷ (operator-refused 1, record { place = at 2; memory = record { outputs = pos 14 ∷ []; variables = negsuc 4 ∷ [] } })
+    ∷ (operator-refused 16 1, record { place = at 2; memory = record { outputs = pos 14 ∷ []; variables = negsuc 4 ∷ [] } })
     ∷ (performed (pos 14 ∷ []) (0 ∷ 1 ∷ 2 ∷ []), record { place = at 2; memory = record { outputs = pos 14 ∷ []; variables = pos 15 ∷ [] } })
     ∷ []
 

@@ -1,6 +1,6 @@
 -- A typed expression over values of their types has a value of its type: by induction on the expression. Assumes nothing.
 use Prim.Native.Nat.{ℕ, zero, suc}
-use mathlib.Core.Path.{_≡_, refl, ap}
+use mathlib.Core.Path.{_≡_, refl, sym, ap}
 use mathlib.Core.Bool.{Bool, true, false, cond, not, _&&_, _||_}
 use mathlib.Core.Option.{Option, none, some}
 use mathlib.Core.List.{List, [], _∷_}
@@ -8,9 +8,12 @@ use lib.ListN.{length, getD, set}
 use lib.IntN.{ℤ, pos}
 use lib.Signed.{leZ, ltZ}
 use Rattle.design.specs.Types.{Ty, std-logic, integer, ExprTy, plain, boolean, sameType, eqZ, inRange, inType}
-use Rattle.design.specs.Expression.{Leaf, int, bit, input, variable, Unary, sign, invert, Binary, plus, minus, equal, unequal, less, at-most, greater, at-least, and, or, xor, Expr, leaf, unary, binary, fine, fault, fold, nth, plainly, sumType, orderType, equalityType, logicalType, unaryType, binaryType, leafType, given, given2, typeOf}
+use Rattle.design.specs.Expression.{Leaf, int, bit, input, variable, Unary, sign, invert, Binary, plus, minus, equal, unequal, less, at-most, greater, at-least, and, or, xor, times, divide, modulo, remainder, Expr, leaf, unary, binary, Out, fine, fault, fold, nth, plainly, sumType, orderType, equalityType, logicalType, unaryType, binaryType, leafType, given, given2, typeOf}
 use Rattle.semantics.specs.Evaluation.{bitOf, isOne, differ, unaryResult, binaryResult, asInteger, applyUnary, applyBinary, leafValue, evaluate}
 use Rattle.semantics.specs.Values.{ofType, Values}
+use Rattle.semantics.specs.Division.{byNonzero}
+use Rattle.design.proofs.Types.{sameType-eq}
+use Rattle.semantics.proofs.Divided.{rem-inside, mod-inside}
 use Rattle.semantics.proofs.Basic.{none-some, fault-fine, some-injective, fine-injective, bind-fine}
 
 pub values-length : (ts : List Ty) (l : List ℤ) → Values ts l → length l ≡ length ts
@@ -96,19 +99,46 @@ unfolding unaryType applyUnary unaryResult
 unary-in sign s t x z e h = sum-in s t _ z e h
 unary-in invert s t x z e h = logical-in (logical-logical s t e) (not (isOne x)) z h
 
-binary-in : (o : Binary) (s t : ExprTy) (x y z : ℤ) → binaryType o s ≡ some t → applyBinary o s x y ≡ fine z → ofType t z ≡ true
+-- of integers the remainder and the modulus are integers
+integer-is : (s t : ExprTy) (x : ℤ) → sumType s ≡ some t → ofType s x ≡ true → inRange x ≡ true
+unfolding sumType ofType inType
+integer-is (plain std-logic) t x e h = none-some t e
+integer-is (plain integer) t x e h = h
+integer-is boolean t x e h = none-some t e
+
+inside : (s t : ExprTy) (z : ℤ) → sumType s ≡ some t → inRange z ≡ true → ofType t z ≡ true
+unfolding ofType inType
+inside s t z e h = rw (← sum-integer s t e) h
+
+nonzero-in : (y : ℤ) (o : Out ℤ) (z : ℤ) → byNonzero y o ≡ fine z → (eqZ y (pos 0) ≡ false) × (o ≡ fine z)
+unfolding byNonzero
+nonzero-in y o z e = go (eqZ y (pos 0)) refl e
+  where
+    go : (b : Bool) → eqZ y (pos 0) ≡ b → cond b (fault 18) o ≡ fine z → (eqZ y (pos 0) ≡ false) × (o ≡ fine z)
+    go true q h = fault-fine 18 z h
+    go false q h = (q, h)
+
+binary-in : (o : Binary) (s t : ExprTy) (x y z : ℤ) → ofType s x ≡ true → ofType s y ≡ true → binaryType o s ≡ some t → applyBinary o s x y ≡ fine z → ofType t z ≡ true
 unfolding binaryType applyBinary binaryResult
-binary-in plus s t x y z e h = sum-in s t _ z e h
-binary-in minus s t x y z e h = sum-in s t _ z e h
-binary-in equal s t x y z e h = logical-in (equality-logical s t e) (eqZ x y) z h
-binary-in unequal s t x y z e h = logical-in (equality-logical s t e) (not (eqZ x y)) z h
-binary-in less s t x y z e h = logical-in (order-logical s t e) (ltZ x y) z h
-binary-in at-most s t x y z e h = logical-in (order-logical s t e) (leZ x y) z h
-binary-in greater s t x y z e h = logical-in (order-logical s t e) (ltZ y x) z h
-binary-in at-least s t x y z e h = logical-in (order-logical s t e) (leZ y x) z h
-binary-in and s t x y z e h = logical-in (logical-logical s t e) (isOne x && isOne y) z h
-binary-in or s t x y z e h = logical-in (logical-logical s t e) (isOne x || isOne y) z h
-binary-in xor s t x y z e h = logical-in (logical-logical s t e) (differ (isOne x) (isOne y)) z h
+binary-in plus s t x y z p q e h = sum-in s t _ z e h
+binary-in minus s t x y z p q e h = sum-in s t _ z e h
+binary-in equal s t x y z p q e h = logical-in (equality-logical s t e) (eqZ x y) z h
+binary-in unequal s t x y z p q e h = logical-in (equality-logical s t e) (not (eqZ x y)) z h
+binary-in less s t x y z p q e h = logical-in (order-logical s t e) (ltZ x y) z h
+binary-in at-most s t x y z p q e h = logical-in (order-logical s t e) (leZ x y) z h
+binary-in greater s t x y z p q e h = logical-in (order-logical s t e) (ltZ y x) z h
+binary-in at-least s t x y z p q e h = logical-in (order-logical s t e) (leZ y x) z h
+binary-in and s t x y z p q e h = logical-in (logical-logical s t e) (isOne x && isOne y) z h
+binary-in or s t x y z p q e h = logical-in (logical-logical s t e) (isOne x || isOne y) z h
+binary-in xor s t x y z p q e h = logical-in (logical-logical s t e) (differ (isOne x) (isOne y)) z h
+binary-in times s t x y z p q e h = sum-in s t _ z e h
+binary-in divide s t x y z p q e h = sum-in s t _ z e (nonzero-in y _ z h .1)
+binary-in modulo s t x y z p q e h =
+    let r = nonzero-in y _ z h in
+    rw (← fine-injective _ z (r .1)) (inside s t _ e (mod-inside x y (integer-is s t y e q) (r .0)))
+binary-in remainder s t x y z p q e h =
+    let r = nonzero-in y _ z h in
+    rw (← fine-injective _ z (r .1)) (inside s t _ e (rem-inside x y (integer-is s t x e p)))
 
 -- the operator's type where its operands have theirs
 pub given-is : (f : ExprTy → Option ExprTy) (s t : ExprTy) (o : Option ExprTy) → given f s o ≡ some t → f s ≡ some t
@@ -119,6 +149,25 @@ given-is f s t (some u) e = go (sameType s u) e
     go : (b : Bool) → cond b (f s) none ≡ some t → f s ≡ some t
     go true h = h
     go false h = none-some t h
+
+-- the operands have the type that the operator is given
+given-same : (f : ExprTy → Option ExprTy) (s t : ExprTy) (o : Option ExprTy) → given f s o ≡ some t → o ≡ some s
+unfolding given
+given-same f s t none e = none-some t e
+given-same f s t (some u) e = go (sameType s u) refl e
+  where
+    go : (b : Bool) → sameType s u ≡ b → cond b (f s) none ≡ some t → some u ≡ some s
+    go true q h = ap some (sym (sameType-eq s u q))
+    go false q h = none-some t h
+
+given2-same : (f : ExprTy → Option ExprTy) (s t : ExprTy) (o q : Option ExprTy) → given2 f s o q ≡ some t → (o ≡ some s) × (q ≡ some s)
+unfolding given2
+given2-same f s t none q e = none-some t e
+given2-same f s t (some u) q e = go (sameType s u) refl e
+  where
+    go : (b : Bool) → sameType s u ≡ b → cond b (given f s q) none ≡ some t → (some u ≡ some s) × (q ≡ some s)
+    go true m h = (ap some (sym (sameType-eq s u m)), given-same f s t q h)
+    go false m h = none-some t h
 
 pub given2-is : (f : ExprTy → Option ExprTy) (s t : ExprTy) (o q : Option ExprTy) → given2 f s o q ≡ some t → f s ≡ some t
 unfolding given2
@@ -157,4 +206,5 @@ module _ (is vs : List Ty) (i v : List ℤ) (hi : Values is i) (hv : Values vs v
   value-typed (binary o s a b) t z e h =
       let q = bind-fine _ _ z h in
       let r = bind-fine _ _ z (q .2) in
-      binary-in o s t (q .0) (r .0) z (given2-is _ s t _ _ e) (r .2)
+      let g = given2-same _ s t _ _ e in
+      binary-in o s t (q .0) (r .0) z (value-typed a s (q .0) (g .0) (q .1)) (value-typed b s (r .0) (g .1) (r .1)) (given2-is _ s t _ _ e) (r .2)

@@ -23,13 +23,13 @@ laid k = stateFor (number (k .place)) (k .memory)
 abbrev pub told : Outcome → Answer
 told (performed row way) = C.performed way
 told (row-refused place) = C.not-performed 14 place
-told (operator-refused line) = C.not-performed 16 line
+told (operator-refused q line) = C.not-performed q line
 
 -- the output row as it is left: all outputs, or as it was lent
 abbrev pub left : Outcome → List ℤ → List ℤ
 left (performed row way) o = row
 left (row-refused place) o = o
-left (operator-refused line) o = o
+left (operator-refused q line) o = o
 
 -- one call of the equations, seen as a call on an image
 abbrev pub seen : Outcome × Kept → Call → Called

@@ -2,10 +2,12 @@
 use mathlib.Core.Bool.{Bool, true, false, cond, not, _&&_, _||_}
 use mathlib.Core.List.{List}
 use lib.ListN.{getD}
-use lib.IntN.{ℤ, pos, _+ℤ_, _-ℤ_, negℤ}
-use lib.Signed.{leZ, ltZ}
+use lib.IntN.{ℤ, pos, _+ℤ_, _-ℤ_, _*ℤ_, negℤ}
+use lib.Signed.{leZ, ltZ, quotZ, remZ}
 use Rattle.design.specs.Types.{ExprTy, eqZ, inRange}
-use Rattle.design.specs.Expression.{Leaf, int, bit, input, variable, Unary, sign, invert, Binary, plus, minus, equal, unequal, less, at-most, greater, at-least, and, or, xor, Expr, leaf, unary, binary, Out, fine, fault, Algebra, fold}
+use Rattle.design.specs.Expression.{Leaf, int, bit, input, variable, Unary, sign, invert, Binary, plus, minus, equal, unequal, less, at-most, greater, at-least, and, or, xor, times, divide, modulo, remainder, Expr, leaf, unary, binary, Out, fine, fault, Algebra, fold}
+
+use Rattle.semantics.specs.Division.{modZ, byNonzero}
 
 -- "std_logic (0, 1)"; a boolean is 0 where it is false, 1 where it is true
 abbrev pub bitOf : Bool → ℤ
@@ -39,6 +41,10 @@ binaryResult at-least x y = bitOf (leZ y x)
 binaryResult and x y = bitOf (isOne x && isOne y)
 binaryResult or x y = bitOf (isOne x || isOne y)
 binaryResult xor x y = bitOf (differ (isOne x) (isOne y))
+binaryResult times x y = x *ℤ y
+binaryResult divide x y = quotZ x y
+binaryResult modulo x y = modZ x y
+binaryResult remainder x y = remZ x y
 
 -- 16: "result of `+`, `-` or sign outside integer"
 unfoldable pub asInteger : ℤ → Out ℤ
@@ -62,6 +68,10 @@ applyBinary at-least t x y = fine (binaryResult at-least x y)
 applyBinary and t x y = fine (binaryResult and x y)
 applyBinary or t x y = fine (binaryResult or x y)
 applyBinary xor t x y = fine (binaryResult xor x y)
+applyBinary times t x y = asInteger (binaryResult times x y)
+applyBinary divide t x y = byNonzero y (asInteger (binaryResult divide x y))
+applyBinary modulo t x y = byNonzero y (fine (binaryResult modulo x y))
+applyBinary remainder t x y = byNonzero y (fine (binaryResult remainder x y))
 
 -- "Inputs and variables may be read": i is the input row, v are the variables
 unfoldable pub leafValue : List ℤ → List ℤ → Leaf → ℤ

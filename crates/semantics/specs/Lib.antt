@@ -8,7 +8,8 @@ pub mod Denotation
 pub mod Automaton
 pub mod Correspondence
 pub mod PublishedRows
-pub mod Overflow
+pub mod Division
+pub mod Faults
 pub mod Refusal
 pub mod InputRow
 pub mod Names

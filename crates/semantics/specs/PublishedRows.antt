@@ -32,7 +32,7 @@ keptOf s k = record { place = placeOf s (k .control); memory = record { outputs 
 -- what a cycle answers, and the state after it, where k was the state before
 unfoldable pub concludedPublished : (s : Stmt) → Step (ω × φ × Option (Waits s)) → State s → Outcome × State s
 concludedPublished s (ends r w) k = (performed (r .0) w, stateOf s r)
-concludedPublished s (stops q n) k = (operator-refused n, k)
+concludedPublished s (stops q n) k = (operator-refused q n, k)
 
 -- one call: a row that meets 14 is refused, otherwise a cycle follows
 unfoldable pub judgedPublished : Option ℕ → (p : Process) → State (p .body) → Call → Outcome × State (p .body)

@@ -9,47 +9,47 @@ use lib.IntN.{ℤ}
 use Rattle.design.specs.Expression.{fine}
 use Rattle.design.specs.Statement.{Act, output, variable, null, Stmt, act, wait, if-then, if-else, while, seq, size, has}
 use Rattle.semantics.specs.Equations.{Memory, Run, passed, holds, log, start, resume, Place, beginning, at, enter}
-use Rattle.semantics.specs.Overflow.{Overflows}
+use Rattle.semantics.specs.Faults.{Faults}
 
 -- the expression of an assignment overflows
-unfoldable pub ActOverflows : List ℤ → Memory → Act → Type 0
-ActOverflows i m (output k e) = Overflows i (m .variables) e
-ActOverflows i m (variable k e) = Overflows i (m .variables) e
-ActOverflows i m null = ⊥
+unfoldable pub ActFaults : List ℤ → Memory → Act → ℕ → Type 0
+ActFaults i m (output k e) q = Faults i (m .variables) e q
+ActFaults i m (variable k e) q = Faults i (m .variables) e q
+ActFaults i m null q = ⊥
 
 -- s, whose first number is n, is started: its own expression overflows, x being its number; or a part that is started in turn overflows
-unfoldable pub StartOverflows : List ℤ → Stmt → ℕ → Run → ℕ → Type 0
-StartOverflows i (act a) n σ x = (x ≡ n) × ActOverflows i (σ .memory) a
-StartOverflows i wait n σ x = ⊥
-StartOverflows i (if-then e a) n σ x =
-    ((x ≡ n) × Overflows i (σ .memory .variables) e) ⊎ ((holds e i (σ .memory) ≡ fine true) × StartOverflows i a (suc n) (log n σ) x)
-StartOverflows i (if-else e a b) n σ x =
-    ((x ≡ n) × Overflows i (σ .memory .variables) e)
-    ⊎ (((holds e i (σ .memory) ≡ fine true) × StartOverflows i a (suc n) (log n σ) x)
-    ⊎ ((holds e i (σ .memory) ≡ fine false) × StartOverflows i b (suc n + size a) (log n σ) x))
-StartOverflows i (while e b) n σ x =
-    ((x ≡ n) × Overflows i (σ .memory .variables) e) ⊎ ((holds e i (σ .memory) ≡ fine true) × StartOverflows i b (suc n) (log n σ) x)
-StartOverflows i (seq a b) n σ x =
-    StartOverflows i a n σ x ⊎ ((τ : Run) × (start a n i σ ≡ passed τ) × StartOverflows i b (n + size a) τ x)
+unfoldable pub StartFaults : List ℤ → Stmt → ℕ → Run → ℕ → ℕ → Type 0
+StartFaults i (act a) n σ q x = (x ≡ n) × ActFaults i (σ .memory) a q
+StartFaults i wait n σ q x = ⊥
+StartFaults i (if-then e a) n σ q x =
+    ((x ≡ n) × Faults i (σ .memory .variables) e q) ⊎ ((holds e i (σ .memory) ≡ fine true) × StartFaults i a (suc n) (log n σ) q x)
+StartFaults i (if-else e a b) n σ q x =
+    ((x ≡ n) × Faults i (σ .memory .variables) e q)
+    ⊎ (((holds e i (σ .memory) ≡ fine true) × StartFaults i a (suc n) (log n σ) q x)
+    ⊎ ((holds e i (σ .memory) ≡ fine false) × StartFaults i b (suc n + size a) (log n σ) q x))
+StartFaults i (while e b) n σ q x =
+    ((x ≡ n) × Faults i (σ .memory .variables) e q) ⊎ ((holds e i (σ .memory) ≡ fine true) × StartFaults i b (suc n) (log n σ) q x)
+StartFaults i (seq a b) n σ q x =
+    StartFaults i a n σ q x ⊎ ((τ : Run) × (start a n i σ ≡ passed τ) × StartFaults i b (n + size a) τ q x)
 
 -- s is resumed at its wait p: the part with the wait overflows when resumed, or what comes after it when started
-unfoldable pub ResumeOverflows : List ℤ → Stmt → ℕ → ℕ → Run → ℕ → Type 0
-ResumeOverflows i (act a) n p σ x = ⊥
-ResumeOverflows i wait n p σ x = ⊥
-ResumeOverflows i (if-then e a) n p σ x = ResumeOverflows i a (suc n) p σ x
-ResumeOverflows i (if-else e a b) n p σ x =
-    ((has a (suc n) p ≡ true) × ResumeOverflows i a (suc n) p σ x) ⊎ ((has a (suc n) p ≡ false) × ResumeOverflows i b (suc n + size a) p σ x)
-ResumeOverflows i (while e b) n p σ x =
-    ResumeOverflows i b (suc n) p σ x ⊎ ((τ : Run) × (resume b (suc n) p i σ ≡ passed τ) × StartOverflows i (while e b) n τ x)
-ResumeOverflows i (seq a b) n p σ x =
-    ((has a n p ≡ true) × (ResumeOverflows i a n p σ x ⊎ ((τ : Run) × (resume a n p i σ ≡ passed τ) × StartOverflows i b (n + size a) τ x)))
-    ⊎ ((has a n p ≡ false) × ResumeOverflows i b (n + size a) p σ x)
+unfoldable pub ResumeFaults : List ℤ → Stmt → ℕ → ℕ → Run → ℕ → ℕ → Type 0
+ResumeFaults i (act a) n p σ q x = ⊥
+ResumeFaults i wait n p σ q x = ⊥
+ResumeFaults i (if-then e a) n p σ q x = ResumeFaults i a (suc n) p σ q x
+ResumeFaults i (if-else e a b) n p σ q x =
+    ((has a (suc n) p ≡ true) × ResumeFaults i a (suc n) p σ q x) ⊎ ((has a (suc n) p ≡ false) × ResumeFaults i b (suc n + size a) p σ q x)
+ResumeFaults i (while e b) n p σ q x =
+    ResumeFaults i b (suc n) p σ q x ⊎ ((τ : Run) × (resume b (suc n) p i σ ≡ passed τ) × StartFaults i (while e b) n τ q x)
+ResumeFaults i (seq a b) n p σ q x =
+    ((has a n p ≡ true) × (ResumeFaults i a n p σ q x ⊎ ((τ : Run) × (resume a n p i σ ≡ passed τ) × StartFaults i b (n + size a) τ q x)))
+    ⊎ ((has a n p ≡ false) × ResumeFaults i b (n + size a) p σ q x)
 
 -- the body is started, or resumed at the wait that is the place
-unfoldable pub EnterOverflows : List ℤ → Stmt → Place → Run → ℕ → Type 0
-EnterOverflows i s beginning σ x = StartOverflows i s 0 σ x
-EnterOverflows i s (at p) σ x = ResumeOverflows i s 0 p σ x
+unfoldable pub EnterFaults : List ℤ → Stmt → Place → Run → ℕ → ℕ → Type 0
+EnterFaults i s beginning σ q x = StartFaults i s 0 σ q x
+EnterFaults i s (at p) σ q x = ResumeFaults i s 0 p σ q x
 
 -- a cycle: the body overflows when it is entered or, once it is passed, when it is started again
-unfoldable pub CycleOverflows : List ℤ → Stmt → Place → Run → ℕ → Type 0
-CycleOverflows i s q σ x = EnterOverflows i s q σ x ⊎ ((τ : Run) × (enter s q i σ ≡ passed τ) × StartOverflows i s 0 τ x)
+unfoldable pub CycleFaults : List ℤ → Stmt → Place → Run → ℕ → ℕ → Type 0
+CycleFaults i s c σ q x = EnterFaults i s c σ q x ⊎ ((τ : Run) × (enter s c i σ ≡ passed τ) × StartFaults i s 0 τ q x)

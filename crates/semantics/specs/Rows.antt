@@ -41,19 +41,19 @@ rowRefusal p c =
 pub data Outcome : Type 0 where
   performed : (row : List ℤ) (way : List ℕ) → Outcome
   row-refused : (place : ℕ) → Outcome
-  operator-refused : (line : ℕ) → Outcome
+  operator-refused : (number line : ℕ) → Outcome
 
 -- the refusal's number and place as the table "Turned back" has them
 unfoldable pub refusal : Outcome → Option (ℕ × ℕ)
 refusal (performed row way) = none
 refusal (row-refused place) = some (14, place)
-refusal (operator-refused line) = some (16, line)
+refusal (operator-refused q line) = some (q, line)
 
 -- the output row, where the row is performed
 unfoldable pub outputRow : Outcome → Option (List ℤ)
 outputRow (performed row way) = some row
 outputRow (row-refused place) = none
-outputRow (operator-refused line) = none
+outputRow (operator-refused q line) = none
 
 -- what a cycle's result answers, and what is kept after it, where k was kept before
 unfoldable pub concluded : Result → Kept → Outcome × Kept
@@ -62,7 +62,7 @@ concluded (passed σ) k = (performed (σ .memory .outputs) (σ .way), record { p
 -- "The wait reached becomes the place and ends the cycle; the output row gets all outputs, what the cycle assigned included."
 concluded (reached p σ) k = (performed (σ .memory .outputs) (σ .way), record { place = at p; memory = σ .memory })
 -- "A refused operator (16) refuses the row ..; all that is kept is then as before the row." The number q is 16: see `refusal-16`.
-concluded (refused q n) k = (operator-refused n, k)
+concluded (refused q n) k = (operator-refused q n, k)
 
 -- "A row that meets 14 is refused. Otherwise the data inputs (all but the clock) hold it", and a cycle follows
 unfoldable pub judged : Option ℕ → Process → Kept → Call → Outcome × Kept

@@ -15,7 +15,7 @@ Distinct (x ∷ w) = (List·Memᴰ x w → ⊥) × Distinct w
 -- a cycle ends at a wait of the body s, or is refused by 16; it is never passed
 pub data Ended (s : Stmt) : Result → Type 0 where
   at-wait : (p : ℕ) (σ : Run) → has s 0 p ≡ true → Ended s (reached p σ)
-  at-operator : (n : ℕ) → Ended s (refused 16 n)
+  at-operator : (q n : ℕ) → Ended s (refused q n)
 
 -- a way has numbers of the text's statements, none twice, so at most as many as the text has statements
 pub record Path (s : Stmt) (way : List ℕ) : Type 0 where

@@ -2,7 +2,7 @@
 -- Assumes nothing.
 use Prim.Native.Nat.{ℕ, _<_}
 use native.Mathlib.Omega.{arith}
-use mathlib.Core.Path.{_≡_, refl, sym, _∙_}
+use mathlib.Core.Path.{_≡_, refl, sym, subst}
 use mathlib.Core.Logic.{_⊎_, inl, inr}
 use mathlib.Core.Bool.{Bool, true, false}
 use mathlib.Core.List.{List, [], _∷_, _++_}
@@ -11,27 +11,28 @@ use Rattle.design.specs.Expression.{Expr, Out, fine, fault, bind}
 use Rattle.design.specs.Statement.{Act, output, variable, null}
 use Rattle.semantics.specs.Equations.{Memory, Run, Result, reached, refused, perform, holds, log, then, acted, tested}
 use Rattle.semantics.proofs.Basic.{fault-fine, fault-injective}
-use Rattle.semantics.proofs.Overflow.{fault-16}
+use Rattle.semantics.specs.Faults.{OperatorNumber}
+use Rattle.semantics.proofs.Faults.{fault-number}
 use Rattle.format.specs.Lines.{Line, waits, acts, branches, reach, reachOf}
 use Rattle.format.specs.Walk.{step}
 use Rattle.simulation.specs.Ranked.{Followers}
 
 -- Refusals.
 
-bind-16 : {Y : Type 0} (o : Out ℤ) (f : ℤ → Y) → ((q : ℕ) → o ≡ fault q → q ≡ 16) → (q : ℕ) → bind o (λ z. fine (f z)) ≡ fault q → q ≡ 16
+bind-number : {Y : Type 0} (o : Out ℤ) (f : ℤ → Y) → ((q : ℕ) → o ≡ fault q → OperatorNumber q) → (q : ℕ) → bind o (λ z. fine (f z)) ≡ fault q → OperatorNumber q
 unfolding bind
-bind-16 (fine z) f h q e = fault-fine q (f z) (sym e)
-bind-16 {Y} (fault n) f h q e = sym (fault-injective {X = Y} n q e) ∙ h n refl
+bind-number (fine z) f h q e = fault-fine q (f z) (sym e)
+bind-number {Y} (fault n) f h q e = subst OperatorNumber (fault-injective {X = Y} n q e) (h n refl)
 
-perform-16 : (a : Act) (i : List ℤ) (m : Memory) (q : ℕ) → perform a i m ≡ fault q → q ≡ 16
+perform-number : (a : Act) (i : List ℤ) (m : Memory) (q : ℕ) → perform a i m ≡ fault q → OperatorNumber q
 unfolding perform
-perform-16 (output k e) i m q h = bind-16 _ _ (fault-16 i (m .variables) e) q h
-perform-16 (variable k e) i m q h = bind-16 _ _ (fault-16 i (m .variables) e) q h
-perform-16 null i m q h = fault-fine q m (sym h)
+perform-number (output k e) i m q h = bind-number _ _ (fault-number i (m .variables) e) q h
+perform-number (variable k e) i m q h = bind-number _ _ (fault-number i (m .variables) e) q h
+perform-number null i m q h = fault-fine q m (sym h)
 
-holds-16 : (e : Expr) (i : List ℤ) (m : Memory) (q : ℕ) → holds e i m ≡ fault q → q ≡ 16
+holds-number : (e : Expr) (i : List ℤ) (m : Memory) (q : ℕ) → holds e i m ≡ fault q → OperatorNumber q
 unfolding holds
-holds-16 e i m q h = bind-16 _ _ (fault-16 i (m .variables) e) q h
+holds-number e i m q h = bind-number _ _ (fault-number i (m .variables) e) q h
 
 -- Followers.
 
@@ -58,7 +59,7 @@ next-inside n (branches e f g) c i m m′ z (h, inr q) = rw q (c .1)
 
 -- What holds of a line performed: P of its wait, of its refusal, and of what is done at each follower.
 pub step-holds : (P : Result → Type 0) (l : Line) (x : ℕ) (i : List ℤ) (σ : Run) (go : ℕ → Run → Result)
-    → ((f : ℕ) → l ≡ waits f → P (reached x (log x σ))) → P (refused 16 x)
+    → ((f : ℕ) → l ≡ waits f → P (reached x (log x σ))) → ((q : ℕ) → OperatorNumber q → P (refused q x))
     → ((z : ℕ) (m : Memory) → Next l i (σ .memory) m z → P (go z (record { way = σ .way ++ (x ∷ []); memory = m }))) → P (step l x i σ go)
 unfolding step log then acted tested
 step-holds P (waits f) x i σ go w b h = w f refl
@@ -66,10 +67,10 @@ step-holds P (acts a f) x i σ go w b h = by (perform a i (σ .memory)) refl
   where
     by : (v : Out Memory) → perform a i (σ .memory) ≡ v → P (then (acted v x σ) (go f))
     by (fine m) e = h f m (e, refl)
-    by (fault q) e = rw (perform-16 a i (σ .memory) q e) b
+    by (fault q) e = b q (perform-number a i (σ .memory) q e)
 step-holds P (branches c f g) x i σ go w b h = by (holds c i (σ .memory)) refl
   where
     by : (v : Out Bool) → holds c i (σ .memory) ≡ v → P (tested v x σ (go f) (go g))
     by (fine true) e = h f (σ .memory) (refl, inl refl)
     by (fine false) e = h g (σ .memory) (refl, inr refl)
-    by (fault q) e = rw (holds-16 c i (σ .memory) q e) b
+    by (fault q) e = b q (holds-number c i (σ .memory) q e)

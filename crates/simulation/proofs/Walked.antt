@@ -72,7 +72,7 @@ module _ (t : List Line) (r : List ℕ) (ranked : Ranked t r) (i : List ℤ) whe
   unfolding walk log
   walk-ends zero x σ τ lt = absurd (omega arith)
   walk-ends (suc k) x σ τ lt =
-      step-holds (λ z. z ≡ passed τ → ⊥) (line t x) x i σ _ (λ f e. reached-passed x _ τ) (refused-passed 16 x τ)
+      step-holds (λ z. z ≡ passed τ → ⊥) (line t x) x i σ _ (λ f e. reached-passed x _ τ) (λ q o. refused-passed q x τ)
       (λ z m n. let low = next-falls r x (line t x) (ranked-equation t r ranked x) i _ m z n in walk-ends k z _ τ (omega arith))
 
   walked-from : (x k y : ℕ) (σ : Run) → reach r y < k → Before t r x y (σ .way) → Walked t r x (walk t i k y σ)
@@ -80,7 +80,7 @@ module _ (t : List Line) (r : List ℕ) (ranked : Ranked t r) (i : List ℤ) whe
   walked-from x zero y σ lt b = absurd (omega arith)
   walked-from x (suc k) y σ lt b =
       step-holds (Walked t r x) (line t y) y i σ _
-      (λ f e. waits-at y _ (σ .way) refl (record { inside = b .here; follower = f; waiting = e }) (way-after t r x y (σ .way) b)) (refuses-at y (b .here))
+      (λ f e. waits-at y _ (σ .way) refl (record { inside = b .here; follower = f; waiting = e }) (way-after t r x y (σ .way) b)) (λ q o. refuses-at q y o (b .here))
       (λ z m n.
       let low = next-falls r y (line t y) (ranked .reaches y (b .here)) i _ m z n in
       walked-from x k z _ (omega arith)

@@ -41,4 +41,4 @@ cycle-bound s c g z q v i σ τ p e h = go (cycle s q i σ) h (cycle-walks s c g
     go : (r : Result) → r ≡ reached p τ → Walked (linesOf s) (reachesOf s) (from (linesOf s) (number q)) r
         → length (τ .way) ≤ suc (reach (reachesOf s) (from (linesOf s) (number q)))
     go r y (waits-at p′ ρ w k a b) = let same : ρ ≡ τ = cc in rw same at (b .short)
-    go r y (refuses-at n k) = absurd (let u : _≡_ {A = ℕ} 0 1 = cc in omega arith)
+    go r y (refuses-at q n o k) = absurd (let u : _≡_ {A = ℕ} 0 1 = cc in omega arith)

@@ -4,6 +4,7 @@ use mathlib.Core.List.{List, [], _∷_, _++_, List·Memᴰ}
 use Prim.Native.Nat.{ℕ, suc, _≤_, _<_}
 use lib.ListN.{length}
 use Rattle.semantics.specs.Equations.{Run, Result, reached, refused}
+use Rattle.semantics.specs.Faults.{OperatorNumber}
 use Rattle.format.specs.Lines.{Line, waits, line, reach}
 use Rattle.semantics.specs.Way.{Distinct}
 
@@ -23,4 +24,4 @@ pub record WayFrom (t : List Line) (r : List ℕ) (x : ℕ) (way : List ℕ) : T
 -- A wait is reached, "the wait it ends on included" in the way as its last line, or an operator of a line is refused by 16; nothing else.
 pub data Walked (t : List Line) (r : List ℕ) (x : ℕ) : Result → Type 0 where
   waits-at : (p : ℕ) (σ : Run) (before : List ℕ) → σ .way ≡ before ++ (p ∷ []) → WaitAt t p → WayFrom t r x (σ .way) → Walked t r x (reached p σ)
-  refuses-at : (n : ℕ) → n < length t → Walked t r x (refused 16 n)
+  refuses-at : (q n : ℕ) → OperatorNumber q → n < length t → Walked t r x (refused q n)

@@ -20,7 +20,7 @@ use Rattle.language.proofs.WellFormed.{valid-well-formed}
 use Rattle.semantics.specs.Equations as Equations
 use Rattle.semantics.specs.Rows.{Kept, Outcome, rowRefusal, concluded, judged, row}
 use Rattle.semantics.specs.InputRow.{Meets14}
-use Rattle.semantics.specs.Refusal.{CycleOverflows}
+use Rattle.semantics.specs.Refusal.{CycleFaults}
 use Rattle.semantics.specs.Answer.{Answers}
 use Rattle.semantics.specs.Answer as A
 use Rattle.semantics.specs.Records.{Started, fresh, not-started}
@@ -130,9 +130,9 @@ module _ (image : List ℕ) (h : Bytes image) (q k : ℕ) where
     cycle-back (P.CycleRefused.by-state t e m n f j) =
         let z : rowOf t s (c .inputs) (c .outputs) .answer ≡ not-performed 15 0 = rw (no-row t m, bad-state t (opens-exactly image t h .0 e .1) n) in
         ap (λ (r : Called). r .answer) (opened-row t e) ∙ (z ∙ (ap (λ (x : ℕ). not-performed x 0) (sym f) ∙ ap (λ (x : ℕ). not-performed q x) (sym j)))
-    cycle-back (P.CycleRefused.by-operator t e m g y f) =
-        let z : rowOf t s (c .inputs) (c .outputs) .answer ≡ not-performed 16 k = rw (no-row t m, state-exactly t (opens-exactly image t h .0 e .1) s .1 g, y) in
-        ap (λ (r : Called). r .answer) (opened-row t e) ∙ (z ∙ ap (λ (n : ℕ). not-performed n k) (sym f))
+    cycle-back (P.CycleRefused.by-operator t e m g y) =
+        let z : rowOf t s (c .inputs) (c .outputs) .answer ≡ not-performed q k = rw (no-row t m, state-exactly t (opens-exactly image t h .0 e .1) s .1 g, y) in
+        ap (λ (r : Called). r .answer) (opened-row t e) ∙ z
 
     on-outcome : (t : Table) → openOf image ≡ opened t → (r : Called) → O.Outcome t s (c .inputs) (c .outputs) r → r .answer ≡ not-performed q k → P.CycleRefused image s c q k
     on-outcome t o _ (O.row-refused x m) e =
@@ -143,10 +143,10 @@ module _ (image : List ℕ) (h : Bytes image) (q k : ℕ) where
         let a : q ≡ 15 = cc in
         let b : k ≡ 0 = cc in
         P.CycleRefused.by-state t o m g a b
-    on-outcome t o _ (O.operator-refused x m g l y) e =
-        let a : q ≡ 16 = cc in
+    on-outcome t o _ (O.operator-refused n x u m g l y) e =
+        let a : n ≡ q = cc in
         let b : x ≡ k = cc in
-        P.CycleRefused.by-operator t o m g (y ∙ ap (λ (n : ℕ). Equations.refused 16 n) b) a
+        P.CycleRefused.by-operator t o m g (y ∙ (ap (λ (w : ℕ). Equations.refused w x) a ∙ ap (λ (w : ℕ). Equations.refused q w) b))
     on-outcome t o _ (O.performs p τ m g y w z n l) e = absurd (let x : _≡_ {A = ℕ} 0 1 = cc in omega arith)
 
     on-runs : (r : Called) → P.Runs image s c r → r .answer ≡ not-performed q k → P.CycleRefused image s c q k
@@ -186,7 +186,7 @@ module _ (text : List ℕ) (q k : ℕ) where
         go (some x) e = absurd (m x (meets-14-exactly d (fed c) x .0 e))
 
     overflows-row : (d : Process) (g : Kept) → rowRefusal d (fed c) ≡ none
-        → Equations.cycle (d .body) (g .place) (c .inputs) (record { way = []; memory = g .memory }) ≡ Equations.refused 16 k → told (row d g (fed c) .0) ≡ not-performed 16 k
+        → Equations.cycle (d .body) (g .place) (c .inputs) (record { way = []; memory = g .memory }) ≡ Equations.refused q k → told (row d g (fed c) .0) ≡ not-performed q k
     unfolding row judged concluded
     overflows-row d g n e = rw (n, e)
 
@@ -199,19 +199,21 @@ module _ (text : List ℕ) (q k : ℕ) where
     direct-back (P.DirectRefused.by-state d v m n e f) =
         ap (λ (r : Called). r .answer) (accepted-row d v ∙ direct-15 d (valid-well-formed v) s c (no-14 d m) n)
         ∙ (ap (λ (x : ℕ). not-performed x 0) (sym e) ∙ ap (λ (x : ℕ). not-performed q x) (sym f))
-    direct-back (P.DirectRefused.by-operator d v m g o e) =
+    direct-back (P.DirectRefused.by-operator d v m g o) =
         let w = valid-well-formed v in
         let y : directRow d s c ≡ seen (row d (g .kept) (fed c)) c = subst (λ (z : State). directRow d z c ≡ seen (row d (g .kept) (fed c)) c) (g .layout) (direct-row d w (g .kept) (g .invariant) c) in
-        let x = refusal-exactly (c .inputs) (d .body) (g .kept .place) (record { way = []; memory = g .kept .memory }) k .1 o in
-        ap (λ (r : Called). r .answer) (accepted-row d v ∙ y) ∙ (overflows-row d (g .kept) (no-14 d m) x ∙ ap (λ (n : ℕ). not-performed n k) (sym e))
+        let x = refusal-exactly (c .inputs) q (d .body) (g .kept .place) (record { way = []; memory = g .kept .memory }) k .1 o in
+        ap (λ (r : Called). r .answer) (accepted-row d v ∙ y) ∙ overflows-row d (g .kept) (no-14 d m) x
 
     on-answers : (d : Process) → Valid text d → ((x : ℕ) → Meets14 d (fed c) x → ⊥) → (g : Described d s) (r : Outcome × Kept) → Answers d (g .kept) (fed c) r
         → told (r .0) ≡ not-performed q k → P.DirectRefused text s c q k
     on-answers d v m g r (A.by-14 x y) e = absurd (m x y)
-    on-answers d v m g r (A.by-16 n y o) e =
-        let a : q ≡ 16 = cc in
+    on-answers d v m g r (A.by-operator j n y o) e =
+        let a : j ≡ q = cc in
         let b : n ≡ k = cc in
-        P.DirectRefused.by-operator d v m g (subst (CycleOverflows (c .inputs) (d .body) (g .kept .place) (record { way = []; memory = g .kept .memory })) b o) a
+        P.DirectRefused.by-operator d v m g
+        (subst (CycleFaults (c .inputs) (d .body) (g .kept .place) (record { way = []; memory = g .kept .memory }) q) b
+        (subst (λ (w : ℕ). CycleFaults (c .inputs) (d .body) (g .kept .place) (record { way = []; memory = g .kept .memory }) w n) a o))
     on-answers d v m g r (A.performs x τ y z w) e = absurd (let u : _≡_ {A = ℕ} 0 1 = cc in omega arith)
 
     on-text : (r : Called) → P.RunsText text s c r → r .answer ≡ not-performed q k → P.DirectRefused text s c q k

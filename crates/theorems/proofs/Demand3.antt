@@ -15,7 +15,7 @@ use Rattle.language.specs.Verdict.{Verdict, accepted, refused, verdict}
 use Rattle.language.proofs.Judged.{accepts}
 use Rattle.language.proofs.WellFormed.{valid-well-formed}
 use Rattle.semantics.specs.Rows.{Kept, Outcome, row, atFirst}
-use Rattle.semantics.specs.Answer.{Invariant, Answers, by-14, by-16, performs, fresh}
+use Rattle.semantics.specs.Answer.{Invariant, Answers, by-14, by-operator, performs, fresh}
 use Rattle.semantics.proofs.Rows.{first-invariant, row-answers, row-invariant}
 use Rattle.format.specs.Opening.{opened, openOf}
 use Rattle.format.specs.State.{freshFrom, freshOf}
@@ -58,7 +58,7 @@ module _ (p : Process) (w : WellFormed p) (o : openOf (encode p) ≡ opened (tab
     where
       go : (r : Outcome × Kept) → Answers p k (fed c) r → Short p (laid k .place) (told (r .0))
       go r (by-14 x m) = tt
-      go r (by-16 n m q) = tt
+      go r (by-operator j n m q) = tt
       go r (performs x τ m e y) = (y .distinct, y .short, cycle-bound (p .body) (w .class) (w .loops) (w .statements) (k .place) (v .place) (c .inputs) (fresh (k .memory)) τ x refl e)
 
   ways-short : (cs : List Call) (k : Kept) → Invariant p k → AllShort p (laid k) (equationCalls p k cs)

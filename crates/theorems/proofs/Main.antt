@@ -1,5 +1,6 @@
 -- The promises, each proved in a few lines from the theorems below. Assumes nothing.
 use mathlib.Core.Path.{_≡_, refl, sym, _∙_, ap, subst}
+use mathlib.Core.Logic.{⊎-elim}
 use mathlib.Core.List.{List, [], _∷_}
 use Prim.Native.Nat.{ℕ, _≤_}
 use native.Mathlib.Omega.{arith}
@@ -126,13 +127,13 @@ refused-performs q x way e = let z : _≡_ {A = ℕ} 0 1 = cc in omega arith
 not-15 : (t : Table) (s : State) (d : Call) (r : Called) (k : ℕ) → GoodState t s → Outcome t s (d .inputs) (d .outputs) r → r .answer ≡ not-performed 15 k → ⊥
 not-15 t s d r k g (row-refused x m) e = let z : _≡_ {A = ℕ} 14 15 = cc in omega arith
 not-15 t s d r k g (state-refused m b) e = b g
-not-15 t s d r k g (operator-refused x m b l q) e = let z : _≡_ {A = ℕ} 16 15 = cc in omega arith
+not-15 t s d r k g (operator-refused q x o m b l y) e = let z : q ≡ 15 = cc in ⊎-elim (λ (h : q ≡ 16). let u : _≡_ {A = ℕ} 16 15 = sym h ∙ z in omega arith) (λ (h : q ≡ 18). let u : _≡_ {A = ℕ} 18 15 = sym h ∙ z in omega arith) o
 not-15 t s d r k g (performs p τ m b q w y n l) e = let z : _≡_ {A = ℕ} 0 1 = cc in omega arith
 
 returns-good : (t : Table) (s : State) (c : Call) (r : Called) (way : List ℕ) → Outcome t s (c .inputs) (c .outputs) r → r .answer ≡ performed way → GoodState t (r .state)
 returns-good t s c r way (row-refused x m) e = absurd (let z : _≡_ {A = ℕ} 0 1 = cc in omega arith)
 returns-good t s c r way (state-refused m b) e = absurd (let z : _≡_ {A = ℕ} 0 1 = cc in omega arith)
-returns-good t s c r way (operator-refused x m b l q) e = absurd (let z : _≡_ {A = ℕ} 0 1 = cc in omega arith)
+returns-good t s c r way (operator-refused q x o m b l y) e = absurd (let z : _≡_ {A = ℕ} 0 1 = cc in omega arith)
 returns-good t s c r way (performs p τ m b q w y n l) e = n
 
 pub returned : (image : List ℕ) → Bytes image → (s : State) (c : Call) → Returned image s c

@@ -92,7 +92,7 @@ module _ (p : Process) (w : WellFormed p) (k : Kept) (v : Invariant p k) where
   same-result : (c : Call) (r : Result) → Ended (p .body) r → ended r (laid k) (c .outputs) ≡ seen (concluded r k) c
   unfolding concluded
   same-result c r (at-wait x σ h) = refl
-  same-result c r (at-operator n) = refl
+  same-result c r (at-operator q n) = refl
 
   pub same-cycle : (c : Call) → tableRow (tableOf p) (laid k) (c .inputs) (c .outputs) ≡ seen (judged none p k (fed c)) c
   unfolding tableRow judged stateFor tableOf signatureFor

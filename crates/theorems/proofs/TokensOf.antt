@@ -5,7 +5,7 @@ use mathlib.Core.List.{List}
 use Prim.Native.Nat.{ℕ}
 use Rattle.grammar.specs.Token.{Token}
 use Rattle.grammar.specs.Tree.{Expr, number, bit, name, sign, negate, binary, parens, Stmt, output, assign, null, wait, if-then, if-else, while, Body, only, andThen, Init, without, integer-literal, logic-literal, minus, Group, Text}
-use Rattle.grammar.specs.Grammar.{NonTerminal, text, ports, morePorts, port, names, moreNames, mode, type, init, value, vars, body, more, statement, target, else-part, expression, chain, ands, ors, xors, relation, compared, simple, terms, factor, primary}
+use Rattle.grammar.specs.Grammar.{NonTerminal, text, ports, morePorts, port, names, moreNames, mode, type, init, value, vars, body, more, statement, target, else-part, expression, chain, ands, ors, xors, relation, compared, simple, terms, term, factors, factor, primary}
 use Rattle.grammar.specs.Grammar.{Says, Mark, productions, textProduction}
 use Rattle.grammar.specs.Derivation.{Reads}
 use Rattle.grammar.specs.Limits.{Each}
@@ -91,6 +91,8 @@ module _ (P : Token → Type 0) where
   Kept compared f = Goes f
   Kept simple v = InExpr v
   Kept terms f = Goes f
+  Kept term v = InExpr v
+  Kept factors f = Goes f
   Kept factor v = InExpr v
   Kept primary v = InExpr v
 
@@ -138,6 +140,8 @@ module _ (P : Token → Type 0) where
       two x hx b hb a ha = (hx, ha, hb)
   all-keep simple = (λ a ha f hf. hf a ha, (λ s hs a ha f hf. hf _ (hs, ha), tt))
   all-keep terms = (λ a ha. ha, (joined, (joined, tt)))
+  all-keep term = (λ a ha f hf. hf a ha, tt)
+  all-keep factors = (λ a ha. ha, (joined, (joined, (joined, (joined, tt)))))
   all-keep factor = (λ a ha. ha, (λ x hx a ha. (hx, ha), tt))
   all-keep primary = (λ x h. h, (λ x h. h, (λ x h. h, (λ x h. h, (λ _ _ e he _ _. he, tt)))))
 

@@ -30,7 +30,7 @@ use Rattle.semantics.specs.Rows.{Kept, Outcome, rows, atFirst}
 use Rattle.semantics.specs.Rows as R
 use Rattle.semantics.specs.Equations as Equations
 use Rattle.semantics.specs.InputRow.{Meets14}
-use Rattle.semantics.specs.Refusal.{CycleOverflows}
+use Rattle.semantics.specs.Refusal.{CycleFaults}
 use Rattle.semantics.specs.PublishedRows.{publishedRows}
 use Rattle.semantics.specs.PrintedRows.{RowsPrinted}
 use Rattle.semantics.specs.Answer.{Answers, AllAnswer}
@@ -109,8 +109,8 @@ pub data CycleRefused (image : List ℕ) (s : State) (c : Call) (q k : ℕ) : Ty
   by-state : (t : Table) → openOf image ≡ opened t → ((x : ℕ) → Image.Meets14 (t .signature) (c .inputs) (length (c .outputs)) x → ⊥) → (Image.GoodState t s → ⊥)
       → q ≡ 15 → k ≡ 0 → CycleRefused image s c q k
   by-operator : (t : Table) → openOf image ≡ opened t → ((x : ℕ) → Image.Meets14 (t .signature) (c .inputs) (length (c .outputs)) x → ⊥) → Image.GoodState t s
-      → tableCycle (t .lines) (t .reaches) (s .place) (c .inputs) (record { way = []; memory = memoryOf (t .signature) s }) ≡ Equations.refused 16 k
-      → q ≡ 16 → CycleRefused image s c q k
+      → tableCycle (t .lines) (t .reaches) (s .place) (c .inputs) (record { way = []; memory = memoryOf (t .signature) s }) ≡ Equations.refused q k
+      → CycleRefused image s c q k
 
 -- the clauses for a refused direct run: 1 to 9 of the text; 14, 15 and 16 as before, by the text's declarations, waits and operators
 pub data DirectRefused (text : List ℕ) (s : State) (c : Call) (q k : ℕ) : Type 0 where
@@ -118,7 +118,7 @@ pub data DirectRefused (text : List ℕ) (s : State) (c : Call) (q k : ℕ) : Ty
   by-row : (d : Process) → Valid text d → Meets14 d (fed c) k → q ≡ 14 → DirectRefused text s c q k
   by-state : (d : Process) → Valid text d → ((x : ℕ) → Meets14 d (fed c) x → ⊥) → (Described d s → ⊥) → q ≡ 15 → k ≡ 0 → DirectRefused text s c q k
   by-operator : (d : Process) → Valid text d → ((x : ℕ) → Meets14 d (fed c) x → ⊥) → (g : Described d s)
-      → CycleOverflows (c .inputs) (d .body) (g .kept .place) (record { way = []; memory = g .kept .memory }) k → q ≡ 16 → DirectRefused text s c q k
+      → CycleFaults (c .inputs) (d .body) (g .kept .place) (record { way = []; memory = g .kept .memory }) q k → DirectRefused text s c q k
 
 -- "Given exactly for": every refusal of every operation
 pub record Exactly (text buffer image : List ℕ) (s : State) (c : Call) (q k : ℕ) : Type 0 where

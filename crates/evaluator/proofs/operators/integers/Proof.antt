@@ -63,6 +63,12 @@ at-most-requires-2 c κs = search needs
 logic-requires-6 : tie.Need-logic-requires-6
 logic-requires-6 c κs = search needs
 
+scaled-requires : tie.Need-scaled-requires
+scaled-requires c κs = search needs
+
+checked-requires-3 : tie.Need-checked-requires-3
+checked-requires-3 c κs = search needs
+
 returns : tie.Need-returns
 unfolding sameType sameTy withType bind binaryType sumType orderType equalityType logicalType applyBinary binaryResult
 returns c =
@@ -123,9 +129,11 @@ returns-8 c =
 
 returns-9 : tie.Need-returns-9
 returns-9 c =
-    integers-other (c .before .args .op) (c .before .args .x) (c .before .args .y)
-    (c .match .rest .0 .0 .0 .0 .0 .0 .0 .1) (c .match .rest .0 .0 .0 .0 .0 .0 .1) (c .match .rest .0 .0 .0 .0 .0 .1) (c .match .rest .0 .0 .0 .0 .1)
-    (c .match .rest .0 .0 .0 .1) (c .match .rest .0 .0 .1) (c .match .rest .0 .1) (c .match .rest .1)
+    let s = c .before .before .before in
+    c .checked3 .ensures ∙ ap integerOf (simp (toZ-ofZ (s .fits .x), toZ-ofZ (s .fits .y)) at (c .before .scaled .ensures))
+    ∙ integers-other (s .args .op) (s .args .x) (s .args .y)
+    (c .before .before .match .rest .0 .0 .0 .0 .0 .0 .0 .1) (c .before .before .match .rest .0 .0 .0 .0 .0 .0 .1) (c .before .before .match .rest .0 .0 .0 .0 .0 .1) (c .before .before .match .rest .0 .0 .0 .0 .1)
+    (c .before .before .match .rest .0 .0 .0 .1) (c .before .before .match .rest .0 .0 .1) (c .before .before .match .rest .0 .1) (c .before .before .match .rest .1)
 
 pub integers-spec : {M : Type 1} → statement M
 integers-spec =
@@ -147,6 +155,8 @@ integers-spec =
     logic-requires-5
     at-most-requires-2
     logic-requires-6
+    scaled-requires
+    checked-requires-3
     returns
     returns-2
     returns-3

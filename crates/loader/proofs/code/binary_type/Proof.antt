@@ -47,14 +47,29 @@ returns-4 c =
     rw (le-ltb (args .k) 20 (if1 .left), le-ltb (args .k) 22 (if2 .left), le-ltb (args .k) 26 (if3 .left), lt-ltb (args .k) 29 (if4 .taken))
     (logical-type .ensures)
 
+sum-type-requires-2 : tie.Need-sum-type-requires-2
+sum-type-requires-2 c κs = search needs
+
 returns-5 : tie.Need-returns-5
 returns-5 c =
-    let args = c .before .before .before .before .args in
-    let if1 = c .before .before .before .if1 in
-    let if2 = c .before .before .if2 in
-    let if3 = c .before .if3 in
-    let if4 = c .if4 in
-    rw (le-ltb (args .k) 20 (if1 .left), le-ltb (args .k) 22 (if2 .left), le-ltb (args .k) 26 (if3 .left), le-ltb (args .k) 29 (if4 .left))
+    let args = c .before .before .before .before .before .before .args in
+    let if1 = c .before .before .before .before .before .if1 in
+    let if2 = c .before .before .before .before .if2 in
+    let if3 = c .before .before .before .if3 in
+    let if4 = c .before .before .if4 in
+    let if5 = c .before .if5 in
+    rw (le-ltb (args .k) 20 (if1 .left), le-ltb (args .k) 22 (if2 .left), le-ltb (args .k) 26 (if3 .left), le-ltb (args .k) 29 (if4 .left), lt-ltb (args .k) 33 (if5 .taken))
+    (c .sum-type2 .ensures)
+
+returns-6 : tie.Need-returns-6
+returns-6 c =
+    let args = c .before .before .before .before .before .args in
+    let if1 = c .before .before .before .before .if1 in
+    let if2 = c .before .before .before .if2 in
+    let if3 = c .before .before .if3 in
+    let if4 = c .before .if4 in
+    let if5 = c .if5 in
+    rw (le-ltb (args .k) 20 (if1 .left), le-ltb (args .k) 22 (if2 .left), le-ltb (args .k) 26 (if3 .left), le-ltb (args .k) 29 (if4 .left), le-ltb (args .k) 33 (if5 .left))
 
 pub binary-type-spec : {M : Type 1} → statement M
 binary-type-spec =
@@ -68,4 +83,6 @@ binary-type-spec =
     returns-3
     logical-type-requires
     returns-4
-    returns-5)
+    sum-type-requires-2
+    returns-5
+    returns-6)

@@ -88,6 +88,9 @@ differs-requires c κs = search needs
 logic-requires-9 : tie.Need-logic-requires-9
 logic-requires-9 c κs = search needs
 
+scaled-requires : tie.Need-scaled-requires
+scaled-requires c κs = search needs
+
 returns : tie.Need-returns
 unfolding applyBinary binaryResult
 returns c = binary-arm plus (c .before .before .args .op) (c .before .before .args .x) (c .before .before .args .y) (c .before .match .keys1) (simp (toZ-ofZ (c .before .before .fits .x), toZ-ofZ (c .before .before .fits .y)) at (c .add .ensures))
@@ -157,7 +160,10 @@ returns-11 c =
     binary-arm xor (c .before .before .before .before .before .args .op) (c .before .before .before .before .before .args .x) (c .before .before .before .before .before .args .y) (c .before .before .before .before .match .keys11) (c .logic9 .ensures ∙ ap (λ (b : Bool). Value (bitOf b)) e)
 
 returns-12 : tie.Need-returns-12
-returns-12 c = binary-other (c .before .args .op) (c .before .args .x) (c .before .args .y) (c .match .rest .0 .0 .0 .0 .0 .0 .0 .0 .0 .0 .1) (c .match .rest .0 .0 .0 .0 .0 .0 .0 .0 .0 .1) (c .match .rest .0 .0 .0 .0 .0 .0 .0 .0 .1) (c .match .rest .0 .0 .0 .0 .0 .0 .0 .1) (c .match .rest .0 .0 .0 .0 .0 .0 .1) (c .match .rest .0 .0 .0 .0 .0 .1) (c .match .rest .0 .0 .0 .0 .1) (c .match .rest .0 .0 .0 .1) (c .match .rest .0 .0 .1) (c .match .rest .0 .1) (c .match .rest .1)
+returns-12 c =
+    let s = c .before .before in
+    (simp (toZ-ofZ (s .fits .x), toZ-ofZ (s .fits .y)) at (c .scaled .ensures))
+    ∙ binary-other (c .before .before .args .op) (c .before .before .args .x) (c .before .before .args .y) (c .before .match .rest .0 .0 .0 .0 .0 .0 .0 .0 .0 .0 .1) (c .before .match .rest .0 .0 .0 .0 .0 .0 .0 .0 .0 .1) (c .before .match .rest .0 .0 .0 .0 .0 .0 .0 .0 .1) (c .before .match .rest .0 .0 .0 .0 .0 .0 .0 .1) (c .before .match .rest .0 .0 .0 .0 .0 .0 .1) (c .before .match .rest .0 .0 .0 .0 .0 .1) (c .before .match .rest .0 .0 .0 .0 .1) (c .before .match .rest .0 .0 .0 .1) (c .before .match .rest .0 .0 .1) (c .before .match .rest .0 .1) (c .before .match .rest .1)
 
 pub binary-spec : {M : Type 1} → statement M
 binary-spec =
@@ -189,6 +195,7 @@ binary-spec =
     is-one-requires-6
     differs-requires
     logic-requires-9
+    scaled-requires
     returns
     returns-2
     returns-3

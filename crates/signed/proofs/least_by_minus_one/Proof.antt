@@ -1,0 +1,30 @@
+-- `signed::least_by_minus_one` meets its contract, by its tests. Assumes nothing.
+use mathlib.Core.Path.{_≡_, sym, _∙_}
+use mathlib.Core.Bool.{true, false}
+use mir.Facts.{toZ-ofZ}
+use borrow.Author.Needs.{needs}
+use lib.IntN.{negsuc}
+use Rattle.design.specs.Types.{eqZ}
+use Rattle.signed.proofs.least_by_minus_one.Statement.{statement}
+use Rattle.signed.proofs.least_by_minus_one.Tie as tie
+
+equal-requires : tie.Need-equal-requires
+equal-requires c κs = search needs
+
+equal-requires-2 : tie.Need-equal-requires-2
+equal-requires-2 c κs = search needs
+
+returns : tie.Need-returns
+returns c =
+    let s = c .before .before .before in
+    let e : eqZ (s .args .x) (negsuc 2147483647) ≡ true = sym (rw (toZ-ofZ (s .fits .x)) at (c .before .before .equal .ensures)) ∙ c .before .if1 .taken in
+    rw e (rw (toZ-ofZ (s .fits .y)) at (c .equal2 .ensures))
+
+returns-2 : tie.Need-returns-2
+returns-2 c =
+    let s = c .before .before in
+    let e : eqZ (s .args .x) (negsuc 2147483647) ≡ false = sym (rw (toZ-ofZ (s .fits .x)) at (c .before .equal .ensures)) ∙ c .if1 .left in
+    rw e
+
+pub least-by-minus-one-spec : {M : Type 1} → statement M
+least-by-minus-one-spec = tie.close (tie.spec equal-requires equal-requires-2 returns returns-2)
