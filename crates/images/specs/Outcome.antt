@@ -37,7 +37,7 @@ pub record GoodState (t : Table) (s : State) : Type 0 where
   pub typed : Typed (t .signature) memory
   pub slots : s ≡ stateFor (s .place) memory
 
--- A row on the table t from the state s, with the input row i and the output row o: refused by 14, 15 or 16, state and output row as they came;
+-- A row on the table t from the state s, with the input row i and the output row o: refused by 14, by 15 or by an operator, state and output row as they came;
 -- or performed, at a wait, over lines that come once each and are at most one more than the reach of the first; the state is not refused by 15
 -- and the output row is full.
 pub data Outcome (t : Table) (s : State) (i o : List ℤ) : Called → Type 0 where

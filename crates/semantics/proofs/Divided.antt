@@ -1,10 +1,10 @@
 -- Quotient, remainder and modulus are those of IEEE 1076, for every divisor but 0: by cases on the signs. Assumes nothing.
 use Prim.Native.Nat.{ℕ, zero, suc, _+_, _*_, _-_, _/_, _%_, _≤_, _<_}
 use mathlib.Core.Path.{_≡_, refl, sym, ap, _∙_}
-use mathlib.Core.Logic.{_⊎_, inl, inr}
+use mathlib.Core.Logic.{_⊎_, inl, inr, _↔_}
 use mathlib.Core.Bool.{Bool, true, false, cond, _&&_, _||_}
 use native.Mathlib.Omega.{arith}
-use native.Mathlib.Nat.{div-add-mod', mod-lt, zero-mul}
+use native.Mathlib.Nat.{div-add-mod', div-le-self, div-lt-self, mod-lt, zero-mul}
 use lib.IntN.{ℤ, pos, negsuc, negℤ, _+ℤ_, _-ℤ_, _*ℤ_, subℕ, natAbs, predℤ, negℤ-+ℤ, *ℤ-comm, predℤ-*ℤ, +ℤ-comm, +ℤ-assoc, -ℤ-+ℤ-cancel}
 use lib.Signed.{mag, quotZ, remZ, mag-rem}
 use lib.Dec.{eqb, ltb, leb}
@@ -29,7 +29,7 @@ quot-whole (pos a) (negsuc b) = ap (λ z. z +ℤ pos (a % suc b)) (neg-neg (a / 
 quot-whole (negsuc a) (pos b) = ap (λ z. z +ℤ negℤ (pos (suc a % b))) (neg-pos (suc a / b) b) ∙ neg-sum (suc a / b * b) (suc a % b) a (div-add-mod' (suc a) b)
 quot-whole (negsuc a) (negsuc b) = neg-sum (suc a / suc b * suc b) (suc a % suc b) a (div-add-mod' (suc a) (suc b))
 
-abs-neg : (n : ℕ) → natAbs (negℤ (pos n)) ≡ n
+pub abs-neg : (n : ℕ) → natAbs (negℤ (pos n)) ≡ n
 abs-neg zero = refl
 abs-neg (suc n) = refl
 
@@ -49,9 +49,11 @@ rem-sign : (a b : ℤ) → (remZ a b ≡ pos 0) ⊎ (negative (remZ a b) ≡ neg
 rem-sign (pos a) b = inr refl
 rem-sign (negsuc a) b = neg-sign (suc a % natAbs b) a
 
-zero-is : (z : ℤ) → eqZ z (pos 0) ≡ true → z ≡ pos 0
-zero-is (pos n) e = ap pos (eqb-true n 0 e)
-zero-is (negsuc n) e = absurd (let u : _≡_ {A = ℕ} 0 1 = cc in omega arith)
+same-is : (x y : ℤ) → eqZ x y ≡ true → x ≡ y
+same-is (pos a) (pos b) e = ap pos (eqb-true a b e)
+same-is (pos a) (negsuc b) e = absurd (let u : _≡_ {A = ℕ} 0 1 = cc in omega arith)
+same-is (negsuc a) (pos b) e = absurd (let u : _≡_ {A = ℕ} 0 1 = cc in omega arith)
+same-is (negsuc a) (negsuc b) e = ap negsuc (eqb-true a b e)
 
 alike-is : (a b : Bool) → alike a b ≡ true → a ≡ b
 alike-is true b e = sym e
@@ -63,7 +65,7 @@ record Shifted (r b : ℤ) : Type 0 where
   sign : negative (r +ℤ b) ≡ negative b
   small : natAbs (r +ℤ b) < natAbs b
 
-sub-case : (P : ℤ → Type 0) (a b : ℕ) → (a < b → P (negsuc (b - suc a))) → (b ≤ a → P (pos (a - b))) → P (subℕ a b)
+pub sub-case : (P : ℤ → Type 0) (a b : ℕ) → (a < b → P (negsuc (b - suc a))) → (b ≤ a → P (pos (a - b))) → P (subℕ a b)
 sub-case P a b f g = go (ltb a b) refl
   where
     go : (t : Bool) → ltb a b ≡ t → P (cond t (negsuc (b - suc a)) (pos (a - b)))
@@ -107,7 +109,7 @@ divided a b e = go (eqZ (remZ a b) (pos 0)) refl (alike (negative (remZ a b)) (n
     }
 
     go : (z : Bool) → eqZ (remZ a b) (pos 0) ≡ z → (t : Bool) → alike (negative (remZ a b)) (negative b) ≡ t → Divided a b (quotZ a b) (remZ a b) (modZ a b)
-    go true f t g = kept (rw f) (inl (zero-is (remZ a b) f))
+    go true f t g = kept (rw f) (inl (same-is (remZ a b) (pos 0) f))
     go false f true g = kept (rw (f, g)) (inr (alike-is (negative (remZ a b)) (negative b) g))
     go false f false g =
         let h = shifted (remZ a b) b f g (rem-small a b e) in
@@ -157,3 +159,38 @@ mod-inside x y e f =
     let a = mag-abs (modZ x y) .0 in
     let b = mag-abs y .1 in
     range-mag (modZ x y) ∙ le-leb (mag (modZ x y)) 2147483647 (omega arith)
+
+mag-below : (n m : ℕ) → n ≤ suc m → mag (negℤ (pos n)) ≤ m
+mag-below zero m h = omega arith
+mag-below (suc n) m h = omega arith
+
+-- a quotient is no larger than what is divided, but where the divisor is -1
+mag-quot : (x y : ℤ) (n : ℕ) → mag x ≤ n → (x ≡ negsuc n → y ≡ negsuc 0 → ⊥) → mag (quotZ x y) ≤ n
+mag-quot (pos a) (pos b) n h e = omega (arith, div-le-self a b)
+mag-quot (pos a) (negsuc b) n h e = mag-below (a / suc b) n (omega (arith, div-le-self a (suc b)))
+mag-quot (negsuc a) (pos b) n h e = mag-below (suc a / b) n (omega (arith, div-le-self (suc a) b))
+mag-quot (negsuc a) (negsuc zero) n h e = go (eqb a n) refl
+  where
+    go : (t : Bool) → eqb a n ≡ t → suc a / 1 ≤ n
+    go true z = absurd (e (ap negsuc (eqb-true a n z)) refl)
+    go false z = let d = eqb-false a n z in omega arith
+mag-quot (negsuc a) (negsuc (suc b)) n h e = let d : suc a / suc (suc b) < suc a = div-lt-self (omega arith) (omega arith) in omega arith
+
+true-false : {P : Type 0} → true ≡ false → P
+true-false e = absurd (let u : _≡_ {A = ℕ} 0 1 = cc in omega arith)
+
+-- of two integers only the least by -1 has a quotient that is none
+pub quotient-outside : (x y : ℤ) → inRange x ≡ true → (inRange (quotZ x y) ≡ false) ↔ ((x ≡ negsuc 2147483647) × (y ≡ negsuc 0))
+unfolding inRange
+quotient-outside x y i = (λ e. outside e (eqZ x (negsuc 2147483647)) refl (eqZ y (negsuc 0)) refl, λ h. rw (h .0, h .1))
+  where
+    within : mag x ≤ 2147483647
+    within = leb-true (mag x) 2147483647 (sym (range-mag x) ∙ i)
+
+    inside : (x ≡ negsuc 2147483647 → y ≡ negsuc 0 → ⊥) → inRange (quotZ x y) ≡ true
+    inside n = range-mag (quotZ x y) ∙ le-leb (mag (quotZ x y)) 2147483647 (mag-quot x y 2147483647 within n)
+
+    outside : inRange (quotZ x y) ≡ false → (s : Bool) → eqZ x (negsuc 2147483647) ≡ s → (t : Bool) → eqZ y (negsuc 0) ≡ t → (x ≡ negsuc 2147483647) × (y ≡ negsuc 0)
+    outside e true f true g = (same-is x (negsuc 2147483647) f, same-is y (negsuc 0) g)
+    outside e false f t g = true-false (sym (inside (λ p q. true-false (sym (ap (λ z. eqZ z (negsuc 2147483647)) p) ∙ f))) ∙ e)
+    outside e true f false g = true-false (sym (inside (λ p q. true-false (sym (ap (λ z. eqZ z (negsuc 0)) q) ∙ g))) ∙ e)

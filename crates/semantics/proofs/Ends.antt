@@ -1,4 +1,4 @@
--- A cycle ends at a wait of the body or is refused by 16: by induction on the statement, class C being never passed when started. Assumes nothing.
+-- A cycle ends at a wait of the body or an operator is refused: by induction on the statement, class C being never passed when started. Assumes nothing.
 use Prim.Native.Nat.{ℕ, suc, _+_}
 use mathlib.Core.Path.{_≡_, refl}
 use mathlib.Core.Bool.{Bool, true, false}
@@ -82,7 +82,7 @@ cycle-stops : (s : Stmt) → classOf s ≡ C → (q : Place) (i : List ℤ) (σ 
 unfolding cycle
 cycle-stops s c q i σ τ e = let p = then-passed _ _ τ e in C-stops s c 0 i (p .0) τ (p .2)
 
--- A cycle ends at a wait of the body, or an operator is refused by 16; from any place.
+-- A cycle ends at a wait of the body, or an operator is refused; from any place.
 pub cycle-ends : (s : Stmt) → classOf s ≡ C → (q : Place) (i : List ℤ) (σ : Run) → Ended s (cycle s q i σ)
 cycle-ends s c q i σ = go (cycle s q i σ) refl (cycle-reaches s q i σ)
   where

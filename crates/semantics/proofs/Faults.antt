@@ -1,15 +1,15 @@
 -- An expression is refused by a number exactly where `Faults` says so: by induction on the expression. Assumes nothing.
-use Prim.Native.Nat.{ℕ}
+use Prim.Native.Nat.{ℕ, _≤_}
 use mathlib.Core.Path.{_≡_, refl, sym, _∙_}
-use mathlib.Core.Logic.{_↔_}
+use mathlib.Core.Logic.{_↔_, _⊎_, inl, inr}
 use mathlib.Core.Bool.{Bool, true, false, cond}
 use mathlib.Core.List.{List}
+use native.Mathlib.Omega.{arith}
 use lib.IntN.{ℤ, pos, _+ℤ_, _-ℤ_, _*ℤ_, negℤ}
 use lib.Signed.{quotZ}
 use Rattle.design.specs.Types.{ExprTy, eqZ, inRange}
-use mathlib.Core.Logic.{_⊎_, inl, inr}
-use Rattle.semantics.specs.Division.{byNonzero}
 use Rattle.design.specs.Expression.{Leaf, Unary, sign, invert, Binary, plus, minus, equal, unequal, less, at-most, greater, at-least, and, or, xor, times, divide, modulo, remainder, Expr, leaf, unary, binary, Out, fine, fault, bind, fold}
+use Rattle.semantics.specs.Division.{byNonzero}
 use Rattle.semantics.specs.Evaluation.{unaryResult, binaryResult, asInteger, applyUnary, applyBinary, evaluate}
 use Rattle.semantics.specs.Faults.{OperatorNumber, OperatorRefused, sum, difference, product, quotient, divided-by-0, modulo-0, remainder-by-0, Faults, in-operand, at-sign, in-left, in-right, at-operator}
 use Rattle.semantics.proofs.Basic.{fault-fine, fault-injective}
@@ -39,11 +39,11 @@ refused-divisor P y o q e f g = go (eqZ y (pos 0)) refl e
     go true h e = rw (← fault-injective {X = ℤ} 18 q e) (f h)
     go false h e = g h e
 
-by-0 : (y : ℤ) (o : Out ℤ) → eqZ y (pos 0) ≡ true → byNonzero y o ≡ fault 18
+pub by-0 : (y : ℤ) (o : Out ℤ) → eqZ y (pos 0) ≡ true → byNonzero y o ≡ fault 18
 unfolding byNonzero
 by-0 y o e = rw e
 
-by-other : (y : ℤ) (o : Out ℤ) → eqZ y (pos 0) ≡ false → byNonzero y o ≡ o
+pub by-other : (y : ℤ) (o : Out ℤ) → eqZ y (pos 0) ≡ false → byNonzero y o ≡ o
 unfolding byNonzero
 by-other y o e = rw e
 
@@ -76,6 +76,11 @@ refused-binary o t x y q (quotient h e) = by-other y (asInteger (quotZ x y)) h �
 refused-binary o t x y q (divided-by-0 h) = by-0 y _ h
 refused-binary o t x y q (modulo-0 h) = by-0 y _ h
 refused-binary o t x y q (remainder-by-0 h) = by-0 y _ h
+
+-- the two numbers stand behind 15 in the table
+pub operator-number : (q : ℕ) → OperatorNumber q → (16 ≤ q) × (q ≤ 18)
+operator-number q (inl e) = (omega arith, omega arith)
+operator-number q (inr e) = (omega arith, omega arith)
 
 refused-number : (o : Binary) (t : ExprTy) (x y : ℤ) (q : ℕ) → OperatorRefused o t x y q → OperatorNumber q
 refused-number o t x y q (sum e) = inl refl

@@ -2,6 +2,7 @@ pub mod Basic
 pub mod Slots
 pub mod Faults
 pub mod Divided
+pub mod DividedOnce
 pub mod Names
 pub mod Values
 pub mod Results

@@ -34,7 +34,7 @@ keptOf p s = record { place = placeFor (s .place); memory = record { outputs = t
 abbrev pub cycled : Process → Kept → Call → Called
 cycled p k c = seen (concluded (cycle (p .body) (k .place) (c .inputs) (record { way = []; memory = k .memory })) k) c
 
--- one call on an accepted text's process: 14, then 15, then 16
+-- one call on an accepted text's process: 14, then 15, then 16 or 18, whichever operator is reached first
 unfoldable pub directRow : Process → State → Call → Called
 directRow p s c =
     unless14 (rowRefusal p (fed c)) s (c .outputs) (cond (fitsText p s) (cycled p (keptOf p s) c) (turnedBack 15 0 s (c .outputs)))

@@ -6,7 +6,6 @@ use lib.IntN.{ℤ, pos, _+ℤ_, _-ℤ_, _*ℤ_, negℤ}
 use lib.Signed.{leZ, ltZ, quotZ, remZ}
 use Rattle.design.specs.Types.{ExprTy, eqZ, inRange}
 use Rattle.design.specs.Expression.{Leaf, int, bit, input, variable, Unary, sign, invert, Binary, plus, minus, equal, unequal, less, at-most, greater, at-least, and, or, xor, times, divide, modulo, remainder, Expr, leaf, unary, binary, Out, fine, fault, Algebra, fold}
-
 use Rattle.semantics.specs.Division.{modZ, byNonzero}
 
 -- "std_logic (0, 1)"; a boolean is 0 where it is false, 1 where it is true
@@ -46,7 +45,7 @@ binaryResult divide x y = quotZ x y
 binaryResult modulo x y = modZ x y
 binaryResult remainder x y = remZ x y
 
--- 16: "result of `+`, `-` or sign outside integer"
+-- 16: "result of `+`, `-` or sign outside integer"; "A product outside integer and the least integer divided by -1 get 16"
 unfoldable pub asInteger : ℤ → Out ℤ
 asInteger z = cond (inRange z) (fine z) (fault 16)
 
@@ -55,7 +54,7 @@ unfoldable pub applyUnary : Unary → ExprTy → ℤ → Out ℤ
 applyUnary sign t x = asInteger (unaryResult sign x)
 applyUnary invert t x = fine (unaryResult invert x)
 
--- + and - can be refused by 16, no other operator can; t is the type of the operands
+-- + - * / can be refused by 16, / mod rem by 18, no other operator can; "the latter's `mod` and `rem` by -1 are 0"; t is the type of the operands
 unfoldable pub applyBinary : Binary → ExprTy → ℤ → ℤ → Out ℤ
 applyBinary plus t x y = asInteger (binaryResult plus x y)
 applyBinary minus t x y = asInteger (binaryResult minus x y)

@@ -1,5 +1,6 @@
--- Refusal 16 of a statement and of a cycle, without a method: an operator that is evaluated on the way leaves the integers, at the statement with
--- the number x ("A refused operator (16) refuses the row, the refusal's place being its statement's number"). Assumes nothing.
+-- Refusals 16 and 18 of a statement and of a cycle, without a method: the first operator on the way that is refused is refused by q, at the statement with
+-- the number x ("A refused operator (16) refuses the row, the refusal's place being its statement's number"; "18, a zero divisor, with the line as place").
+-- Assumes nothing.
 use mathlib.Core.Path.{_≡_}
 use mathlib.Core.Bool.{true, false}
 use mathlib.Core.Logic.{_⊎_}
@@ -11,13 +12,13 @@ use Rattle.design.specs.Statement.{Act, output, variable, null, Stmt, act, wait
 use Rattle.semantics.specs.Equations.{Memory, Run, passed, holds, log, start, resume, Place, beginning, at, enter}
 use Rattle.semantics.specs.Faults.{Faults}
 
--- the expression of an assignment overflows
+-- the expression of an assignment is refused by q
 unfoldable pub ActFaults : List ℤ → Memory → Act → ℕ → Type 0
 ActFaults i m (output k e) q = Faults i (m .variables) e q
 ActFaults i m (variable k e) q = Faults i (m .variables) e q
 ActFaults i m null q = ⊥
 
--- s, whose first number is n, is started: its own expression overflows, x being its number; or a part that is started in turn overflows
+-- s, whose first number is n, is started: its own expression is refused by q, x being its number; or a part that is started in turn is refused
 unfoldable pub StartFaults : List ℤ → Stmt → ℕ → Run → ℕ → ℕ → Type 0
 StartFaults i (act a) n σ q x = (x ≡ n) × ActFaults i (σ .memory) a q
 StartFaults i wait n σ q x = ⊥
@@ -32,7 +33,7 @@ StartFaults i (while e b) n σ q x =
 StartFaults i (seq a b) n σ q x =
     StartFaults i a n σ q x ⊎ ((τ : Run) × (start a n i σ ≡ passed τ) × StartFaults i b (n + size a) τ q x)
 
--- s is resumed at its wait p: the part with the wait overflows when resumed, or what comes after it when started
+-- s is resumed at its wait p: the part with the wait is refused when resumed, or what comes after it when started
 unfoldable pub ResumeFaults : List ℤ → Stmt → ℕ → ℕ → Run → ℕ → ℕ → Type 0
 ResumeFaults i (act a) n p σ q x = ⊥
 ResumeFaults i wait n p σ q x = ⊥
@@ -50,6 +51,6 @@ unfoldable pub EnterFaults : List ℤ → Stmt → Place → Run → ℕ → ℕ
 EnterFaults i s beginning σ q x = StartFaults i s 0 σ q x
 EnterFaults i s (at p) σ q x = ResumeFaults i s 0 p σ q x
 
--- a cycle: the body overflows when it is entered or, once it is passed, when it is started again
+-- a cycle: the body is refused when it is entered or, once it is passed, when it is started again
 unfoldable pub CycleFaults : List ℤ → Stmt → Place → Run → ℕ → ℕ → Type 0
 CycleFaults i s c σ q x = EnterFaults i s c σ q x ⊎ ((τ : Run) × (enter s c i σ ≡ passed τ) × StartFaults i s 0 τ q x)

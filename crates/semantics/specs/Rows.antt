@@ -37,7 +37,7 @@ rowRefusal p c =
     (wrongValue (sourceTypes (p .inputs)) (c .inputs) 0)
     (some 0)
 
--- A row is performed, with its output row and its way; refused by 14 at a place; or refused by 16 at a statement's number.
+-- A row is performed, with its output row and its way; refused by 14 at a place; or refused by an operator's number at a statement's number.
 pub data Outcome : Type 0 where
   performed : (row : List ℤ) (way : List ℕ) → Outcome
   row-refused : (place : ℕ) → Outcome
@@ -61,7 +61,7 @@ unfoldable pub concluded : Result → Kept → Outcome × Kept
 concluded (passed σ) k = (performed (σ .memory .outputs) (σ .way), record { place = beginning; memory = σ .memory })
 -- "The wait reached becomes the place and ends the cycle; the output row gets all outputs, what the cycle assigned included."
 concluded (reached p σ) k = (performed (σ .memory .outputs) (σ .way), record { place = at p; memory = σ .memory })
--- "A refused operator (16) refuses the row ..; all that is kept is then as before the row." The number q is 16: see `refusal-16`.
+-- "A refused operator (16) refuses the row ..; all that is kept is then as before the row." The number q is 16 or 18: see `fault-number`.
 concluded (refused q n) k = (operator-refused q n, k)
 
 -- "A row that meets 14 is refused. Otherwise the data inputs (all but the clock) hold it", and a cycle follows

@@ -12,7 +12,7 @@ unfoldable pub Distinct : List ℕ → Type 0
 Distinct [] = Unit {0}
 Distinct (x ∷ w) = (List·Memᴰ x w → ⊥) × Distinct w
 
--- a cycle ends at a wait of the body s, or is refused by 16; it is never passed
+-- a cycle ends at a wait of the body s, or an operator is refused; it is never passed
 pub data Ended (s : Stmt) : Result → Type 0 where
   at-wait : (p : ℕ) (σ : Run) → has s 0 p ≡ true → Ended s (reached p σ)
   at-operator : (q n : ℕ) → Ended s (refused q n)

@@ -21,7 +21,7 @@ pub record WayFrom (t : List Line) (r : List ℕ) (x : ℕ) (way : List ℕ) : T
   pub few : length way ≤ length t
   pub short : length way ≤ suc (reach r x)
 
--- A wait is reached, "the wait it ends on included" in the way as its last line, or an operator of a line is refused by 16; nothing else.
+-- A wait is reached, "the wait it ends on included" in the way as its last line, or an operator of a line is refused by its number; nothing else.
 pub data Walked (t : List Line) (r : List ℕ) (x : ℕ) : Result → Type 0 where
   waits-at : (p : ℕ) (σ : Run) (before : List ℕ) → σ .way ≡ before ++ (p ∷ []) → WaitAt t p → WayFrom t r x (σ .way) → Walked t r x (reached p σ)
   refuses-at : (q n : ℕ) → OperatorNumber q → n < length t → Walked t r x (refused q n)

@@ -27,11 +27,11 @@ pub record PlacesFit (text buffer image : List ℕ) (s : State) (c : Call) : Typ
   pub open-place : (q k : ℕ) → openOf image ≡ not-opened q k → k ≤ 512
   -- fresh: the same
   pub fresh-place : (q k : ℕ) → freshOf image ≡ not-started q k → k ≤ 512
-  -- cycle: the same; 14 at "0; its index", 15 at 0, 16 at its "line"
+  -- cycle: the same; 14 at "0; its index", 15 at 0, 16 and 18 at their "line"
   pub cycle-place : (q k : ℕ) → cycleOf image s (c .inputs) (c .outputs) .answer ≡ not-performed q k → k ≤ 512
   -- cycle: "the number of lines performed, the wait it ends on included"
   pub cycle-count : (way : List ℕ) → cycleOf image s (c .inputs) (c .outputs) .answer ≡ performed way → length way ≤ 512
-  -- direct run: 1 to 9 in the text; 14, 15 and 16 as for a cycle
+  -- direct run: 1 to 9 in the text; 14, 15, 16 and 18 as for a cycle
   pub direct-place : (q k : ℕ) → directOf text s c .answer ≡ not-performed q k → k ≤ 16384
   -- direct run: as many statements as the way has, of at most "512 statements"
   pub direct-count : (way : List ℕ) → directOf text s c .answer ≡ performed way → length way ≤ 512

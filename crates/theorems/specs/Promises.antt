@@ -79,12 +79,12 @@ pub data Starts (image : List ℕ) : Started → Type 0 where
   starts : (t : Table) → openOf image ≡ opened t → Starts image (fresh (freshTable t))
   refuses : (q k : ℕ) → 11 ≤ q → q ≤ 13 → Refusal image q k → Starts image (not-started q k)
 
--- cycle: 11, 12 or 13 of the image; else 14, 15 or 16 or a cycle performed, as `Outcome` of the crate images has it. Refused, state and output row are as they came
+-- cycle: 11, 12 or 13 of the image; else 14, 15, 16 or 18 or a cycle performed, as `Outcome` of the crate images has it. Refused, state and output row are as they came
 pub data Runs (image : List ℕ) (s : State) (c : Call) : Called → Type 0 where
   runs : (t : Table) → openOf image ≡ opened t → (r : Called) → Image.Outcome t s (c .inputs) (c .outputs) r → Runs image s c r
   refuses : (q k : ℕ) → 11 ≤ q → q ≤ 13 → Refusal image q k → Runs image s c (turnedBack q k s (c .outputs))
 
--- direct: 1 to 9 of the text, 14, 15; else the row as the equations answer it, performed or refused by 16
+-- direct: 1 to 9 of the text, 14, 15; else the row as the equations answer it, performed or refused by 16 or 18
 pub data RunsText (text : List ℕ) (s : State) (c : Call) : Called → Type 0 where
   refuses : (q k : ℕ) → 1 ≤ q → q ≤ 9 → Refuses text q k → RunsText text s c (turnedBack q k s (c .outputs))
   by-14 : (d : Process) → Valid text d → (k : ℕ) → Meets14 d (fed c) k → RunsText text s c (turnedBack 14 k s (c .outputs))
@@ -102,7 +102,8 @@ pub data CompileRefused (text buffer : List ℕ) (q k : ℕ) : Type 0 where
   by-text : Refuses text q k → CompileRefused text buffer q k
   by-buffer : (d : Process) → Valid text d → length buffer < length (encode d) → q ≡ 10 → k ≡ length (encode d) → CompileRefused text buffer q k
 
--- the clauses for a refused cycle: 11 to 13 of the image; 14 of the rows; 15 of the state, where the rows are right; 16 where the state is right too
+-- the clauses for a refused cycle: 11 to 13 of the image; 14 of the rows; 15 of the state, where the rows are right; 16 or 18 where the state is right too, by the first
+-- operator that is refused
 pub data CycleRefused (image : List ℕ) (s : State) (c : Call) (q k : ℕ) : Type 0 where
   by-image : Refusal image q k → CycleRefused image s c q k
   by-row : (t : Table) → openOf image ≡ opened t → Image.Meets14 (t .signature) (c .inputs) (length (c .outputs)) k → q ≡ 14 → CycleRefused image s c q k
@@ -112,7 +113,7 @@ pub data CycleRefused (image : List ℕ) (s : State) (c : Call) (q k : ℕ) : Ty
       → tableCycle (t .lines) (t .reaches) (s .place) (c .inputs) (record { way = []; memory = memoryOf (t .signature) s }) ≡ Equations.refused q k
       → CycleRefused image s c q k
 
--- the clauses for a refused direct run: 1 to 9 of the text; 14, 15 and 16 as before, by the text's declarations, waits and operators
+-- the clauses for a refused direct run: 1 to 9 of the text; 14, 15, 16 and 18 as before, by the text's declarations, waits and operators
 pub data DirectRefused (text : List ℕ) (s : State) (c : Call) (q k : ℕ) : Type 0 where
   by-text : Refuses text q k → DirectRefused text s c q k
   by-row : (d : Process) → Valid text d → Meets14 d (fed c) k → q ≡ 14 → DirectRefused text s c q k
@@ -152,7 +153,7 @@ pub record Demand2 (b : List ℕ) : Type 0 where
   -- and, the refused rows dropped, those of the equations as they are printed, without refusals and over unbounded integers: output row, outputs, variables
   -- and wait after each row that is performed, the printed equations being fed the input rows of just these
   pub printed : (d : Process) → Valid b d → (cs : List R.Call) → RowsPrinted d cs (rows d cs)
-  -- each row is performed, refused by 14 or refused by 16, exactly when document 01 says so
+  -- each row is performed, refused by 14 or refused by an operator's number, exactly when document 01 says so
   pub answered : (d : Process) → Valid b d → (cs : List R.Call) → AllAnswer d (atFirst d) cs (rows d cs)
   -- "The direct run of an accepted text gives, row by row, what the published ABC-VHDL equations give": every list of calls, from the fresh state, beside
   -- the equations with refusals and as they are printed
