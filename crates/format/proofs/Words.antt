@@ -110,8 +110,8 @@ unfolding inType inRange
 type-range std-logic z h = go (eqZ z (pos 0)) refl h
   where
     go : (b : Bool) → eqZ z (pos 0) ≡ b → (b || eqZ z (pos 1)) ≡ true → inRange z ≡ true
-    go true e q = rw (eqZ-true z 0 e)
-    go false e q = rw (eqZ-true z 1 q)
+    go true e q = rw (eqZ-true z (pos 0) e)
+    go false e q = rw (eqZ-true z (pos 1) q)
 type-range integer z h = h
 
 -- Lists of bytes.

@@ -31,9 +31,11 @@ fault-injective x y e = cc
 pub eqb-true : (m n : ℕ) → eqb m n ≡ true → m ≡ n
 eqb-true m n e = eqb→eq m n (rw e tt)
 
-pub eqZ-true : (z : ℤ) (n : ℕ) → eqZ z (pos n) ≡ true → z ≡ pos n
-eqZ-true (pos a) n h = ap pos (eqb-true a n h)
-eqZ-true (negsuc a) n h = false-true h
+pub eqZ-true : (y z : ℤ) → eqZ y z ≡ true → y ≡ z
+eqZ-true (pos a) (pos b) e = ap pos (eqb-true a b e)
+eqZ-true (pos a) (negsuc b) e = false-true e
+eqZ-true (negsuc a) (pos b) e = false-true e
+eqZ-true (negsuc a) (negsuc b) e = ap negsuc (eqb-true a b e)
 
 pub eqb-same : (n : ℕ) → eqb n n ≡ true
 eqb-same n = go (eqb n n) (eqb-refl n)

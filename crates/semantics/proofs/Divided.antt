@@ -11,6 +11,7 @@ use lib.Dec.{eqb, ltb, leb}
 use borrow.Author.Tests.{eqb-true, eqb-false, ltb-true, ltb-false, leb-true, le-leb}
 use Rattle.design.specs.Types.{eqZ, inRange}
 use Rattle.semantics.specs.Division.{negative, alike, toSign, modZ, Divided}
+use Rattle.semantics.proofs.Basic.{false-true, eqZ-true}
 
 neg-pos : (n b : ℕ) → negℤ (pos n) *ℤ pos b ≡ negℤ (pos (n * b))
 neg-pos zero b = rw (zero-mul b)
@@ -49,12 +50,6 @@ rem-sign : (a b : ℤ) → (remZ a b ≡ pos 0) ⊎ (negative (remZ a b) ≡ neg
 rem-sign (pos a) b = inr refl
 rem-sign (negsuc a) b = neg-sign (suc a % natAbs b) a
 
-same-is : (x y : ℤ) → eqZ x y ≡ true → x ≡ y
-same-is (pos a) (pos b) e = ap pos (eqb-true a b e)
-same-is (pos a) (negsuc b) e = absurd (let u : _≡_ {A = ℕ} 0 1 = cc in omega arith)
-same-is (negsuc a) (pos b) e = absurd (let u : _≡_ {A = ℕ} 0 1 = cc in omega arith)
-same-is (negsuc a) (negsuc b) e = ap negsuc (eqb-true a b e)
-
 alike-is : (a b : Bool) → alike a b ≡ true → a ≡ b
 alike-is true b e = sym e
 alike-is false true e = e
@@ -73,7 +68,7 @@ sub-case P a b f g = go (ltb a b) refl
     go false e = g (ltb-false a b e)
 
 shifted : (r b : ℤ) → eqZ r (pos 0) ≡ false → alike (negative r) (negative b) ≡ false → natAbs r < natAbs b → Shifted r b
-shifted (pos r) (pos b) e f h = absurd (let u : _≡_ {A = ℕ} 0 1 = cc in omega arith)
+shifted (pos r) (pos b) e f h = false-true (sym f)
 shifted (pos r) (negsuc b) e f h =
     let n = eqb-false r 0 e in
     record {
@@ -85,7 +80,7 @@ shifted (negsuc r) (pos b) e f h =
       sign = sub-case (λ z. negative z ≡ false) b (suc r) (λ l. absurd (omega arith)) (λ l. refl);
       small = sub-case (λ z. natAbs z < b) b (suc r) (λ l. omega arith) (λ l. omega arith);
     }
-shifted (negsuc r) (negsuc b) e f h = absurd (let u : _≡_ {A = ℕ} 0 1 = cc in omega arith)
+shifted (negsuc r) (negsuc b) e f h = false-true (sym f)
 
 shift-whole : (a b q r : ℤ) → q *ℤ b +ℤ r ≡ a → a ≡ b *ℤ predℤ q +ℤ (r +ℤ b)
 shift-whole a b q r e =
@@ -109,7 +104,7 @@ divided a b e = go (eqZ (remZ a b) (pos 0)) refl (alike (negative (remZ a b)) (n
     }
 
     go : (z : Bool) → eqZ (remZ a b) (pos 0) ≡ z → (t : Bool) → alike (negative (remZ a b)) (negative b) ≡ t → Divided a b (quotZ a b) (remZ a b) (modZ a b)
-    go true f t g = kept (rw f) (inl (same-is (remZ a b) (pos 0) f))
+    go true f t g = kept (rw f) (inl (eqZ-true (remZ a b) (pos 0) f))
     go false f true g = kept (rw (f, g)) (inr (alike-is (negative (remZ a b)) (negative b) g))
     go false f false g =
         let h = shifted (remZ a b) b f g (rem-small a b e) in
@@ -176,9 +171,6 @@ mag-quot (negsuc a) (negsuc zero) n h e = go (eqb a n) refl
     go false z = let d = eqb-false a n z in omega arith
 mag-quot (negsuc a) (negsuc (suc b)) n h e = let d : suc a / suc (suc b) < suc a = div-lt-self (omega arith) (omega arith) in omega arith
 
-true-false : {P : Type 0} → true ≡ false → P
-true-false e = absurd (let u : _≡_ {A = ℕ} 0 1 = cc in omega arith)
-
 -- of two integers only the least by -1 has a quotient that is none
 pub quotient-outside : (x y : ℤ) → inRange x ≡ true → (inRange (quotZ x y) ≡ false) ↔ ((x ≡ negsuc 2147483647) × (y ≡ negsuc 0))
 unfolding inRange
@@ -191,6 +183,6 @@ quotient-outside x y i = (λ e. outside e (eqZ x (negsuc 2147483647)) refl (eqZ 
     inside n = range-mag (quotZ x y) ∙ le-leb (mag (quotZ x y)) 2147483647 (mag-quot x y 2147483647 within n)
 
     outside : inRange (quotZ x y) ≡ false → (s : Bool) → eqZ x (negsuc 2147483647) ≡ s → (t : Bool) → eqZ y (negsuc 0) ≡ t → (x ≡ negsuc 2147483647) × (y ≡ negsuc 0)
-    outside e true f true g = (same-is x (negsuc 2147483647) f, same-is y (negsuc 0) g)
-    outside e false f t g = true-false (sym (inside (λ p q. true-false (sym (ap (λ z. eqZ z (negsuc 2147483647)) p) ∙ f))) ∙ e)
-    outside e true f false g = true-false (sym (inside (λ p q. true-false (sym (ap (λ z. eqZ z (negsuc 0)) q) ∙ g))) ∙ e)
+    outside e true f true g = (eqZ-true x (negsuc 2147483647) f, eqZ-true y (negsuc 0) g)
+    outside e false f t g = false-true (sym e ∙ inside (λ p q. false-true (sym f ∙ ap (λ z. eqZ z (negsuc 2147483647)) p)))
+    outside e true f false g = false-true (sym e ∙ inside (λ p q. false-true (sym g ∙ ap (λ z. eqZ z (negsuc 0)) q)))

@@ -32,7 +32,7 @@ pad-zeros zero [] e h = refl
 pad-zeros zero (z ∷ l) e h = absurd (omega arith)
 pad-zeros (suc n) [] e h = absurd (omega arith)
 pad-zeros (suc n) (z ∷ l) e h =
-    ap (λ y. y ∷ l) (eqZ-true z 0 (and-left (eqZ z (pos 0)) _ h)) ∙ ap (λ r. pos 0 ∷ r) (pad-zeros n l (omega arith) (and-right (eqZ z (pos 0)) _ h))
+    ap (λ y. y ∷ l) (eqZ-true z (pos 0) (and-left (eqZ z (pos 0)) _ h)) ∙ ap (λ r. pos 0 ∷ r) (pad-zeros n l (omega arith) (and-right (eqZ z (pos 0)) _ h))
 
 -- values of their types, padded, are accepted ..
 pub slots-ok : (n : ℕ) (ts : List Ty) (l : List ℤ) → Values ts l → length ts ≤ n → slotsOk ts (pad n l) ≡ true

@@ -23,6 +23,7 @@ use Rattle.language.proofs.Judged.{accepts}
 use Rattle.language.proofs.WellFormed.{valid-well-formed}
 use Rattle.semantics.specs.Calls.{Answer, performed, not-performed, Called, Call}
 use Rattle.semantics.specs.Advances.{cycleAnswer}
+use Rattle.semantics.proofs.Faults.{operator-number}
 use Rattle.semantics.proofs.Basic.{false-true, eqb-true, eqb-same, and-left, and-right, and-both}
 use Rattle.format.specs.Words.{Bytes}
 use Rattle.format.specs.Signature.{Signature}
@@ -181,10 +182,10 @@ module _ (image : List ℕ) (t : Table) (e : openOf image ≡ opened t) where
 
 -- LENGTHS AND SIZES
 module _ (image : List ℕ) (h : Bytes image) (t : Table) (e : openOf image ≡ opened t) where
-  outcome-number : (s : State) (i o : List ℤ) (r : Called) → Outcome t s i o r → (q k : ℕ) → r .answer ≡ not-performed q k → q ≤ 16
+  outcome-number : (s : State) (i o : List ℤ) (r : Called) → Outcome t s i o r → (q k : ℕ) → r .answer ≡ not-performed q k → q ≤ 18
   outcome-number s i o _ (row-refused x m) q k f = let z : q ≡ 14 = cc in omega arith
   outcome-number s i o _ (state-refused m b) q k f = let z : q ≡ 15 = cc in omega arith
-  outcome-number s i o _ (operator-refused x m b l y) q k f = let z : q ≡ 16 = cc in omega arith
+  outcome-number s i o _ (operator-refused n x u m b l y) q k f = let z : n ≡ q = cc in omega (arith, operator-number n u .1)
   outcome-number s i o _ (performs p τ m b y w v n l) q k f = absurd (let z : _≡_ {A = ℕ} 0 1 = cc in omega arith)
 
   rows-long : (n i o : ℕ) (s : State) (is os : List ℤ) → length os ≡ n * o → length (rowsLeft (callsOf image s (callsIn n i o is os))) ≡ length os
@@ -211,7 +212,7 @@ module _ (image : List ℕ) (h : Bytes image) (t : Table) (e : openOf image ≡ 
       let b = three (cycleAnswer (r .answer)) in
       omega arith
 
-  numbers-small : (a : Answer) → ((way : List ℕ) → a ≡ performed way → length way ≤ 512) → ((q k : ℕ) → a ≡ not-performed q k → q ≤ 16) → ((q k : ℕ) → a ≡ not-performed q k → k ≤ 512)
+  numbers-small : (a : Answer) → ((way : List ℕ) → a ≡ performed way → length way ≤ 512) → ((q k : ℕ) → a ≡ not-performed q k → q ≤ 18) → ((q k : ℕ) → a ≡ not-performed q k → k ≤ 512)
       → (l : List ℕ) → ((k : ℕ) → getD l k 0 ≤ 512) → (k : ℕ) → getD (numbersOf (cycleAnswer a) ++ l) k 0 ≤ 512
   numbers-small (performed way) x y z l g zero = omega arith
   numbers-small (performed way) x y z l g (suc zero) = omega arith

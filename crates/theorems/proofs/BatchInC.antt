@@ -63,7 +63,7 @@ module _ (image : List ℕ) (h : Bytes image) (t : Table) (e : openOf image ≡ 
   row-read : (l i o : List ℤ) (r : Called) → Outcome t (stateOfC l) i o r → stateOfC (cycledSlots (r .answer) (r .state) l) ≡ r .state
   row-read l i o _ (row-refused k m) = refl
   row-read l i o _ (state-refused m b) = refl
-  row-read l i o _ (operator-refused x m b y q) = refl
+  row-read l i o _ (operator-refused q x u m b y z) = refl
   row-read l i o _ (performs p τ m b q a y n z) = back _ (wait-whole image h t e p (a .inside) (τ .memory))
 
   record Same (l : List ℤ) (cs : List Call) : Type 0 where

@@ -112,7 +112,7 @@ module _ (image : List ℕ) (h : Bytes image) where
   row-carried : (t : Table) → openOf image ≡ opened t → (s : State) → Whole s → (c : Call) (r : Called) → Image.Outcome t s (c .inputs) (c .outputs) r → Carried s r
   row-carried t o s w c r (Image.row-refused k m) = record { seen = refl; whole = w }
   row-carried t o s w c r (Image.state-refused m b) = record { seen = refl; whole = w }
-  row-carried t o s w c r (Image.operator-refused x m b l q) = record { seen = refl; whole = w }
+  row-carried t o s w c r (Image.operator-refused q x u m b l y) = record { seen = refl; whole = w }
   row-carried t o s w c r (Image.performs p τ m b q a y n l) =
       record { seen = refl; whole = wait-whole t o p (a .inside) (τ .memory) }
 

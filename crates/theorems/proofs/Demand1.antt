@@ -185,10 +185,10 @@ module _ (text : List ℕ) (q k : ℕ) where
         go none e = refl
         go (some x) e = absurd (m x (meets-14-exactly d (fed c) x .0 e))
 
-    overflows-row : (d : Process) (g : Kept) → rowRefusal d (fed c) ≡ none
+    faults-row : (d : Process) (g : Kept) → rowRefusal d (fed c) ≡ none
         → Equations.cycle (d .body) (g .place) (c .inputs) (record { way = []; memory = g .memory }) ≡ Equations.refused q k → told (row d g (fed c) .0) ≡ not-performed q k
     unfolding row judged concluded
-    overflows-row d g n e = rw (n, e)
+    faults-row d g n e = rw (n, e)
 
     direct-back : P.DirectRefused text s c q k → directOf text s c .answer ≡ not-performed q k
     unfolding directOf directRow
@@ -203,7 +203,7 @@ module _ (text : List ℕ) (q k : ℕ) where
         let w = valid-well-formed v in
         let y : directRow d s c ≡ seen (row d (g .kept) (fed c)) c = subst (λ (z : State). directRow d z c ≡ seen (row d (g .kept) (fed c)) c) (g .layout) (direct-row d w (g .kept) (g .invariant) c) in
         let x = refusal-exactly (c .inputs) q (d .body) (g .kept .place) (record { way = []; memory = g .kept .memory }) k .1 o in
-        ap (λ (r : Called). r .answer) (accepted-row d v ∙ y) ∙ overflows-row d (g .kept) (no-14 d m) x
+        ap (λ (r : Called). r .answer) (accepted-row d v ∙ y) ∙ faults-row d (g .kept) (no-14 d m) x
 
     on-answers : (d : Process) → Valid text d → ((x : ℕ) → Meets14 d (fed c) x → ⊥) → (g : Described d s) (r : Outcome × Kept) → Answers d (g .kept) (fed c) r
         → told (r .0) ≡ not-performed q k → P.DirectRefused text s c q k

@@ -1,16 +1,18 @@
 -- The promises, each proved in a few lines from the theorems below. Assumes nothing.
 use mathlib.Core.Path.{_≡_, refl, sym, _∙_, ap, subst}
-use mathlib.Core.Logic.{⊎-elim}
+use mathlib.Core.Bool.{true}
 use mathlib.Core.List.{List, [], _∷_}
 use Prim.Native.Nat.{ℕ, _≤_}
 use native.Mathlib.Omega.{arith}
 use lib.ListN.{length}
 use lib.IntN.{ℤ}
 use Rattle.answers.specs.declared.State.{State}
+use Rattle.design.specs.Types.{inRange}
 use Rattle.design.specs.Process.{Process, WellFormed}
 use Rattle.language.specs.Validity.{Valid}
 use Rattle.language.proofs.Judged.{accepts}
 use Rattle.language.proofs.WellFormed.{valid-well-formed}
+use Rattle.semantics.proofs.Faults.{operator-number}
 use Rattle.semantics.specs.Calls.{Answer, performed, not-performed, Called, Call}
 use Rattle.format.specs.Words.{Bytes}
 use Rattle.format.specs.Image.{Table, sectionsFor}
@@ -25,12 +27,13 @@ use Rattle.theorems.specs.Compile.{written, compileOf}
 use Rattle.theorems.specs.Lending.{boundsOf}
 use Rattle.theorems.specs.CInterface.{compileInC}
 use Rattle.theorems.specs.Batch.{Batched, BatchTold, BatchOfText, BatchInC, BatchOfTextInC}
-use Rattle.theorems.specs.Promises.{Demand1, Demand2, Demand3, Handed, SectionsLent, AnswersTold, ToldByEntry, SlotsInC, ToldInC, doneNumbers, CallsInC, Compiled, Returned}
+use Rattle.theorems.specs.Promises.{Demand1, Demand2, Multiplying, Demand3, Handed, SectionsLent, AnswersTold, ToldByEntry, SlotsInC, ToldInC, doneNumbers, CallsInC, Compiled, Returned}
 use Rattle.theorems.proofs.Size.{valid-fits}
 use Rattle.theorems.proofs.Demand1 as D1
 use Rattle.theorems.proofs.Demand2 as D2
 use Rattle.theorems.proofs.Demand3 as D3
 use Rattle.theorems.proofs.Demand3.{Wrote, wrote}
+use Rattle.theorems.proofs.Multiplying as M
 use Rattle.theorems.proofs.Handed as H
 use Rattle.theorems.proofs.SectionsLent as L
 use Rattle.theorems.proofs.Entry as E
@@ -45,6 +48,10 @@ demand1 = D1.demand1
 -- DEMAND 2, for every text
 pub demand2 : (text : List ℕ) → Demand2 text
 demand2 = D2.demand2
+
+-- THE MULTIPLYING OPERATORS, for every two integers
+pub multiplying : (x y : ℤ) → inRange x ≡ true → inRange y ≡ true → Multiplying x y
+multiplying = M.multiplying
 
 -- DEMAND 3, for every text and buffer, where the compile wrote n bytes
 pub demand3 : (text buffer : List ℕ) (n : ℕ) → compileOf text buffer .answer ≡ written n → Demand3 text buffer n
@@ -127,7 +134,7 @@ refused-performs q x way e = let z : _≡_ {A = ℕ} 0 1 = cc in omega arith
 not-15 : (t : Table) (s : State) (d : Call) (r : Called) (k : ℕ) → GoodState t s → Outcome t s (d .inputs) (d .outputs) r → r .answer ≡ not-performed 15 k → ⊥
 not-15 t s d r k g (row-refused x m) e = let z : _≡_ {A = ℕ} 14 15 = cc in omega arith
 not-15 t s d r k g (state-refused m b) e = b g
-not-15 t s d r k g (operator-refused q x o m b l y) e = let z : q ≡ 15 = cc in ⊎-elim (λ (h : q ≡ 16). let u : _≡_ {A = ℕ} 16 15 = sym h ∙ z in omega arith) (λ (h : q ≡ 18). let u : _≡_ {A = ℕ} 18 15 = sym h ∙ z in omega arith) o
+not-15 t s d r k g (operator-refused q x o m b l y) e = let z : q ≡ 15 = cc in omega (arith, operator-number q o .0)
 not-15 t s d r k g (performs p τ m b q w y n l) e = let z : _≡_ {A = ℕ} 0 1 = cc in omega arith
 
 returns-good : (t : Table) (s : State) (c : Call) (r : Called) (way : List ℕ) → Outcome t s (c .inputs) (c .outputs) r → r .answer ≡ performed way → GoodState t (r .state)

@@ -20,7 +20,7 @@ use Rattle.theorems.proofs.Demand1.{demand1}
 row-untouched : (d : Process) (k : Kept) (c : Call) (r : Outcome × Kept) (q x : ℕ) → Answers d k (fed c) r → told (r .0) ≡ not-performed q x
     → (laid (r .1) ≡ laid k) × (left (r .0) (c .outputs) ≡ c .outputs)
 row-untouched d k c r q x (A.by-14 y m) e = (refl, refl)
-row-untouched d k c r q x (A.by-16 n m o) e = (refl, refl)
+row-untouched d k c r q x (A.by-operator j n m o) e = (refl, refl)
 row-untouched d k c r q x (A.performs y τ m h w) e = absurd (let z : _≡_ {A = ℕ} 0 1 = cc in omega arith)
 
 pub direct-untouched : (text : List ℕ) (s : State) (c : Call) (q k : ℕ) → directOf text s c .answer ≡ not-performed q k
