@@ -1,90 +1,52 @@
--- Products and divisions as texts, each computed from its bytes. Assumes nothing.
-use mathlib.Core.Path.{_≡_, refl}
-use mathlib.Core.Option.{Option, none, some}
-use mathlib.Core.List.{List, [], _∷_, map}
+-- Document 02's values of slip 2, and those at the edges, as one table of claims on whole texts: table, direct run and equations alike. Each is computed from the
+-- text's bytes. Assumes nothing.
+use mathlib.Core.Path.{refl}
+use mathlib.Core.List.{List, [], _∷_, _++_}
+use Prim.Native.Nat.{ℕ}
 use Prim.Native.String.{String}
-use Prim.Native.Nat.{ℕ, suc}
+use lib.ListN.{replicate}
 use lib.IntN.{ℤ, pos, negsuc}
+use Rattle.grammar.specs.Limits.{Each}
 use Rattle.language.specs.Bytes.{bytes}
-use Rattle.language.proofs.Examples.{stmts}
-use Rattle.semantics.specs.Rows.{Call, Kept, Outcome, performed, row-refused, operator-refused}
-use Rattle.examples.proofs.Equations.{rowsOf, opened}
+use Rattle.semantics.specs.Calls.{Call, Answer, Called, performed, not-performed}
+use Rattle.examples.proofs.Nine.{Claim, traces, one-image, Says, imageOf, tableTrace, directTrace, equationTrace, all-computed}
 
-abbrev row5 : Call
-row5 = record { inputs = pos 0 ∷ pos 1 ∷ pos 0 ∷ pos 5 ∷ []; room = 2 }
+-- a board that gives out one expression, on its line 1; its output holds 9 at first
+abbrev gives : String → List ℕ
+gives e =
+    bytes "entity e is port(clk:in std_logic;o:out integer:=9);end e;architecture t of e is begin process begin null;o<=" ++
+    (bytes e ++ bytes ";wait until clk='1';end process;end t;")
 
--- the refusal, or 0, and the place or 0; the variables
-abbrev told : Outcome × Kept → ℕ × ℕ × List ℤ
-told (performed o w, k) = (0, 0, k .memory .variables)
-told (row-refused n, k) = (14, n, k .memory .variables)
-told (operator-refused q n, k) = (q, n, k .memory .variables)
+abbrev leaves : Answer → ℕ → ℤ → ℤ → List Called
+leaves a p z r = record { answer = a; state = record { place = p; outputs = z ∷ replicate 15 (pos 0); variables = replicate 32 (pos 0) }; row = r ∷ [] } ∷ []
 
-abbrev first : Option (List (Outcome × Kept)) → Option (ℕ × ℕ × List ℤ)
-first none = none
-first (some []) = none
-first (some (r ∷ rs)) = some (told r)
+-- one row, whose output row holds 99: the expression's value is given out ..
+abbrev is : String → ℤ → Claim
+is e z = traces (gives e) (record { inputs = []; outputs = pos 99 ∷ [] } ∷ []) (leaves (performed (0 ∷ 1 ∷ 2 ∷ [])) 2 z z)
 
-abbrev gives : String → Option (ℕ × ℕ × List ℤ)
-gives t = first (rowsOf (stmts t) (row5 ∷ []))
+-- .. or an operator of line 1 is refused by this number
+abbrev refused : String → ℕ → Claim
+refused e q = traces (gives e) (record { inputs = []; outputs = pos 99 ∷ [] } ∷ []) (leaves (not-performed q 1) 512 (pos 9) (pos 99))
 
-abbrev left : ℤ → ℤ → Option (ℕ × ℕ × List ℤ)
-left x y = some (0, 0, x ∷ y ∷ pos 1 ∷ [])
+abbrev pub divisions : List Claim
+divisions =
+    -- "(-7) mod 3 is 2, (-7) rem 3 is -1, 7 mod (-3) is -2"; "`-7 mod 3` is -1"
+    is "(-7) mod 3" (pos 2) ∷ is "(-7) rem 3" (negsuc 0) ∷ is "7 mod (-3)" (negsuc 1) ∷ is "-7 mod 3" (negsuc 0) ∷
+    -- "/ cuts toward zero"
+    is "(-7) / 2" (negsuc 2) ∷ is "7 / (-2)" (negsuc 2) ∷
+    -- "A product outside integer and the least integer divided by -1 get 16; the latter's mod and rem by -1 are 0"
+    refused "65536 * 32768" 16 ∷ is "(-65536) * 32768" (negsuc 2147483647) ∷ refused "-65536 * 32768" 16 ∷
+    refused "(-2147483647 - 1) / (-1)" 16 ∷ is "(-2147483647 - 1) mod (-1)" (pos 0) ∷ is "(-2147483647 - 1) rem (-1)" (pos 0) ∷
+    is "(-2147483647) / (-1)" (pos 2147483647) ∷
+    -- "18, a zero divisor"
+    refused "1 / 0" 18 ∷ refused "1 mod 0" 18 ∷ refused "1 rem 0" 18 ∷ refused "0 / 0" 18 ∷ is "0 / 1" (pos 0) ∷
+    -- "16 and 18 go by whichever operator is reached first": operands before operators, left before right
+    refused "(2147483647 + 1) / 0" 16 ∷ refused "1 / 0 + (2147483647 + 1)" 18 ∷ refused "(2147483647 + 1) + 1 / 0" 16 ∷
+    -- "binding tighter than +", left first
+    is "2 + 3 * 4" (pos 14) ∷ is "100 / 7 * 7" (pos 98) ∷ is "100 - 100 / 7 * 7 mod 5" (pos 97) ∷ is "-2 * 3 + 10" (pos 4) ∷
+    one-image (gives "2+3*4-5/6 mod 7") (gives "(2+(3*4))-((5/6)mod 7)") 107 ∷ []
 
-abbrev refusedBy : ℕ → Option (ℕ × ℕ × List ℤ)
-refusedBy q = some (q, 1, pos 0 ∷ pos 0 ∷ pos 1 ∷ [])
-
-pub sevens : gives "s := (-7) mod 3; u := (-7) rem 3;" ≡ left (pos 2) (negsuc 0)
-unfolding opened
-sevens = refl
-
-pub sevens2 : gives "s := 7 mod (-3); u := -7 mod 3;" ≡ left (negsuc 1) (negsuc 0)
-unfolding opened
-sevens2 = refl
-
-pub halves : gives "s := (-7) / 2; u := 7 / (-2);" ≡ left (negsuc 2) (negsuc 2)
-unfolding opened
-halves = refl
-
-pub least : gives "null; s := (-2147483647 - 1) / (-1);" ≡ refusedBy 16
-unfolding opened
-least = refl
-
-pub least-rest : gives "s := (-2147483647 - 1) mod (-1); u := (-2147483647 - 1) rem (-1);" ≡ left (pos 0) (pos 0)
-unfolding opened
-least-rest = refl
-
-pub product : gives "null; s := 65536 * 32768;" ≡ refusedBy 16
-unfolding opened
-product = refl
-
-pub signed-product : gives "null; s := -65536 * 32768;" ≡ refusedBy 16
-unfolding opened
-signed-product = refl
-
-pub product-least : gives "s := (-65536) * 32768; u := 2 + 3 * 4;" ≡ left (negsuc 2147483647) (pos 14)
-unfolding opened
-product-least = refl
-
-pub zero-quotient : gives "null; s := 1 / 0;" ≡ refusedBy 18
-unfolding opened
-zero-quotient = refl
-
-pub zero-mod : gives "null; s := 1 mod 0;" ≡ refusedBy 18
-unfolding opened
-zero-mod = refl
-
-pub zero-rem : gives "null; s := 1 rem 0;" ≡ refusedBy 18
-unfolding opened
-zero-rem = refl
-
-pub operands-first : gives "null; s := (2147483647 + 1) / 0;" ≡ refusedBy 16
-unfolding opened
-operands-first = refl
-
-pub left-first : gives "null; s := 1 / 0 + (2147483647 + 1);" ≡ refusedBy 18
-unfolding opened
-left-first = refl
-
-pub grouped : gives "s := 100 / 7 * 7; u := 100 - 100 / 7 * 7 mod 5;" ≡ left (pos 98) (pos 97)
-unfolding opened
-grouped = refl
+pub divisions-hold : Each Says divisions
+unfolding all-computed imageOf tableTrace directTrace equationTrace
+divisions-hold =
+    ((refl, refl, refl), ((refl, refl, refl), ((refl, refl, refl), ((refl, refl, refl), ((refl, refl, refl), ((refl, refl, refl), ((refl, refl, refl), ((refl, refl, refl), ((refl, refl, refl), ((refl, refl, refl), ((refl, refl, refl), ((refl, refl, refl), ((refl, refl, refl), ((refl, refl, refl), ((refl, refl, refl), ((refl, refl, refl), ((refl, refl, refl), ((refl, refl, refl), ((refl, refl, refl), ((refl, refl, refl), ((refl, refl, refl), ((refl, refl, refl), ((refl, refl, refl), ((refl, refl, refl), ((refl, refl, refl), ((refl, refl), tt))))))))))))))))))))))))))

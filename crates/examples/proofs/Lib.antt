@@ -4,3 +4,4 @@ pub mod Equations
 pub mod Images
 pub mod Nine
 pub mod Batches
+pub mod Divisions

@@ -56,7 +56,7 @@ unfoldable pub equationTrace : List ℕ → List Call → List Called
 equationTrace text cs = onVerdict (verdict text) cs
 
 -- opens all that the direct run and the equations compute by, beside what the image and its calls do
-unfoldable all-computed : List ℕ → List Call → List Called
+unfoldable pub all-computed : List ℕ → List Call → List Called
 unfolding opened Equations.pick Equations.start Equations.resume Equations.enter Equations.cycle Rows.atFirst Rows.rowRefusal Rows.concluded Rows.judged Rows.row Comparison.equationCalls DirectRow.fitsText DirectRow.placeFor DirectRow.keptOf DirectRow.directRow directOf directFresh directCalls equationTrace
 all-computed text cs = equationTrace text cs
 

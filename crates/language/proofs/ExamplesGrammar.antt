@@ -31,6 +31,20 @@ examples =
     accepts (stmts "s := s - (-1);") ∷
     accepts (stmts "s := -u - 1;") ∷
     accepts (stmts "if s = -u then null; end if;") ∷
+    -- slip 2: "binding tighter than +", one sign before the first term only, `/=` the longest; grouping is free
+    refused-at 3 (stmts "s := s * ^-2;") "-" ∷
+    refused-at 3 (stmts "s := 7 mod ^-3;") "-" ∷
+    refused-at 3 (stmts "s := s *^* u;") "*" ∷
+    refused-at 3 (stmts "s := s / ^= 2;") "=" ∷
+    refused-at 3 (stmts "s := ^* u;") "*" ∷
+    refused-at 3 (stmts "s := s rem ^;") ";" ∷
+    accepts (stmts "s := s * (-2);") ∷
+    accepts (stmts "s := -7 mod 3 * s / 2 rem s - u*u;") ∷
+    accepts (stmts "if s/=2 then null; end if;") ∷
+    -- `mod` and `rem` are reserved, in either case
+    refused-at 3 (vars "variable ^mod : integer := 0;") "mod" ∷
+    refused-at 3 (vars "variable ^REM : integer := 0;") "REM" ∷
+    accepts (vars "variable mod_1, remx : integer := 0;") ∷
     -- "not on a primary"
     refused-at 3 (stmts "q <= not ^not a;") "not" ∷
     refused-at 3 (stmts "s := not ^- s;") "-" ∷

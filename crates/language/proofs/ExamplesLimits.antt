@@ -67,6 +67,8 @@ examples =
     accepts (around (bytes "s := -u" ++ (times 31 " + u" ++ bytes ";"))) ∷
     refused-at 4 (around (bytes "s := -u" ++ (times 31 " + u" ++ bytes " ^+ u;"))) "+" ∷
     refused-at 4 (around (bytes "s := u" ++ (times 31 " + u" ++ bytes " + ^u;"))) "u" ∷
+    accepts (around (bytes "s := -u" ++ (times 31 " * u" ++ bytes ";"))) ∷
+    refused-at 4 (around (bytes "s := -u" ++ (times 31 " rem u" ++ bytes " ^mod u;"))) "mod" ∷
     accepts (around (bytes "q <= not ((a))" ++ (times 31 " and a" ++ bytes ";"))) ∷
     refused-at 4 (around (bytes "q <= not (a)" ++ (times 31 " and a" ++ bytes " ^and a;"))) "and" ∷
     -- "16 open parentheses": at once, not in all

@@ -54,7 +54,7 @@ between x o y =
     refuses 6 (bytes "entity e is port(clk,a:in std_logic;d:in integer);end e;architecture t of e is begin process begin if " ++ (bytes x ++ (bytes " ^" ++ (bytes o ++
     (bytes " " ++ (bytes y ++ bytes " then null;end if;wait until clk='1';end process;end t;")))))) (bytes o)
 
--- "+ - and the orders take integers": all pairs but two integers are wrong
+-- "+ - and the orders take integers", * / mod rem too: all pairs but two integers are wrong
 abbrev integers : String → List Example
 integers o =
     between "a" o "a" ∷ between "a" o "d" ∷ between "a" o "(d=d)" ∷ between "d" o "a" ∷ between "d" o "(d=d)" ∷
@@ -74,14 +74,18 @@ logical o =
 
 abbrev pub operators : List Example
 operators =
-    integers "+" ++ (integers "-" ++ (integers "<" ++ (integers "<=" ++ (integers ">" ++ (integers ">=" ++ (alike "=" ++ (alike "/=" ++ (logical "and" ++ (logical "or" ++ (logical "xor" ++ (
+    integers "+" ++ (integers "-" ++ (integers "<" ++ (integers "<=" ++ (integers ">" ++ (integers ">=" ++ (alike "=" ++ (alike "/=" ++ (logical "and" ++ (logical "or" ++ (logical "xor" ++ (integers "*" ++ (integers "/" ++ (integers "mod" ++ (integers "rem" ++ (
+    -- not stands on a primary: (not d) * u, (not a) * b
+    refused-at 6 (stmts "s := ^not d * u;") "not" ∷
+    refused-at 6 (stmts "q <= not a ^* b;") "*" ∷
+    accepts (stmts "s := -d * u / 2 mod 3 rem u;") ∷
     refused-at 6 (stmts "s := ^- a;") "-" ∷
     refused-at 6 (stmts "s := ^- (a = b);") "-" ∷
     refused-at 6 (stmts "q <= ^not d;") "not" ∷
     accepts (stmts "s := -d + 1 - u; q <= a and b; q <= not a or f; q <= a xor '1';") ∷
     accepts (stmts "if d < 1 and d <= 1 then null; end if; if d > 1 or d >= 1 then null; end if; if d = 1 xor d /= 1 then null; end if;") ∷
     accepts (stmts "if a = b and a /= '0' and not (d = 1) then null; end if;") ∷
-    [])))))))))))
+    [])))))))))))))))
 
 abbrev pub types : List Example
 types =

@@ -13,10 +13,6 @@ examples =
     -- "byte that begins no token"
     refused-at 2 (vars "variable ^_a : integer := 0;") "" ∷
     refused-at 2 (stmts "s := 1^#;") "" ∷
-    accepts (stmts "s := -7 mod 3 * s / 2 rem s;") ∷
-    refused-at 3 (stmts "s := s / ^= 2;") "=" ∷
-    refused-at 3 (stmts "s := s * ^-2;") "-" ∷
-    refused-at 3 (vars "variable ^mod : integer := 0;") "mod" ∷
     refused-at 2 (stmts "f := ^'2';") "" ∷
     refused-at 2 (stmts "f := ^'0 ;") "" ∷
     refused-at 2 (stmts "f := ^'';") "" ∷
