@@ -3,6 +3,7 @@ pub mod Slots
 pub mod Faults
 pub mod Divided
 pub mod DividedOnce
+pub mod Multiplying
 pub mod Names
 pub mod Values
 pub mod Results

@@ -9,6 +9,7 @@ pub mod Automaton
 pub mod Correspondence
 pub mod PublishedRows
 pub mod Division
+pub mod Multiplying
 pub mod Faults
 pub mod Refusal
 pub mod InputRow

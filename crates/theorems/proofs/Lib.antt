@@ -8,7 +8,6 @@ pub mod Demand3
 pub mod Lending
 pub mod Handed
 pub mod SectionsLent
-pub mod Multiplying
 pub mod Main
 pub mod TokensOf
 pub mod LexedPlaces

@@ -12,6 +12,8 @@ use Rattle.design.specs.Process.{Process, WellFormed}
 use Rattle.language.specs.Validity.{Valid}
 use Rattle.language.proofs.Judged.{accepts}
 use Rattle.language.proofs.WellFormed.{valid-well-formed}
+use Rattle.semantics.specs.Multiplying.{Multiplying}
+use Rattle.semantics.proofs.Multiplying as M
 use Rattle.semantics.proofs.Faults.{operator-number}
 use Rattle.semantics.specs.Calls.{Answer, performed, not-performed, Called, Call}
 use Rattle.format.specs.Words.{Bytes}
@@ -27,13 +29,12 @@ use Rattle.theorems.specs.Compile.{written, compileOf}
 use Rattle.theorems.specs.Lending.{boundsOf}
 use Rattle.theorems.specs.CInterface.{compileInC}
 use Rattle.theorems.specs.Batch.{Batched, BatchTold, BatchOfText, BatchInC, BatchOfTextInC}
-use Rattle.theorems.specs.Promises.{Demand1, Demand2, Multiplying, Demand3, Handed, SectionsLent, AnswersTold, ToldByEntry, SlotsInC, ToldInC, doneNumbers, CallsInC, Compiled, Returned}
+use Rattle.theorems.specs.Promises.{Demand1, Demand2, Demand3, Handed, SectionsLent, AnswersTold, ToldByEntry, SlotsInC, ToldInC, doneNumbers, CallsInC, Compiled, Returned}
 use Rattle.theorems.proofs.Size.{valid-fits}
 use Rattle.theorems.proofs.Demand1 as D1
 use Rattle.theorems.proofs.Demand2 as D2
 use Rattle.theorems.proofs.Demand3 as D3
 use Rattle.theorems.proofs.Demand3.{Wrote, wrote}
-use Rattle.theorems.proofs.Multiplying as M
 use Rattle.theorems.proofs.Handed as H
 use Rattle.theorems.proofs.SectionsLent as L
 use Rattle.theorems.proofs.Entry as E

@@ -3,11 +3,10 @@
 -- direct (`directOf`), direct_fresh (`directFresh`). They are functions, so every call ends and a refusal has one place. Assumes nothing.
 use mathlib.Core.Path.{_≡_}
 use mathlib.Core.Logic.{_↔_}
-use mathlib.Core.Bool.{false}
 use mathlib.Core.List.{List, [], _∷_, _++_, map}
 use Prim.Native.Nat.{ℕ, suc, _+_, _≤_, _<_}
 use lib.ListN.{length, getD, take, drop}
-use lib.IntN.{ℤ, pos, negsuc, _*ℤ_}
+use lib.IntN.{ℤ, pos}
 use denote.Ref.{RefT, now}
 use Rattle.answers.specs.Answers.{numberOf, placeOf, compileTold, freshTold, cycleTold}
 use Rattle.answers.specs.declared.State.{State}
@@ -20,8 +19,6 @@ use Rattle.answers.specs.declared.Cycled.{Cycled}
 use Rattle.answers.specs.declared.Cycled.the-variants.{Performed, NotPerformed}
 use Rattle.answers.specs.declared.Sections.{Sections}
 use Rattle.grammar.specs.Tree.{Text}
-use Rattle.design.specs.Types.{integer, plain, inRange}
-use Rattle.design.specs.Expression.{times, divide, modulo, remainder, fine, fault}
 use Rattle.design.specs.Statement.{size}
 use Rattle.design.specs.Process.{Process}
 use Rattle.language.specs.Lexing as Lexing
@@ -29,8 +26,6 @@ use Rattle.language.specs.Lexer.{tokenAt}
 use Rattle.language.specs.Reading.{reading}
 use Rattle.language.specs.Validity.{Parses, Valid, Refuses}
 use Rattle.language.specs.Verdict.{accepted, refused, verdict}
-use Rattle.semantics.specs.Division.{Divided}
-use Rattle.semantics.specs.Evaluation.{asInteger, applyBinary}
 use Rattle.semantics.specs.Rows.{Kept, Outcome, rows, atFirst}
 use Rattle.semantics.specs.Rows as R
 use Rattle.semantics.specs.Equations as Equations
@@ -163,22 +158,6 @@ pub record Demand2 (b : List ℕ) : Type 0 where
   -- "The direct run of an accepted text gives, row by row, what the published ABC-VHDL equations give": every list of calls, from the fresh state, beside
   -- the equations with refusals and as they are printed
   pub direct : (d : Process) → Valid b d → DirectRun b d
-
--- THE MULTIPLYING OPERATORS (document 02, slip 2), for every two integers x and y. "As in IEEE 1076": whatever meets the standard's sentences, `Divided`, is
--- what / mod rem give, so these sentences settle all three; and for every divisor but 0 something meets them.
-pub record Multiplying (x y : ℤ) : Type 0 where
-  -- "A product outside integer .. get 16"
-  pub product : applyBinary times (plain integer) x y ≡ asInteger (x *ℤ y)
-  -- "/ cuts toward zero, rem has the sign of the left operand and mod that of the right"
-  pub quotient : (q r m : ℤ) → Divided x y q r m → applyBinary divide (plain integer) x y ≡ asInteger q
-  pub remaining : (q r m : ℤ) → Divided x y q r m → applyBinary remainder (plain integer) x y ≡ fine r
-  pub modulus : (q r m : ℤ) → Divided x y q r m → applyBinary modulo (plain integer) x y ≡ fine m
-  pub solved : (y ≡ pos 0 → ⊥) → (q : ℤ) × (r : ℤ) × (m : ℤ) × Divided x y q r m
-  -- "and the least integer divided by -1 get 16": no other quotient of integers is outside integer
-  pub outside : (q r m : ℤ) → Divided x y q r m → (inRange q ≡ false) ↔ ((x ≡ negsuc 2147483647) × (y ≡ negsuc 0))
-  -- "18, a zero divisor"
-  pub zero-divisor : y ≡ pos 0
-      → (applyBinary divide (plain integer) x y ≡ fault 18) × (applyBinary modulo (plain integer) x y ≡ fault 18) × (applyBinary remainder (plain integer) x y ≡ fault 18)
 
 -- DEMAND 3, for one compile that wrote n bytes.
 

@@ -8,13 +8,13 @@ use lib.IntN.{ℤ, pos, negsuc, natAbs}
 use lib.Signed.{quotZ, remZ}
 use Rattle.design.specs.Types.{integer, plain, eqZ, inRange}
 use Rattle.design.specs.Expression.{Out, fine}
 use Rattle.semantics.specs.Division.{modZ, byNonzero, Divided}
 use Rattle.semantics.specs.Evaluation.{asInteger, binaryResult, applyBinary}
+use Rattle.semantics.specs.Multiplying.{Multiplying}
 use Rattle.semantics.proofs.Basic.{eqZ-true}
 use Rattle.semantics.proofs.Divided.{divided, quotient-outside}
 use Rattle.semantics.proofs.DividedOnce.{divided-once}
 use Rattle.semantics.proofs.Faults.{by-0, by-other}
-use Rattle.theorems.specs.Promises.{Multiplying}
 
 -- nothing is smaller than 0, so where something meets the sentences the divisor is not 0
 divisor-above : (x y q r m : ℤ) → Divided x y q r m → eqZ y (pos 0) ≡ false
