@@ -8,7 +8,8 @@ use borrow.Author.Tests.{ne-eqb}
 use Rattle.grammar.specs.Token.{Token}
 use Rattle.grammar.specs.Tree as T
 use Rattle.grammar.specs.Tree.{Expr}
-use Rattle.expressions.specs.Postfix.{Item, itemOf, binaryItem, postfix, Algebra, fold, one, two, stepItem, exec}
+use Rattle.expressions.specs.Postfix.{Item, itemOf, operatorCode, binaryItem, postfix, Algebra, fold, one, two, stepItem, exec}
+use Rattle.expressions.proofs.Codes.{code-above}
 
 -- For each construct: an item before k, in the state that its operands leave, claims what k claims in the state that the whole leaves. `Fits e w` is what an
 -- expression needs of the state it is met in, `effect e w` the state it leaves, `Claim k w` any claim about the items k, met in w.
@@ -48,9 +49,11 @@ module _ {W : Type 0} {Fits : Expr → W → Type 0} {effect : Expr → W → W}
 
 -- WITH A STACK
 
-step-binary : {A : Type 0} (g : Algebra A) (x : Token) (a b : A) (s : List A) → stepItem g (x .kind + 7) x (b ∷ (a ∷ s)) ≡ g .onBinary x a b ∷ s
+step-binary : {A : Type 0} (g : Algebra A) (x : Token) (a b : A) (s : List A) → stepItem g (operatorCode (x .kind)) x (b ∷ (a ∷ s)) ≡ g .onBinary x a b ∷ s
 unfolding stepItem two
-step-binary g x a b s = rw (ne-eqb (x .kind + 7) 1 (λ z. omega arith), ne-eqb (x .kind + 7) 2 (λ z. omega arith), ne-eqb (x .kind + 7) 3 (λ z. omega arith), ne-eqb (x .kind + 7) 4 (λ z. omega arith), ne-eqb (x .kind + 7) 5 (λ z. omega arith))
+step-binary g x a b s =
+    let h = code-above (x .kind) in
+    rw (ne-eqb (operatorCode (x .kind)) 1 (λ z. omega arith), ne-eqb (operatorCode (x .kind)) 2 (λ z. omega arith), ne-eqb (operatorCode (x .kind)) 3 (λ z. omega arith), ne-eqb (operatorCode (x .kind)) 4 (λ z. omega arith), ne-eqb (operatorCode (x .kind)) 5 (λ z. omega arith))
 
 stack-steps : {A : Type 0} (g : Algebra A) (r : List A) → Steps (λ (e : Expr) (s : List A). Unit {0}) (λ (e : Expr) (s : List A). fold g e ∷ s) (λ (k : List Item) (s : List A). exec g k s ≡ r)
 unfolding exec stepItem one fold

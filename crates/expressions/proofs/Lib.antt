@@ -1,3 +1,4 @@
+pub mod Codes
 pub mod Folds
 pub mod Items
 pub mod Behind

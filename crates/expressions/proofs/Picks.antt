@@ -8,12 +8,13 @@ use native.Mathlib.Omega.{arith}
 use native.Mathlib.Decide.{decLt}
 use borrow.Author.Tests.{ne-eqb}
 use lib.Dec.{T, eqb}
-use Rattle.grammar.specs.Token.{Token, NAME, NUMBER, ZERO, ONE, LP, RP, PLUS, MINUS, EQ, NE, LT, LE, GT, GE, AND, OR, XOR, NOT}
+use Rattle.grammar.specs.Token.{Token, NAME, NUMBER, ZERO, ONE, LP, RP, PLUS, MINUS, EQ, NE, LT, LE, GT, GE, AND, OR, XOR, NOT, TIMES, DIVIDE, MOD, REM}
 use Rattle.grammar.specs.Tree.{Expr, number, bit, name, sign, negate, binary, parens}
-use Rattle.grammar.specs.Grammar.{NonTerminal, expression, chain, ands, ors, xors, relation, compared, simple, terms, factor, primary, Says, Sym, tk, nt, Fun, item, opens, closes, Production, productions, _↠_}
+use Rattle.grammar.specs.Grammar.{NonTerminal, expression, chain, ands, ors, xors, relation, compared, simple, terms, term, factors, factor, primary, Says, Sym, tk, nt, Fun, item, opens, closes, Production, productions, _↠_}
 use Rattle.grammar.specs.Derivation.{_∈_, here, there}
 use Rattle.grammar.specs.Reader.{choose, elem, first, firsts, follow, nullable, nullables, chosen, Pick, take, no-rule, pick}
 use Rattle.cursor.proofs.Steps.{Into}
+use Rattle.expressions.specs.Tests.{isAdding, isScaling}
 
 -- the productions
 abbrev pub leafRule : (k : ℕ) → (Token → Expr) → Production primary
@@ -26,10 +27,13 @@ abbrev pub notRule : Production factor
 notRule = tk item NOT ∷ nt primary ∷ [] ↠ λ x a. negate x a
 
 abbrev pub signRule : Production simple
-signRule = tk item MINUS ∷ nt factor ∷ nt terms ∷ [] ↠ λ s a f. f (sign s a)
+signRule = tk item MINUS ∷ nt term ∷ nt terms ∷ [] ↠ λ s a f. f (sign s a)
 
 abbrev pub termRule : ℕ → Production terms
-termRule k = tk item k ∷ nt factor ∷ nt terms ∷ [] ↠ λ x b f a. f (binary x a b)
+termRule k = tk item k ∷ nt term ∷ nt terms ∷ [] ↠ λ x b f a. f (binary x a b)
+
+abbrev pub factorRule : ℕ → Production factors
+factorRule k = tk item k ∷ nt factor ∷ nt factors ∷ [] ↠ λ x b f a. f (binary x a b)
 
 abbrev pub comparedRule : ℕ → Production compared
 comparedRule k = tk item k ∷ nt simple ∷ [] ↠ λ x b a. binary x a b
@@ -72,13 +76,10 @@ pub pick-sign : pick (productions simple) MINUS ≡ take signRule
 unfolding pick productions chosen firsts nullables first nullable follow elem
 pick-sign = refl
 
-pub pick-plus : pick (productions terms) PLUS ≡ take (termRule PLUS)
+pub pick-term : (k : ℕ) → isAdding k → pick (productions terms) k ≡ take (termRule k)
 unfolding pick productions chosen firsts nullables first nullable follow elem
-pick-plus = refl
-
-pub pick-minus : pick (productions terms) MINUS ≡ take (termRule MINUS)
-unfolding pick productions chosen firsts nullables first nullable follow elem
-pick-minus = refl
+pick-term k (inl e) = rw e
+pick-term k (inr e) = rw e
 
 pub pick-and : (k : ℕ) → k ≡ AND → pick (productions ands) k ≡ take (andRule k)
 unfolding pick productions chosen firsts nullables first nullable follow elem
@@ -105,10 +106,35 @@ pub chain-xor : (k : ℕ) → k ≡ XOR → pick (productions chain) k ≡ take 
 unfolding pick productions chosen firsts nullables first nullable follow elem
 chain-xor k e = rw e
 
--- a comparison
+-- a kind within bounds, one after the other
 at-or-above : (j k : ℕ) → j ≤ k → (k ≡ j) ⊎ (suc j ≤ k)
 at-or-above j k h = elim (decLt j k) [ yes l ↦ inr l | no l ↦ inl (omega arith) ]
 
+-- an operator of a product
+pub pick-factor : (k : ℕ) → isScaling k → pick (productions factors) k ≡ take (factorRule k)
+unfolding pick productions chosen firsts nullables first nullable follow elem
+pick-factor k w = from44 (at-or-above 44 k (w .0))
+  where
+    Goal : Type 0
+    Goal = pick (productions factors) k ≡ take (factorRule k)
+
+    from47 : (k ≡ 47) ⊎ (48 ≤ k) → Goal
+    from47 (inl e) = rw e
+    from47 (inr h) = absurd (omega arith)
+
+    from46 : (k ≡ 46) ⊎ (47 ≤ k) → Goal
+    from46 (inl e) = rw e
+    from46 (inr h) = from47 (at-or-above 47 k h)
+
+    from45 : (k ≡ 45) ⊎ (46 ≤ k) → Goal
+    from45 (inl e) = rw e
+    from45 (inr h) = from46 (at-or-above 46 k h)
+
+    from44 : (k ≡ 44) ⊎ (45 ≤ k) → Goal
+    from44 (inl e) = rw e
+    from44 (inr h) = from45 (at-or-above 45 k h)
+
+-- a comparison
 pub pick-compared : (k : ℕ) → EQ ≤ k → k ≤ GE → pick (productions compared) k ≡ take (comparedRule k)
 unfolding pick productions chosen firsts nullables first nullable follow elem
 pick-compared k a b = from13 (at-or-above 13 k a)
@@ -170,13 +196,17 @@ pub into-simple : (k : ℕ) → Into relation simple (nt compared ∷ []) (λ a 
 unfolding pick productions chosen firsts nullables first nullable follow elem
 into-simple k =
     tests (nt simple ∷ nt compared ∷ [] ↠ λ a f. f a) (pick (productions simple) k) (elem k (first simple))
-    (λ e. rw (or-right (eqb k MINUS) (elem k (first factor)) e, or-left (eqb k MINUS) (elem k (first factor)) e))
+    (λ e. rw (or-right (eqb k MINUS) (elem k (first term)) e, or-left (eqb k MINUS) (elem k (first term)) e))
 
-pub into-factor : (k : ℕ) → (k ≡ MINUS → ⊥) → Into simple factor (nt terms ∷ []) (λ a f. f a) k
+pub into-term : (k : ℕ) → (k ≡ MINUS → ⊥) → Into simple term (nt terms ∷ []) (λ a f. f a) k
 unfolding pick productions chosen firsts nullables first nullable follow elem
-into-factor k m =
-    rw (ne-eqb k MINUS m) (tests (nt factor ∷ nt terms ∷ [] ↠ λ a f. f a) (pick (productions factor) k) (elem k (first factor))
-    (λ e. rw (or-right (eqb k NOT) (elem k (first primary)) e, or-left (eqb k NOT) (elem k (first primary)) e)))
+into-term k m = rw (ne-eqb k MINUS m) (tests (nt term ∷ nt terms ∷ [] ↠ λ a f. f a) (pick (productions term) k) (elem k (first term)) (λ e. rw e))
+
+pub into-factor : (k : ℕ) → Into term factor (nt factors ∷ []) (λ a f. f a) k
+unfolding pick productions chosen firsts nullables first nullable follow elem
+into-factor k =
+    tests (nt factor ∷ nt factors ∷ [] ↠ λ a f. f a) (pick (productions factor) k) (elem k (first factor))
+    (λ e. rw (or-right (eqb k NOT) (elem k (first primary)) e, or-left (eqb k NOT) (elem k (first primary)) e))
 
 pub into-primary : (k : ℕ) → (k ≡ NOT → ⊥) → Into factor primary [] (λ a. a) k
 unfolding pick productions chosen firsts nullables first nullable follow elem

@@ -1,16 +1,16 @@
--- The returns of the readers of factors, sums and relations: each follows the grammar's reader by its laws. Assumes nothing.
+-- The returns of the readers of factors, products, sums and relations: each follows the grammar's reader by its laws. Assumes nothing.
 use mathlib.Core.Path.{_≡_, refl, sym, _∙_, ap, subst}
 use mathlib.Core.Bool.{Bool, true, false, _||_}
 use mathlib.Core.Logic.{_⊎_, inl, inr}
 use mathlib.Core.List.{List, [], _∷_, _++_, append-assoc, append-nil}
 use Prim.Native.Nat.{ℕ, zero, suc, _+_, _-_, _≤_, _<_}
 use native.Mathlib.Omega.{arith}
-use borrow.Author.Tests.{ne-eqb, eqb-true, eqb-false}
-use lib.Dec.{T, eqb}
+use borrow.Author.Tests.{ne-eqb, eqb-true, eqb-false, lt-ltb, le-ltb, ltb-true, ltb-false}
+use lib.Dec.{T, eqb, ltb}
 use lib.ListN.{length}
-use Rattle.grammar.specs.Token.{Token, PLUS, MINUS, EQ, GE, AND, OR, XOR, NOT}
+use Rattle.grammar.specs.Token.{Token, PLUS, MINUS, EQ, GE, AND, OR, XOR, NOT, TIMES, DIVIDE, MOD, REM}
 use Rattle.grammar.specs.Tree.{Expr, sign, negate, binary}
-use Rattle.grammar.specs.Grammar.{NonTerminal, expression, chain, ands, ors, xors, relation, compared, simple, terms, factor, primary, Says, Sym, tk, nt, Fun, item, Production, productions, _↠_}
+use Rattle.grammar.specs.Grammar.{NonTerminal, expression, chain, ands, ors, xors, relation, compared, simple, terms, term, factors, factor, primary, Says, Sym, tk, nt, Fun, item, Production, productions, _↠_}
 use Rattle.grammar.specs.Meter.{InHeading}
 use Rattle.grammar.specs.Derivation.{_∈_, here, there}
 use Rattle.grammar.specs.Reader.{choose, compose, elem, first, pick, take}
@@ -21,17 +21,29 @@ use Rattle.cursor.specs.Tokens.{tokenAt, kindIn, Holds}
 use Rattle.cursor.specs.Reading.{from, Fine, Asks, Moves}
 use Rattle.cursor.proofs.Measures.{turn-falls}
 use Rattle.cursor.proofs.Steps.{kind-is, kind-inside, from-stays, rule-at, left-at, into-at}
-use Rattle.expressions.specs.Postfix.{Item, itemOf, binaryItem, postfix}
+use Rattle.expressions.specs.Postfix.{Item, itemOf, operatorCode, binaryItem, postfix}
 use Rattle.expressions.specs.Written.{Arrays, Wrote}
-use Rattle.expressions.specs.Tests.{isAdding, isLogical, moreTerms, goesOn}
-use Rattle.expressions.specs.Readers.{Reads, ReadsOver, Tail, sum, and-chain, or-chain, xor-chain, tailOf, wholeOf, ofTail, ofWhole, operatorOf, Partly, PartlyOver, Turn, TurnOver, OneTurn}
+use Rattle.expressions.specs.Tests.{isAdding, isScaling, isLogical, moreTerms, moreFactors, goesOn}
+use Rattle.expressions.specs.Readers.{Reads, ReadsOver, Tail, sum, product, and-chain, or-chain, xor-chain, tailOf, wholeOf, ofTail, ofWhole, operatorOf, Partly, PartlyOver, Turn, TurnOver, OneTurn}
 use Rattle.expressions.proofs.Items.{wrote-none, wrote-then}
 use Rattle.expressions.proofs.Behind.{Behind, BehindOver}
 use Rattle.expressions.proofs.Primaries.{ok-of, stay-moves}
-use Rattle.expressions.proofs.Picks.{notRule, signRule, termRule, comparedRule, andRule, orRule, xorRule, pick-not, pick-sign, pick-plus, pick-minus, pick-and, pick-or, pick-xor, chain-and, chain-or, chain-xor, pick-compared, into-relation, into-simple, into-factor, into-primary}
+use Rattle.expressions.proofs.Picks.{andRule, orRule, xorRule, pick-not, pick-sign, pick-term, pick-factor, pick-and, pick-or, pick-xor, chain-and, chain-or, chain-xor, pick-compared, into-relation, into-simple, into-term, into-factor, into-primary}
 
 pub moves-then : {n : ℕ} {q a r : Pos} → Moves n q a → Moves n a r → Moves n q r
 moves-then u v = record { on = omega arith; inside = omega arith; room = omega arith; few = omega arith; began = λ z. u .began (v .began z) }
+
+-- an operator with its operand, by a production that begins with them
+taken : (M A : NonTerminal) (flat : Says A → List Item) (δ : List Sym) (says : Token → Says A → Fun δ (Says M)) {kinds long : List ℕ} {n : ℕ} {q r : Pos} {d k code : ℕ} {before after : Arrays}
+    → kindIn kinds n (q .at) ≡ k → pick (productions M) k ≡ take (tk item k ∷ nt A ∷ δ ↠ says) → (b : BehindOver A flat k code kinds long n q d before r after) (ts : List Token) (holds : Holds ts kinds long n)
+    → (S : NonTerminal) (s l : ℕ) (h : InHeading) → Fine s h → (γ : List Sym) (κ : Says M → Fun γ (Says S)) → Ok (nt M ∷ γ)
+    → from ts S s l h q d (nt M ∷ γ) κ ≡ from ts S s l h r d (δ ++ γ) (compose M S δ γ (says (tokenAt ts (q .at)) (b .reads ts holds .value)) κ)
+unfolding compose
+taken M A flat δ says {n = n} {q} {d = d} {k} e p b ts holds S s l h fine γ κ o =
+    let r : Production M = tk item k ∷ nt A ∷ δ ↠ says in
+    let w : pick (productions M) (tokenAt ts (q .at) .kind) ≡ take r = ap (pick (productions M)) (sym (kind-is holds (q .at)) ∙ e) ∙ p in
+    rule-at ts S s l h q d M γ κ r w (let z = holds .count in let i = b .inside in omega arith)
+    ∙ b .reads ts holds .goes S s l h fine (δ ++ γ) (λ x v. compose M S δ γ (says x v) κ) (ok-of γ (pick-rule r (tokenAt ts (q .at) .kind) w) o)
 
 module _ {kinds long : List ℕ} {n : ℕ} {q : Pos} {d : ℕ} where
   -- a factor
@@ -52,107 +64,113 @@ module _ {kinds long : List ℕ} {n : ℕ} {q : Pos} {d : ℕ} where
   unfolding compose postfix
   factor-not e b = record {
     moves = b .moves;
-    reads = λ ts holds.
-        let p : pick (productions factor) (tokenAt ts (q .at) .kind) ≡ take notRule = ap (pick (productions factor)) (sym (kind-is holds (q .at)) ∙ e) ∙ pick-not in
-        record {
-          value = negate (tokenAt ts (q .at)) (b .reads ts holds .value);
-          goes = λ S s l h fine γ κ o.
-              rule-at ts S s l h q d factor γ κ notRule p (let z = holds .count in let i = b .inside in omega arith)
-              ∙ b .reads ts holds .goes S s l h fine γ (λ x a. κ (negate x a)) (ok-of γ (pick-rule notRule (tokenAt ts (q .at) .kind) p) o);
-          wrote = b .reads ts holds .wrote;
-        };
+    reads = λ ts holds. record {
+      value = negate (tokenAt ts (q .at)) (b .reads ts holds .value);
+      goes = taken factor primary postfix [] (λ x a. negate x a) e pick-not b ts holds;
+      wrote = b .reads ts holds .wrote;
+    };
+  }
+
+  -- the first factor of a product
+  pub product-first : {before after : Arrays} {r : Pos} → ReadsOver factor postfix kinds long n q d before r after → PartlyOver product kinds long n q d before r after
+  unfolding compose productions
+  product-first p = record {
+    moves = p .moves;
+    reads = λ ts holds. record {
+      value = p .reads ts holds .value;
+      goes = λ S s l h fine γ κ o.
+          into-at ts S s l h q d term factor (nt factors ∷ []) (λ a f. f a) γ κ (into-factor (tokenAt ts (q .at) .kind))
+          ∙ p .reads ts holds .goes S s l h fine (nt factors ∷ γ) (λ a f. κ (f a)) (ok-of {r = nt factor ∷ nt factors ∷ [] ↠ λ a f. f a} γ here o);
+      wrote = p .reads ts holds .wrote;
+    };
   }
 
   -- the first term of a sum
-  pub signed-plain : {before after : Arrays} {r : Pos} → (kindIn kinds n (q .at) ≡ 12 → ⊥) → ReadsOver factor postfix kinds long n q d before r after → PartlyOver sum kinds long n q d before r after
+  pub signed-plain : {before after : Arrays} {r : Pos} → (kindIn kinds n (q .at) ≡ 12 → ⊥) → ReadsOver term postfix kinds long n q d before r after → PartlyOver sum kinds long n q d before r after
   unfolding compose productions
   signed-plain f p = record {
     moves = p .moves;
     reads = λ ts holds. record {
       value = p .reads ts holds .value;
       goes = λ S s l h fine γ κ o.
-          into-at ts S s l h q d simple factor (nt terms ∷ []) (λ a f. f a) γ κ (into-factor (tokenAt ts (q .at) .kind) (λ z. f (kind-is holds (q .at) ∙ z)))
-          ∙ p .reads ts holds .goes S s l h fine (nt terms ∷ γ) (λ a f. κ (f a)) (ok-of {r = nt factor ∷ nt terms ∷ [] ↠ λ a f. f a} γ here o);
+          into-at ts S s l h q d simple term (nt terms ∷ []) (λ a f. f a) γ κ (into-term (tokenAt ts (q .at) .kind) (λ z. f (kind-is holds (q .at) ∙ z)))
+          ∙ p .reads ts holds .goes S s l h fine (nt terms ∷ γ) (λ a f. κ (f a)) (ok-of {r = nt term ∷ nt terms ∷ [] ↠ λ a f. f a} γ here o);
       wrote = p .reads ts holds .wrote;
     };
   }
 
-  pub signed-sign : {before after : Arrays} {r : Pos} → kindIn kinds n (q .at) ≡ 12 → BehindOver factor postfix 12 4 kinds long n q d before r after → PartlyOver sum kinds long n q d before r after
+  pub signed-sign : {before after : Arrays} {r : Pos} → kindIn kinds n (q .at) ≡ 12 → BehindOver term postfix 12 4 kinds long n q d before r after → PartlyOver sum kinds long n q d before r after
   unfolding compose postfix
   signed-sign e b = record {
     moves = b .moves;
-    reads = λ ts holds.
-        let p : pick (productions simple) (tokenAt ts (q .at) .kind) ≡ take signRule = ap (pick (productions simple)) (sym (kind-is holds (q .at)) ∙ e) ∙ pick-sign in
-        record {
-          value = sign (tokenAt ts (q .at)) (b .reads ts holds .value);
-          goes = λ S s l h fine γ κ o.
-              rule-at ts S s l h q d simple γ κ signRule p (let z = holds .count in let i = b .inside in omega arith)
-              ∙ b .reads ts holds .goes S s l h fine (nt terms ∷ γ) (λ x a f. κ (f (sign x a))) (ok-of γ (pick-rule signRule (tokenAt ts (q .at) .kind) p) o);
-          wrote = b .reads ts holds .wrote;
-        };
+    reads = λ ts holds. record {
+      value = sign (tokenAt ts (q .at)) (b .reads ts holds .value);
+      goes = taken simple term postfix (nt terms ∷ []) (λ x a f. f (sign x a)) e pick-sign b ts holds;
+      wrote = b .reads ts holds .wrote;
+    };
   }
 
 -- an operator with two operands is written with the code of its kind
-binary-items : (q : Pos) {kinds long : List ℕ} {n : ℕ} {ts : List Token} {m p : ℕ} {before after : Arrays} → Holds ts kinds long n → (k : ℕ) → kindIn kinds n (q .at) ≡ k → (xs : List Item)
-    → Wrote ts m p before after (xs ++ (itemOf (k + 7) (tokenAt ts (q .at)) ∷ [])) → Wrote ts m p before after (xs ++ (binaryItem (tokenAt ts (q .at)) ∷ []))
-binary-items q {ts = ts} {m} {p} {before} {after} holds k e xs w =
-    subst (λ (j : ℕ). Wrote ts m p before after (xs ++ (itemOf (j + 7) (tokenAt ts (q .at)) ∷ []))) (sym e ∙ kind-is holds (q .at)) w
+binary-items : (q : Pos) {kinds long : List ℕ} {n : ℕ} {ts : List Token} {m p : ℕ} {before after : Arrays} → Holds ts kinds long n → (k : ℕ) → kindIn kinds n (q .at) ≡ k → {code : ℕ} → code ≡ operatorCode k → (xs : List Item)
+    → Wrote ts m p before after (xs ++ (itemOf code (tokenAt ts (q .at)) ∷ [])) → Wrote ts m p before after (xs ++ (binaryItem (tokenAt ts (q .at)) ∷ []))
+binary-items q {ts = ts} {m} {p} {before} {after} holds k e c xs w =
+    subst (λ (j : ℕ). Wrote ts m p before after (xs ++ (itemOf j (tokenAt ts (q .at)) ∷ []))) (c ∙ ap operatorCode (sym e ∙ kind-is holds (q .at))) w
 
 -- Where the lists go on, and where they end.
--- the list's operators
-abbrev pub Operator : Tail → ℕ → Type 0
-Operator sum k = isAdding k
-Operator and-chain k = k ≡ AND
-Operator or-chain k = k ≡ OR
-Operator xor-chain k = k ≡ XOR
+-- a list's operands, and an operand's tree
+abbrev operandOf : Tail → NonTerminal
+operandOf sum = term
+operandOf product = factor
+operandOf and-chain = relation
+operandOf or-chain = relation
+operandOf xor-chain = relation
 
-module _ {kinds long : List ℕ} {n : ℕ} {q : Pos} {d : ℕ} (k : ℕ) (e : kindIn kinds n (q .at) ≡ k) where
-  one-turn : (t : Tail) {before after : Arrays} {r : Pos} → Moves n q r → (r .fault ≡ 0 → q .at < r .at) → (value : (ts : List Token) → Holds ts kinds long n → Expr)
-      → ((ts : List Token) (holds : Holds ts kinds long n) → r .fault ≡ 0 → Wrote ts (q .n) (r .n) before after (postfix (value ts holds) ++ (itemOf (k + 7) (tokenAt ts (q .at)) ∷ [])))
+abbrev treeOf : (t : Tail) → Says (operandOf t) → Expr
+treeOf sum v = v
+treeOf product v = v
+treeOf and-chain v = v
+treeOf or-chain v = v
+treeOf xor-chain v = v
+
+module _ {kinds long : List ℕ} {n : ℕ} {q : Pos} {d : ℕ} (k : ℕ) (e : kindIn kinds n (q .at) ≡ k) {code : ℕ} (is-code : code ≡ operatorCode k) where
+  one-turn : (t : Tail) {before after : Arrays} {r : Pos} (b : BehindOver (operandOf t) (λ (v : Says (operandOf t)). postfix (treeOf t v)) k code kinds long n q d before r after)
       → ((ts : List Token) (holds : Holds ts kinds long n) → (a : Expr) (S : NonTerminal) (s l : ℕ) (h : InHeading) → Fine s h → (γ : List Sym) (κ : Expr → Fun γ (Says S)) → Ok (nt (tailOf t) ∷ γ)
-      → from ts S s l h q d (nt (tailOf t) ∷ γ) (ofTail t S γ κ a) ≡ from ts S s l h r d (nt (tailOf t) ∷ γ) (ofTail t S γ κ (binary (tokenAt ts (q .at)) a (value ts holds))))
+      → from ts S s l h q d (nt (tailOf t) ∷ γ) (ofTail t S γ κ a) ≡ from ts S s l h r d (nt (tailOf t) ∷ γ) (ofTail t S γ κ (binary (tokenAt ts (q .at)) a (treeOf t (b .reads ts holds .value)))))
       → OneTurn t kinds long n q d before r after
   unfolding postfix
-  one-turn t {before} {after} {r} moves further value wrote goes = record {
+  one-turn t b goes = record {
     turn = record {
-      moves = moves;
-      reads = λ ts holds. record {
-        grow = λ a. binary (tokenAt ts (q .at)) a (value ts holds);
-        items = postfix (value ts holds) ++ (binaryItem (tokenAt ts (q .at)) ∷ []);
-        grows = λ a. refl;
-        goes = goes ts holds;
-        wrote = λ z. binary-items q holds k e (postfix (value ts holds)) (wrote ts holds z);
-      };
+      moves = b .moves;
+      reads = λ ts holds.
+          let v : Expr = treeOf t (b .reads ts holds .value) in
+          record {
+            grow = λ a. binary (tokenAt ts (q .at)) a v;
+            items = postfix v ++ (binaryItem (tokenAt ts (q .at)) ∷ []);
+            grows = λ a. refl;
+            goes = goes ts holds;
+            wrote = λ z. binary-items q holds k e is-code (postfix v) (b .reads ts holds .wrote z);
+          };
     };
-    further = further;
+    further = b .further;
   }
 
-  pub term-turn : {before after : Arrays} {r : Pos} → isAdding k → BehindOver factor postfix k (k + 7) kinds long n q d before r after → OneTurn sum kinds long n q d before r after
+  -- an operator of a list, and the operand behind it
+  pub list-turn : (t : Tail) {before after : Arrays} {r : Pos} → operatorOf t k → BehindOver (operandOf t) (λ (v : Says (operandOf t)). postfix (treeOf t v)) k code kinds long n q d before r after → OneTurn t kinds long n q d before r after
   unfolding compose
-  term-turn adds b = one-turn sum (b .moves) (b .further) (λ ts holds. b .reads ts holds .value) (λ ts holds. b .reads ts holds .wrote) (λ ts holds a S s l h fine γ κ o.
-      let p : pick (productions terms) (tokenAt ts (q .at) .kind) ≡ take (termRule k) = ap (pick (productions terms)) (sym (kind-is holds (q .at)) ∙ e) ∙ either adds in
-      rule-at ts S s l h q d terms γ (λ f. κ (f a)) (termRule k) p (let z = holds .count in let i = b .inside in omega arith)
-      ∙ b .reads ts holds .goes S s l h fine (nt terms ∷ γ) (λ x v f. κ (f (binary x a v))) (ok-of γ (pick-rule (termRule k) (tokenAt ts (q .at) .kind) p) o))
-    where
-      either : isAdding k → pick (productions terms) k ≡ take (termRule k)
-      either (inl z) = rw z pick-plus
-      either (inr z) = rw z pick-minus
+  list-turn sum op b = one-turn sum b (λ ts holds a S s l h fine γ κ o. taken terms term postfix (nt terms ∷ []) (λ x v f a. f (binary x a v)) e (pick-term k op) b ts holds S s l h fine γ (λ f. κ (f a)) o)
+  list-turn product op b = one-turn product b (λ ts holds a S s l h fine γ κ o. taken factors factor postfix (nt factors ∷ []) (λ x v f a. f (binary x a v)) e (pick-factor k op) b ts holds S s l h fine γ (λ f. κ (f a)) o)
+  list-turn and-chain op b = one-turn and-chain b (λ ts holds a S s l h fine γ κ o. taken ands relation postfix (nt ands ∷ []) (λ x v f a. f (binary x a v)) e (pick-and k op) b ts holds S s l h fine γ (λ f. κ (f a)) o)
+  list-turn or-chain op b = one-turn or-chain b (λ ts holds a S s l h fine γ κ o. taken ors relation postfix (nt ors ∷ []) (λ x v f a. f (binary x a v)) e (pick-or k op) b ts holds S s l h fine γ (λ f. κ (f a)) o)
+  list-turn xor-chain op b = one-turn xor-chain b (λ ts holds a S s l h fine γ κ o. taken xors relation postfix (nt xors ∷ []) (λ x v f a. f (binary x a v)) e (pick-xor k op) b ts holds S s l h fine γ (λ f. κ (f a)) o)
 
-  pub joined-turn : {before after : Arrays} {r : Pos} (t : Tail) → operatorOf t k → BehindOver relation postfix k (k + 7) kinds long n q d before r after → OneTurn t kinds long n q d before r after
-  unfolding compose
-  joined-turn sum op b = absurd op
-  joined-turn and-chain op b = one-turn and-chain (b .moves) (b .further) (λ ts holds. b .reads ts holds .value) (λ ts holds. b .reads ts holds .wrote) (λ ts holds a S s l h fine γ κ o.
-      let p : pick (productions ands) (tokenAt ts (q .at) .kind) ≡ take (andRule k) = ap (pick (productions ands)) (sym (kind-is holds (q .at)) ∙ e) ∙ pick-and k op in
-      rule-at ts S s l h q d ands γ (λ f. κ (f a)) (andRule k) p (let z = holds .count in let i = b .inside in omega arith)
-      ∙ b .reads ts holds .goes S s l h fine (nt ands ∷ γ) (λ x v f. κ (f (binary x a v))) (ok-of γ (pick-rule (andRule k) (tokenAt ts (q .at) .kind) p) o))
-  joined-turn or-chain op b = one-turn or-chain (b .moves) (b .further) (λ ts holds. b .reads ts holds .value) (λ ts holds. b .reads ts holds .wrote) (λ ts holds a S s l h fine γ κ o.
-      let p : pick (productions ors) (tokenAt ts (q .at) .kind) ≡ take (orRule k) = ap (pick (productions ors)) (sym (kind-is holds (q .at)) ∙ e) ∙ pick-or k op in
-      rule-at ts S s l h q d ors γ (λ f. κ (f a)) (orRule k) p (let z = holds .count in let i = b .inside in omega arith)
-      ∙ b .reads ts holds .goes S s l h fine (nt ors ∷ γ) (λ x v f. κ (f (binary x a v))) (ok-of γ (pick-rule (orRule k) (tokenAt ts (q .at) .kind) p) o))
-  joined-turn xor-chain op b = one-turn xor-chain (b .moves) (b .further) (λ ts holds. b .reads ts holds .value) (λ ts holds. b .reads ts holds .wrote) (λ ts holds a S s l h fine γ κ o.
-      let p : pick (productions xors) (tokenAt ts (q .at) .kind) ≡ take (xorRule k) = ap (pick (productions xors)) (sym (kind-is holds (q .at)) ∙ e) ∙ pick-xor k op in
-      rule-at ts S s l h q d xors γ (λ f. κ (f a)) (xorRule k) p (let z = holds .count in let i = b .inside in omega arith)
-      ∙ b .reads ts holds .goes S s l h fine (nt xors ∷ γ) (λ x v f. κ (f (binary x a v))) (ok-of γ (pick-rule (xorRule k) (tokenAt ts (q .at) .kind) p) o))
+  -- the same of whichever chain has this operator
+  pub joined-turn : {before after : Arrays} {r : Pos} → isLogical k → (t : Tail) → operatorOf t k → BehindOver relation postfix k code kinds long n q d before r after → OneTurn t kinds long n q d before r after
+  joined-turn w sum (inl op) b = absurd (omega arith)
+  joined-turn w sum (inr op) b = absurd (omega arith)
+  joined-turn w product op b = absurd (omega arith)
+  joined-turn w and-chain op b = list-turn and-chain op b
+  joined-turn w or-chain op b = list-turn or-chain op b
+  joined-turn w xor-chain op b = list-turn xor-chain op b
 
 -- no turn, and one turn after others
 pub turn-none : (t : Tail) {kinds long : List ℕ} {n : ℕ} {q : Pos} {d : ℕ} (b : Arrays) → Asks n q → TurnOver t kinds long n q d b q b
@@ -193,18 +211,27 @@ partly-then {t} {kinds} {long} {n} {q} {a} {r} {d} {before} {middle} {after} ok 
 
 ok-terms : (γ : List Sym) → Ok (nt simple ∷ γ) → Ok (nt terms ∷ γ)
 unfolding productions
-ok-terms γ o = ok-of {r = nt factor ∷ nt terms ∷ [] ↠ λ a f. f a} γ here o .2
+ok-terms γ o = ok-of {r = nt term ∷ nt terms ∷ [] ↠ λ a f. f a} γ here o .2
+
+ok-factors : (γ : List Sym) → Ok (nt term ∷ γ) → Ok (nt factors ∷ γ)
+unfolding productions
+ok-factors γ o = ok-of {r = nt factor ∷ nt factors ∷ [] ↠ λ a f. f a} γ here o .2
+
+no-scaling : (k : ℕ) → (isScaling k → ⊥) → T (elem k (first factors)) → ⊥
+unfolding first elem
+no-scaling k f t = rw (ne-eqb k TIMES (λ z. f (omega arith)), ne-eqb k DIVIDE (λ z. f (omega arith)), ne-eqb k MOD (λ z. f (omega arith)), ne-eqb k REM (λ z. f (omega arith))) at t
 
 -- a list ends where its operator does not stand, or where the reader has refused
-tail-end : (t : Tail) (ts : List Token) (S : NonTerminal) (s l : ℕ) (h : InHeading) (r : Pos) (d : ℕ) → (Operator t (tokenAt ts (r .at) .kind) → ⊥) → (γ : List Sym) (κ : Expr → Fun γ (Says S)) (a : Expr) → Ok (nt (tailOf t) ∷ γ)
+tail-end : (t : Tail) (ts : List Token) (S : NonTerminal) (s l : ℕ) (h : InHeading) (r : Pos) (d : ℕ) → (operatorOf t (tokenAt ts (r .at) .kind) → ⊥) → (γ : List Sym) (κ : Expr → Fun γ (Says S)) (a : Expr) → Ok (nt (tailOf t) ∷ γ)
     → from ts S s l h r d (nt (tailOf t) ∷ γ) (ofTail t S γ κ a) ≡ from ts S s l h r d γ (κ a)
 unfolding productions first elem
 tail-end sum ts S s l h r d f γ κ a o = left-at ts S s l h r d terms γ (λ g. κ (g a)) o (λ b. b) here (λ z. rw (ne-eqb (tokenAt ts (r .at) .kind) PLUS (λ w. f (inl w)), ne-eqb (tokenAt ts (r .at) .kind) MINUS (λ w. f (inr w))) at z)
+tail-end product ts S s l h r d f γ κ a o = left-at ts S s l h r d factors γ (λ g. κ (g a)) o (λ b. b) here (no-scaling (tokenAt ts (r .at) .kind) f)
 tail-end and-chain ts S s l h r d f γ κ a o = left-at ts S s l h r d ands γ (λ g. κ (g a)) o (λ b. b) here (λ z. rw (ne-eqb (tokenAt ts (r .at) .kind) AND f) at z)
 tail-end or-chain ts S s l h r d f γ κ a o = left-at ts S s l h r d ors γ (λ g. κ (g a)) o (λ b. b) here (λ z. rw (ne-eqb (tokenAt ts (r .at) .kind) OR f) at z)
 tail-end xor-chain ts S s l h r d f γ κ a o = left-at ts S s l h r d xors γ (λ g. κ (g a)) o (λ b. b) here (λ z. rw (ne-eqb (tokenAt ts (r .at) .kind) XOR f) at z)
 
-pub tail-over : (t : Tail) (ts : List Token) (S : NonTerminal) (s l : ℕ) (h : InHeading) (r : Pos) (d : ℕ) → (r .fault ≡ 0 → Operator t (tokenAt ts (r .at) .kind) → ⊥) → (γ : List Sym) (κ : Expr → Fun γ (Says S)) (a : Expr) → Ok (nt (tailOf t) ∷ γ)
+pub tail-over : (t : Tail) (ts : List Token) (S : NonTerminal) (s l : ℕ) (h : InHeading) (r : Pos) (d : ℕ) → (r .fault ≡ 0 → operatorOf t (tokenAt ts (r .at) .kind) → ⊥) → (γ : List Sym) (κ : Expr → Fun γ (Says S)) (a : Expr) → Ok (nt (tailOf t) ∷ γ)
     → from ts S s l h r d (nt (tailOf t) ∷ γ) (ofTail t S γ κ a) ≡ from ts S s l h r d γ (κ a)
 tail-over t ts S s l h r d f γ κ a o = go (eqb (r .fault) 0) refl
   where
@@ -227,6 +254,19 @@ unfolding moreTerms
 more-terms-false f k e z (inl w) = let y : true ≡ false = (rw (z, w) at e) in let x : _≡_ {A = ℕ} 0 1 = cc in omega arith
 more-terms-false f k e z (inr w) = let y : true ≡ false = (rw (z, w) at e) in let x : _≡_ {A = ℕ} 0 1 = cc in omega arith
 
+pub more-factors-true : (f k : ℕ) → moreFactors f k ≡ true → (f ≡ 0) × isScaling k
+unfolding moreFactors
+more-factors-true f k e = go (eqb f 0) refl (ltb k 44) refl e
+  where
+    go : (a : Bool) → eqb f 0 ≡ a → (b : Bool) → ltb k 44 ≡ b → choose a (choose b false (ltb k 48)) false ≡ true → (f ≡ 0) × isScaling k
+    go true u true v z = absurd (let y : _≡_ {A = ℕ} 0 1 = cc in omega arith)
+    go true u false v z = (eqb-true f 0 u, (ltb-false k 44 v, let w = ltb-true k 48 z in omega arith))
+    go false u b v z = absurd (let y : _≡_ {A = ℕ} 0 1 = cc in omega arith)
+
+pub more-factors-false : (f k : ℕ) → moreFactors f k ≡ false → f ≡ 0 → isScaling k → ⊥
+unfolding moreFactors
+more-factors-false f k e z w = let y : true ≡ false = (rw (z, le-ltb k 44 (w .0), lt-ltb k 48 (omega arith)) at e) in let x : _≡_ {A = ℕ} 0 1 = cc in omega arith
+
 pub goes-on-true : (f k o : ℕ) → goesOn f k o ≡ true → (f ≡ 0) × (k ≡ o)
 unfolding goesOn
 goes-on-true f k o e = go (eqb f 0) refl e
@@ -239,21 +279,34 @@ pub goes-on-false : (f k o : ℕ) → goesOn f k o ≡ false → f ≡ 0 → k �
 unfolding goesOn
 goes-on-false f k o e z w = eqb-false k o (rw z at e) w
 
--- a sum
-pub sum-read : {kinds long : List ℕ} {n : ℕ} {q r : Pos} {d : ℕ} {before after : Arrays} → PartlyOver sum kinds long n q d before r after → moreTerms (r .fault) (kindIn kinds n (r .at)) ≡ false → ReadsOver simple postfix kinds long n q d before r after
-sum-read {kinds} {long} {n} {q} {r} {d} p e = record {
-  moves = p .moves;
-  reads = λ ts holds. record {
-    value = p .reads ts holds .value;
-    goes = λ S s l h fine γ κ o.
-        p .reads ts holds .goes S s l h fine γ κ o
-        ∙ tail-over sum ts S s l h r d (λ z w. more-terms-false (r .fault) (kindIn kinds n (r .at)) e z (subst isAdding (sym (kind-is holds (r .at))) w)) γ κ (p .reads ts holds .value) (ok-terms γ o);
-    wrote = p .reads ts holds .wrote;
-  };
-}
+-- The whole list, where none of its operators follows.
+module _ (t : Tail) {kinds long : List ℕ} {n : ℕ} {q r : Pos} {d : ℕ} {before after : Arrays} where
+  list-goes : ((γ : List Sym) → Ok (nt (wholeOf t) ∷ γ) → Ok (nt (tailOf t) ∷ γ)) → (p : PartlyOver t kinds long n q d before r after) → (r .fault ≡ 0 → operatorOf t (kindIn kinds n (r .at)) → ⊥) → (ts : List Token) (holds : Holds ts kinds long n)
+      → (S : NonTerminal) (s l : ℕ) (h : InHeading) → Fine s h → (γ : List Sym) (κ : Expr → Fun γ (Says S)) → Ok (nt (wholeOf t) ∷ γ)
+      → from ts S s l h q d (nt (wholeOf t) ∷ γ) (ofWhole t S γ κ) ≡ from ts S s l h r d γ (κ (p .reads ts holds .value))
+  list-goes ok p stop ts holds S s l h fine γ κ o =
+      p .reads ts holds .goes S s l h fine γ κ o
+      ∙ tail-over t ts S s l h r d (λ z w. stop z (subst (operatorOf t) (sym (kind-is holds (r .at))) w)) γ κ (p .reads ts holds .value) (ok γ o)
 
-pub sum-goes-on : {kinds long : List ℕ} {n : ℕ} {q a r : Pos} {d : ℕ} {before middle after : Arrays} → PartlyOver sum kinds long n q d before a middle → TurnOver sum kinds long n a d middle r after → PartlyOver sum kinds long n q d before r after
-sum-goes-on p t = partly-then ok-terms p t
+-- a sum
+pub sum-read : {kinds long : List ℕ} {n : ℕ} {q a r : Pos} {d : ℕ} {before middle after : Arrays} → PartlyOver sum kinds long n q d before a middle → TurnOver sum kinds long n a d middle r after
+    → moreTerms (r .fault) (kindIn kinds n (r .at)) ≡ false → ReadsOver simple postfix kinds long n q d before r after
+sum-read {kinds} {n = n} {r = r} u v e =
+    let p = partly-then ok-terms u v in
+    record {
+      moves = p .moves;
+      reads = λ ts holds. record { value = p .reads ts holds .value; goes = list-goes sum ok-terms p (more-terms-false (r .fault) (kindIn kinds n (r .at)) e) ts holds; wrote = p .reads ts holds .wrote };
+    }
+
+-- a product
+pub product-read : {kinds long : List ℕ} {n : ℕ} {q a r : Pos} {d : ℕ} {before middle after : Arrays} → ReadsOver factor postfix kinds long n q d before a middle → TurnOver product kinds long n a d middle r after
+    → moreFactors (r .fault) (kindIn kinds n (r .at)) ≡ false → ReadsOver term postfix kinds long n q d before r after
+product-read {kinds} {n = n} {r = r} u v e =
+    let p = partly-then ok-factors (product-first u) v in
+    record {
+      moves = p .moves;
+      reads = λ ts holds. record { value = p .reads ts holds .value; goes = list-goes product ok-factors p (more-factors-false (r .fault) (kindIn kinds n (r .at)) e) ts holds; wrote = p .reads ts holds .wrote };
+    }
 
 -- a relation
 no-comparison : (k : ℕ) → (k < 13) ⊎ (18 < k) → T (elem k (first compared)) → ⊥
@@ -290,9 +343,9 @@ module _ {kinds long : List ℕ} {n : ℕ} {q : Pos} {d : ℕ} where
   }
 
   pub relation-compared : {before middle after : Arrays} {a r : Pos} (k : ℕ) → ReadsOver simple postfix kinds long n q d before a middle → EQ ≤ k → k ≤ GE → kindIn kinds n (a .at) ≡ k
-      → BehindOver simple postfix k (k + 7) kinds long n a d middle r after → ReadsOver relation postfix kinds long n q d before r after
+      → {code : ℕ} → code ≡ operatorCode k → BehindOver simple postfix k code kinds long n a d middle r after → ReadsOver relation postfix kinds long n q d before r after
   unfolding compose productions postfix
-  relation-compared {before} {middle} {after} {a} {r} k p low high e b = record {
+  relation-compared {before} {middle} {after} {a} {r} k p low high e is-code b = record {
     moves = moves-then (p .moves) (b .moves);
     reads = λ ts holds.
         let x = p .reads ts holds in
@@ -301,12 +354,10 @@ module _ {kinds long : List ℕ} {n : ℕ} {q : Pos} {d : ℕ} where
           value = binary (tokenAt ts (a .at)) (x .value) (y .value);
           goes = λ S s l h fine γ κ o.
               let ok : Ok (nt simple ∷ nt compared ∷ γ) = ok-of {r = nt simple ∷ nt compared ∷ [] ↠ λ a f. f a} γ here o in
-              let w : pick (productions compared) (tokenAt ts (a .at) .kind) ≡ take (comparedRule k) = ap (pick (productions compared)) (sym (kind-is holds (a .at)) ∙ e) ∙ pick-compared k low high in
               into-at ts S s l h q d relation simple (nt compared ∷ []) (λ a f. f a) γ κ (into-simple (tokenAt ts (q .at) .kind))
               ∙ (x .goes S s l h fine (nt compared ∷ γ) (λ a f. κ (f a)) ok
-              ∙ (rule-at ts S s l h a d compared γ (λ f. κ (f (x .value))) (comparedRule k) w (let z = holds .count in let i = b .inside in omega arith)
-              ∙ y .goes S s l h fine γ (λ t v. κ (binary t (x .value) v)) (ok-of γ (pick-rule (comparedRule k) (tokenAt ts (a .at) .kind) w) (ok .2))));
-          wrote = λ z. wrote-then (x .wrote (b .moves .began z)) (binary-items a holds k e (postfix (y .value)) (y .wrote z));
+              ∙ taken compared simple postfix [] (λ t v c. binary t c v) e (pick-compared k low high) b ts holds S s l h fine γ (λ f. κ (f (x .value))) (ok .2));
+          wrote = λ z. wrote-then (x .wrote (b .moves .began z)) (binary-items a holds k e is-code (postfix (y .value)) (y .wrote z));
         };
   }
 
@@ -328,37 +379,43 @@ module _ {kinds long : List ℕ} {n : ℕ} {q : Pos} {d : ℕ} where
   }
 
 -- at an operator a chain is a chain of that operator
-chain-start : (q : Pos) (d : ℕ) (t : Tail) (k : ℕ) → operatorOf t k → {kinds long : List ℕ} {n : ℕ} {ts : List Token} → Holds ts kinds long n → kindIn kinds n (q .at) ≡ k → (S : NonTerminal) (s l : ℕ) (h : InHeading) (γ : List Sym) (κ : Expr → Fun γ (Says S)) (a : Expr)
+chain-start : (q : Pos) (d : ℕ) (t : Tail) (k : ℕ) → isLogical k → operatorOf t k → {kinds long : List ℕ} {n : ℕ} {ts : List Token} → Holds ts kinds long n → kindIn kinds n (q .at) ≡ k → (S : NonTerminal) (s l : ℕ) (h : InHeading) (γ : List Sym) (κ : Expr → Fun γ (Says S)) (a : Expr)
     → from ts S s l h q d (nt chain ∷ γ) (λ f. κ (f a)) ≡ from ts S s l h q d (nt (tailOf t) ∷ γ) (ofTail t S γ κ a)
 unfolding compose
-chain-start q d sum k op holds e S s l h γ κ a = absurd op
-chain-start q d and-chain k op {kinds} {long} {n} {ts} holds e S s l h γ κ a =
+chain-start q d sum k w (inl op) holds e S s l h γ κ a = absurd (omega arith)
+chain-start q d sum k w (inr op) holds e S s l h γ κ a = absurd (omega arith)
+chain-start q d product k w op holds e S s l h γ κ a = absurd (omega arith)
+chain-start q d and-chain k w op {kinds} {long} {n} {ts} holds e S s l h γ κ a =
     let i : q .at < length ts = (let z = holds .count in let w = kind-inside kinds n (q .at) k e (omega arith) in omega arith) in
     let z = sym (kind-is holds (q .at)) ∙ e in
     rule-at ts S s l h q d chain γ (λ f. κ (f a)) (andRule k .rhs ↠ andRule k .says) (ap (pick (productions chain)) z ∙ chain-and k op) i
     ∙ sym (rule-at ts S s l h q d ands γ (λ f. κ (f a)) (andRule k) (ap (pick (productions ands)) z ∙ pick-and k op) i)
-chain-start q d or-chain k op {kinds} {long} {n} {ts} holds e S s l h γ κ a =
+chain-start q d or-chain k w op {kinds} {long} {n} {ts} holds e S s l h γ κ a =
     let i : q .at < length ts = (let z = holds .count in let w = kind-inside kinds n (q .at) k e (omega arith) in omega arith) in
     let z = sym (kind-is holds (q .at)) ∙ e in
     rule-at ts S s l h q d chain γ (λ f. κ (f a)) (orRule k .rhs ↠ orRule k .says) (ap (pick (productions chain)) z ∙ chain-or k op) i
     ∙ sym (rule-at ts S s l h q d ors γ (λ f. κ (f a)) (orRule k) (ap (pick (productions ors)) z ∙ pick-or k op) i)
-chain-start q d xor-chain k op {kinds} {long} {n} {ts} holds e S s l h γ κ a =
+chain-start q d xor-chain k w op {kinds} {long} {n} {ts} holds e S s l h γ κ a =
     let i : q .at < length ts = (let z = holds .count in let w = kind-inside kinds n (q .at) k e (omega arith) in omega arith) in
     let z = sym (kind-is holds (q .at)) ∙ e in
     rule-at ts S s l h q d chain γ (λ f. κ (f a)) (xorRule k .rhs ↠ xorRule k .says) (ap (pick (productions chain)) z ∙ chain-xor k op) i
     ∙ sym (rule-at ts S s l h q d xors γ (λ f. κ (f a)) (xorRule k) (ap (pick (productions xors)) z ∙ pick-xor k op) i)
 
-ok-chain : (t : Tail) (k : ℕ) → operatorOf t k → (γ : List Sym) → Ok (nt chain ∷ γ) → Ok (nt (tailOf t) ∷ γ)
-ok-chain sum k op γ o = absurd op
-ok-chain and-chain k op γ o = ok-of γ (pick-rule (andRule k .rhs ↠ andRule k .says) k (chain-and k op)) o .2
-ok-chain or-chain k op γ o = ok-of γ (pick-rule (orRule k .rhs ↠ orRule k .says) k (chain-or k op)) o .2
-ok-chain xor-chain k op γ o = ok-of γ (pick-rule (xorRule k .rhs ↠ xorRule k .says) k (chain-xor k op)) o .2
+ok-chain : (t : Tail) (k : ℕ) → isLogical k → operatorOf t k → (γ : List Sym) → Ok (nt chain ∷ γ) → Ok (nt (tailOf t) ∷ γ)
+ok-chain sum k w (inl op) γ o = absurd (omega arith)
+ok-chain sum k w (inr op) γ o = absurd (omega arith)
+ok-chain product k w op γ o = absurd (omega arith)
+ok-chain and-chain k w op γ o = ok-of γ (pick-rule (andRule k .rhs ↠ andRule k .says) k (chain-and k op)) o .2
+ok-chain or-chain k w op γ o = ok-of γ (pick-rule (orRule k .rhs ↠ orRule k .says) k (chain-or k op)) o .2
+ok-chain xor-chain k w op γ o = ok-of γ (pick-rule (xorRule k .rhs ↠ xorRule k .says) k (chain-xor k op)) o .2
 
-not-operator : (t : Tail) (k j : ℕ) → operatorOf t k → (j ≡ k → ⊥) → Operator t j → ⊥
-not-operator sum k j op f z = op
-not-operator and-chain k j op f z = f (z ∙ sym op)
-not-operator or-chain k j op f z = f (z ∙ sym op)
-not-operator xor-chain k j op f z = f (z ∙ sym op)
+not-operator : (t : Tail) (k j : ℕ) → isLogical k → operatorOf t k → (j ≡ k → ⊥) → operatorOf t j → ⊥
+not-operator sum k j w (inl op) f z = omega arith
+not-operator sum k j w (inr op) f z = omega arith
+not-operator product k j w op f z = omega arith
+not-operator and-chain k j w op f z = f (z ∙ sym op)
+not-operator or-chain k j w op f z = f (z ∙ sym op)
+not-operator xor-chain k j w op f z = f (z ∙ sym op)
 
 -- an operator of a chain
 pub which : (k : ℕ) → 19 ≤ k → k ≤ 21 → (t : Tail) × operatorOf t k
@@ -385,12 +442,12 @@ expression-chain {kinds} {long} {n} {q} {a} {r} {d} {before} {middle} {after} k 
             value = y .grow (x .value);
             goes = λ S s l h fine γ κ o.
                 let ok : Ok (nt relation ∷ nt chain ∷ γ) = ok-of {r = nt relation ∷ nt chain ∷ [] ↠ λ a f. f a} γ here o in
-                let on : Ok (nt (tailOf t) ∷ γ) = ok-chain t k op γ (ok .2) in
+                let on : Ok (nt (tailOf t) ∷ γ) = ok-chain t k (low, high) op γ (ok .2) in
                 into-at ts S s l h q d expression relation (nt chain ∷ []) (λ a f. f a) γ κ (into-relation (tokenAt ts (q .at) .kind))
                 ∙ (x .goes S s l h fine (nt chain ∷ γ) (λ a f. κ (f a)) ok
-                ∙ (chain-start a d t k op holds e S s l h γ κ (x .value)
+                ∙ (chain-start a d t k (low, high) op holds e S s l h γ κ (x .value)
                 ∙ (y .goes (x .value) S s l h fine γ κ on
-                ∙ tail-over t ts S s l h r d (λ z. not-operator t k (tokenAt ts (r .at) .kind) op (λ w. goes-on-false (r .fault) (kindIn kinds n (r .at)) k stop z (kind-is holds (r .at) ∙ w))) γ κ (y .grow (x .value)) on)));
+                ∙ tail-over t ts S s l h r d (λ z. not-operator t k (tokenAt ts (r .at) .kind) (low, high) op (λ w. goes-on-false (r .fault) (kindIn kinds n (r .at)) k stop z (kind-is holds (r .at) ∙ w))) γ κ (y .grow (x .value)) on)));
             wrote = λ z. subst (λ (l : List Item). Wrote ts (q .n) (r .n) before after l) (sym (y .grows (x .value))) (wrote-then (x .wrote (v .moves .began z)) (y .wrote z));
           };
     }

@@ -1,8 +1,8 @@
 -- Expressions as lists of items, each behind its operands, and the same fold on the tree and on the items. Assumes nothing.
 use mathlib.Core.List.{List, [], _∷_, _++_}
-use Prim.Native.Nat.{ℕ, _+_}
-use lib.Dec.{eqb}
-use Rattle.grammar.specs.Token.{Token}
+use Prim.Native.Nat.{ℕ, _+_, _-_}
+use lib.Dec.{eqb, ltb}
+use Rattle.grammar.specs.Token.{Token, TIMES}
 use Rattle.grammar.specs.Tree.{Expr, number, bit, name, sign, negate, binary, parens}
 use Rattle.grammar.specs.Reader.{choose}
 
@@ -14,9 +14,12 @@ pub record Item : Type 0 where
 abbrev pub itemOf : ℕ → Token → Item
 itemOf c x = record { code = c; token = x }
 
--- the codes: 1 a name, 2 a number, 3 '0' or '1', 4 a sign, 5 not; an operator with two operands has its token's kind plus 7, 18 for + up to 28 for xor
+-- the codes: 1 a name, 2 a number, 3 '0' or '1', 4 a sign, 5 not; an operator with two operands by its token's kind, 18 for + up to 28 for xor, 29 for * up to 32 for rem
+unfoldable pub operatorCode : ℕ → ℕ
+operatorCode k = choose (ltb k TIMES) (k + 7) (k - 15)
+
 abbrev pub binaryItem : Token → Item
-binaryItem x = itemOf (x .kind + 7) x
+binaryItem x = itemOf (operatorCode (x .kind)) x
 
 -- "Code is postfix, left operand first": parentheses are dropped
 unfoldable pub postfix : Expr → List Item

@@ -5,7 +5,7 @@ use mathlib.Core.List.{List, [], _∷_, _++_}
 use Prim.Native.Nat.{ℕ, _+_, _<_, _≤_}
 use Rattle.grammar.specs.Token.{Token, AND, OR, XOR}
 use Rattle.grammar.specs.Tree.{Expr}
-use Rattle.grammar.specs.Grammar.{NonTerminal, expression, ands, ors, xors, simple, terms, Says, Sym, nt, Fun}
+use Rattle.grammar.specs.Grammar.{NonTerminal, expression, ands, ors, xors, simple, terms, term, factors, Says, Sym, nt, Fun}
 use Rattle.grammar.specs.Meter.{InHeading}
 use Rattle.grammar.proofs.Steps.{Ok}
 use Rattle.cursor.specs.declared.Pos.{Pos}
@@ -13,6 +13,7 @@ use Rattle.cursor.specs.Tokens.{Holds}
 use Rattle.cursor.specs.Reading.{from, Fine, Moves}
 use Rattle.expressions.specs.Postfix.{Item, postfix}
 use Rattle.expressions.specs.Written.{Arrays, Wrote}
+use Rattle.expressions.specs.Tests.{isAdding, isScaling}
 
 -- from q to r the reader has read an M with a value, and written its items behind those before
 pub record Reads (M : NonTerminal) (flat : Says M → List Item) (ts : List Token) (d : ℕ) (q r : Pos) (before after : Arrays) : Type 0 where
@@ -21,19 +22,21 @@ pub record Reads (M : NonTerminal) (flat : Says M → List Item) (ts : List Toke
       → from ts S s l h q d (nt M ∷ γ) κ ≡ from ts S s l h r d γ (κ value)
   pub wrote : r .fault ≡ 0 → Wrote ts (q .n) (r .n) before after (flat value)
 
--- the lists of operands: a sum, and a chain of each of the three operators
+-- the lists of operands: a sum, a product, and a chain of each of the three operators
 pub data Tail : Type 0 where
-  sum and-chain or-chain xor-chain : Tail
+  sum product and-chain or-chain xor-chain : Tail
 
 -- what the list is a part of; what comes of it after an operand
 abbrev pub wholeOf : Tail → NonTerminal
 wholeOf sum = simple
+wholeOf product = term
 wholeOf and-chain = expression
 wholeOf or-chain = expression
 wholeOf xor-chain = expression
 
 abbrev pub tailOf : Tail → NonTerminal
 tailOf sum = terms
+tailOf product = factors
 tailOf and-chain = ands
 tailOf or-chain = ors
 tailOf xor-chain = xors
@@ -41,19 +44,22 @@ tailOf xor-chain = xors
 -- the rest of the text as a function of the whole list's tree; of what comes after the operands read so far, whose tree is a
 abbrev pub ofWhole : (t : Tail) (S : NonTerminal) (γ : List Sym) → (Expr → Fun γ (Says S)) → Says (wholeOf t) → Fun γ (Says S)
 ofWhole sum S γ κ = κ
+ofWhole product S γ κ = κ
 ofWhole and-chain S γ κ = κ
 ofWhole or-chain S γ κ = κ
 ofWhole xor-chain S γ κ = κ
 
 abbrev pub ofTail : (t : Tail) (S : NonTerminal) (γ : List Sym) → (Expr → Fun γ (Says S)) → Expr → Says (tailOf t) → Fun γ (Says S)
 ofTail sum S γ κ a f = κ (f a)
+ofTail product S γ κ a f = κ (f a)
 ofTail and-chain S γ κ a f = κ (f a)
 ofTail or-chain S γ κ a f = κ (f a)
 ofTail xor-chain S γ κ a f = κ (f a)
 
--- the kind of a chain's operators
+-- the kinds of a list's operators
 abbrev pub operatorOf : Tail → ℕ → Type 0
-operatorOf sum k = ⊥
+operatorOf sum k = isAdding k
+operatorOf product k = isScaling k
 operatorOf and-chain k = k ≡ AND
 operatorOf or-chain k = k ≡ OR
 operatorOf xor-chain k = k ≡ XOR

@@ -1,14 +1,14 @@
-// The readers of expressions: tokens to postfix items in lent arrays. Expression, simple expression and primary call each other in a cycle,
-// the tokens left falling; terms and chains are loops. An operator waits on the call stack and is written behind its operands.
+// The readers of expressions: tokens to postfix items in lent arrays. Expression, simple expression, product and primary call each other in a cycle,
+// the tokens left falling; factors, terms and chains are loops. An operator waits on the call stack and is written behind its operands.
 ghost use mathlib.Core.Path.{_≡_};
 ghost use Prim.Native.Nat.{ℕ, _+_, _<_, _≤_};
-ghost use Rattle.grammar.specs.Grammar.{primary as primaryPart, factor as factorPart, simple as simplePart, relation as relationPart, expression as expressionPart};
+ghost use Rattle.grammar.specs.Grammar.{primary as primaryPart, factor as factorPart, term as termPart, simple as simplePart, relation as relationPart, expression as expressionPart};
 ghost use Rattle.cursor.specs.Reading.{Asks};
 ghost use Rattle.cursor.specs.Tokens.{kindIn};
 ghost use Rattle.expressions.specs.Postfix.{postfix};
 ghost use Rattle.expressions.specs.Written.{arrays, Put};
-ghost use Rattle.expressions.specs.Tests.{leafCode, isAdding, isLogical, moreTerms, goesOn};
-ghost use Rattle.expressions.specs.Readers.{Tail, sum, operatorOf, ReadsOver, PartlyOver, OneTurn};
+ghost use Rattle.expressions.specs.Tests.{leafCode, isAdding, isScaling, isLogical, moreTerms, moreFactors, goesOn};
+ghost use Rattle.expressions.specs.Readers.{Tail, sum, product as productTail, operatorOf, ReadsOver, PartlyOver, OneTurn};
 use cursor::Pos;
 use cursor::expect;
 use cursor::item;
@@ -123,7 +123,47 @@ fn factor(
     put(codes, tokens, b, 5, at)
 }
 
-// The first term of a sum, perhaps behind a sign.
+// A further factor of a product: its operator, *, /, mod or rem, and a factor.
+fn scaled(
+    kinds: &[u8; 16384],
+    long: &[u8; 16384],
+    n: usize,
+    q: Pos,
+    parens: usize,
+    codes: &mut [u8; 16384],
+    tokens: &mut [u16; 16384],
+) -> Pos
+    requires { ⌜ (parens ≤ 16) × Asks n q × isScaling (kindIn (now kinds) n (q .at)) ⌝ }
+    ensures { λ r. ⌜ OneTurn productTail (now (kinds .entry)) (now (long .entry)) n q parens (arrays (now (codes .entry)) (now (tokens .entry))) r (arrays (now (codes .exit)) (now (tokens .exit))) ⌝ }
+{
+    let at = q.at;
+    let kind = kind_at(kinds, n, at);
+    let a = item(long, q);
+    let b = factor(kinds, long, n, a, parens, codes, tokens);
+    put(codes, tokens, b, kind - 15, at)
+}
+
+// A product: the first factor, and further factors.
+fn product(
+    kinds: &[u8; 16384],
+    long: &[u8; 16384],
+    n: usize,
+    q: Pos,
+    parens: usize,
+    codes: &mut [u8; 16384],
+    tokens: &mut [u16; 16384],
+) -> Pos
+    requires { ⌜ (parens ≤ 16) × Asks n q ⌝ }
+    ensures { λ r. ⌜ ReadsOver termPart postfix (now (kinds .entry)) (now (long .entry)) n q parens (arrays (now (codes .entry)) (now (tokens .entry))) r (arrays (now (codes .exit)) (now (tokens .exit))) ⌝ }
+{
+    let mut a = factor(kinds, long, n, q, parens, codes, tokens);
+    while more_factors(kinds, n, a) {
+        a = scaled(kinds, long, n, a, parens, codes, tokens);
+    }
+    a
+}
+
+// The first term of a sum, perhaps behind a sign, which covers the whole term.
 fn signed(
     kinds: &[u8; 16384],
     long: &[u8; 16384],
@@ -138,14 +178,14 @@ fn signed(
 {
     let at = q.at;
     if kind_at(kinds, n, at) != 12 {
-        return factor(kinds, long, n, q, parens, codes, tokens);
+        return product(kinds, long, n, q, parens, codes, tokens);
     }
     let a = item(long, q);
-    let b = factor(kinds, long, n, a, parens, codes, tokens);
-    put(codes, tokens, b, 4, at)
+    let whole = product(kinds, long, n, a, parens, codes, tokens);
+    put(codes, tokens, whole, 4, at)
 }
 
-// A further term of a sum: its operator, + or -, and a factor.
+// A further term of a sum: its operator, + or -, and a product.
 fn term(
     kinds: &[u8; 16384],
     long: &[u8; 16384],
@@ -161,7 +201,7 @@ fn term(
     let at = q.at;
     let kind = kind_at(kinds, n, at);
     let a = item(long, q);
-    let b = factor(kinds, long, n, a, parens, codes, tokens);
+    let b = product(kinds, long, n, a, parens, codes, tokens);
     put(codes, tokens, b, kind + 7, at)
 }
 
@@ -273,6 +313,21 @@ fn more_terms(kinds: &[u8; 16384], n: usize, q: Pos) -> bool
         return true;
     }
     kind == 12
+}
+
+// Whether a further factor follows.
+fn more_factors(kinds: &[u8; 16384], n: usize, q: Pos) -> bool
+    requires { ⌜ n ≤ 16384 ⌝ }
+    ensures { λ r. ⌜ r ≡ moreFactors (q .fault) (kindIn (now (kinds .entry)) n (q .at)) ⌝ }
+{
+    if q.fault != 0 {
+        return false;
+    }
+    let kind = kind_at(kinds, n, q.at);
+    if kind < 44 {
+        return false;
+    }
+    kind < 48
 }
 
 // Whether the chain of this operator goes on.

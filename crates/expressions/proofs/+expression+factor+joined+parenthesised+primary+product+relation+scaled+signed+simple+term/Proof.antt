@@ -1,4 +1,4 @@
--- The proof of the cycle of calls of the readers of expressions. The measure is the tokens left, 8 for each, and a number for the level, so that it
+-- The proof of the cycle of calls of the readers of expressions. The measure is the tokens left, 10 for each, and a number for the level, so that it
 -- falls at a call at the same token too. Each return is one lemma of `Primaries` or `Sums`; a loop's invariant is that the tree so far has only grown.
 -- Assumes nothing.
 use Prim.Native.Nat.{ℕ, _<_, _+_, _*_, _-_}
@@ -7,83 +7,97 @@ use mathlib.Core.Logic.{inl, inr}
 use native.Mathlib.Omega.{arith}
 use borrow.Author.Needs.{needs}
 use lib.Dec.{lit<, lit≤}
-use Rattle.grammar.specs.Grammar.{primary as primaryPart, factor as factorPart, simple as simplePart, relation as relationPart}
+use Rattle.grammar.specs.Grammar.{primary as primaryPart, factor as factorPart, term as termPart, simple as simplePart, relation as relationPart}
 use Rattle.grammar.specs.Tree.{number}
 use Rattle.cursor.specs.Tokens.{noToken, kindIn, flagIn}
 use Rattle.cursor.proofs.Steps.{kind-inside}
 use Rattle.expressions.specs.Postfix.{postfix}
 use Rattle.expressions.specs.Written.{arrays}
-use Rattle.expressions.specs.Tests.{isAdding, isLogical}
-use Rattle.expressions.specs.Readers.{sum, operatorOf, TurnOver}
+use Rattle.expressions.specs.Tests.{isAdding}
+use Rattle.expressions.specs.Readers.{sum, product as productTail, operatorOf, TurnOver}
+use Rattle.expressions.proofs.Codes.{code-below, code-scaling}
 use Rattle.expressions.proofs.Behind.{first-moves, operand-asks, put-room, behind-over}
 use Rattle.expressions.proofs.Primaries.{stay-moves, reads-stays, primary-refused, primary-leaf, parens-full, parens-read}
-use Rattle.expressions.proofs.Sums.{asks-after, adding-bounds, loop-falls, Chained, chained-none, chained-again, chained-falls, factor-plain, factor-not, signed-plain, signed-sign, term-turn, joined-turn, turn-none, turn-then, more-terms-true, goes-on-true, sum-read, sum-goes-on, relation-plain, relation-compared, expression-plain, expression-chain}
+use Rattle.expressions.proofs.Sums.{asks-after, adding-bounds, loop-falls, Chained, chained-none, chained-again, chained-falls, factor-plain, factor-not, signed-plain, signed-sign, list-turn, joined-turn, turn-none, turn-then, more-terms-true, more-factors-true, goes-on-true, sum-read, product-read, relation-plain, relation-compared, expression-plain, expression-chain}
 use borrow.Fn.Kinds.{In}
 use borrow.Fn.PlainCycle.{Measures, is, falls, and}
 use Rattle.expressions.proofs.expression.Reads as expression
 use Rattle.expressions.proofs.expression.Kinds as expression-kinds
-use Rattle.expressions.proofs.+expression+factor+joined+parenthesised+primary+relation+signed+simple+term.Lts-expression as expression-lts
+use Rattle.expressions.proofs.+expression+factor+joined+parenthesised+primary+product+relation+scaled+signed+simple+term.Lts-expression as expression-lts
 use Rattle.expressions.proofs.factor.Reads as factor
 use Rattle.expressions.proofs.factor.Kinds as factor-kinds
-use Rattle.expressions.proofs.+expression+factor+joined+parenthesised+primary+relation+signed+simple+term.Lts-factor as factor-lts
+use Rattle.expressions.proofs.+expression+factor+joined+parenthesised+primary+product+relation+scaled+signed+simple+term.Lts-factor as factor-lts
 use Rattle.expressions.proofs.joined.Reads as joined
 use Rattle.expressions.proofs.joined.Kinds as joined-kinds
-use Rattle.expressions.proofs.+expression+factor+joined+parenthesised+primary+relation+signed+simple+term.Lts-joined as joined-lts
+use Rattle.expressions.proofs.+expression+factor+joined+parenthesised+primary+product+relation+scaled+signed+simple+term.Lts-joined as joined-lts
 use Rattle.expressions.proofs.parenthesised.Reads as parenthesised
 use Rattle.expressions.proofs.parenthesised.Kinds as parenthesised-kinds
-use Rattle.expressions.proofs.+expression+factor+joined+parenthesised+primary+relation+signed+simple+term.Lts-parenthesised as parenthesised-lts
+use Rattle.expressions.proofs.+expression+factor+joined+parenthesised+primary+product+relation+scaled+signed+simple+term.Lts-parenthesised as parenthesised-lts
 use Rattle.expressions.proofs.primary.Reads as primary
 use Rattle.expressions.proofs.primary.Kinds as primary-kinds
-use Rattle.expressions.proofs.+expression+factor+joined+parenthesised+primary+relation+signed+simple+term.Lts-primary as primary-lts
+use Rattle.expressions.proofs.+expression+factor+joined+parenthesised+primary+product+relation+scaled+signed+simple+term.Lts-primary as primary-lts
+use Rattle.expressions.proofs.product.Reads as product
+use Rattle.expressions.proofs.product.Kinds as product-kinds
+use Rattle.expressions.proofs.+expression+factor+joined+parenthesised+primary+product+relation+scaled+signed+simple+term.Lts-product as product-lts
 use Rattle.expressions.proofs.relation.Reads as relation
 use Rattle.expressions.proofs.relation.Kinds as relation-kinds
-use Rattle.expressions.proofs.+expression+factor+joined+parenthesised+primary+relation+signed+simple+term.Lts-relation as relation-lts
+use Rattle.expressions.proofs.+expression+factor+joined+parenthesised+primary+product+relation+scaled+signed+simple+term.Lts-relation as relation-lts
+use Rattle.expressions.proofs.scaled.Reads as scaled
+use Rattle.expressions.proofs.scaled.Kinds as scaled-kinds
+use Rattle.expressions.proofs.+expression+factor+joined+parenthesised+primary+product+relation+scaled+signed+simple+term.Lts-scaled as scaled-lts
 use Rattle.expressions.proofs.signed.Reads as signed
 use Rattle.expressions.proofs.signed.Kinds as signed-kinds
-use Rattle.expressions.proofs.+expression+factor+joined+parenthesised+primary+relation+signed+simple+term.Lts-signed as signed-lts
+use Rattle.expressions.proofs.+expression+factor+joined+parenthesised+primary+product+relation+scaled+signed+simple+term.Lts-signed as signed-lts
 use Rattle.expressions.proofs.simple.Reads as simple
 use Rattle.expressions.proofs.simple.Kinds as simple-kinds
-use Rattle.expressions.proofs.+expression+factor+joined+parenthesised+primary+relation+signed+simple+term.Lts-simple as simple-lts
+use Rattle.expressions.proofs.+expression+factor+joined+parenthesised+primary+product+relation+scaled+signed+simple+term.Lts-simple as simple-lts
 use Rattle.expressions.proofs.term.Reads as term
 use Rattle.expressions.proofs.term.Kinds as term-kinds
-use Rattle.expressions.proofs.+expression+factor+joined+parenthesised+primary+relation+signed+simple+term.Lts-term as term-lts
+use Rattle.expressions.proofs.+expression+factor+joined+parenthesised+primary+product+relation+scaled+signed+simple+term.Lts-term as term-lts
 use Rattle.cursor.proofs.expect.Reads as expect-reads
 use Rattle.cursor.proofs.item.Reads as item-reads
 use Rattle.cursor.proofs.kind_at.Reads as kind-at-reads
 use Rattle.cursor.proofs.refused.Reads as refused-reads
 use Rattle.expressions.proofs.joins.Reads as joins-reads
 use Rattle.expressions.proofs.leaf_code.Reads as leaf-code-reads
+use Rattle.expressions.proofs.more_factors.Reads as more-factors-reads
 use Rattle.expressions.proofs.more_terms.Reads as more-terms-reads
 use Rattle.expressions.proofs.put.Reads as put-reads
-use Rattle.expressions.proofs.+expression+factor+joined+parenthesised+primary+relation+signed+simple+term.{statement}
-use Rattle.expressions.proofs.+expression+factor+joined+parenthesised+primary+relation+signed+simple+term.Tie.{close}
+use Rattle.expressions.proofs.+expression+factor+joined+parenthesised+primary+product+relation+scaled+signed+simple+term.{statement}
+use Rattle.expressions.proofs.+expression+factor+joined+parenthesised+primary+product+relation+scaled+signed+simple+term.Tie.{close}
 
 abbrev μ-expression : Measures 4 expression-kinds.ps ℕ
-μ-expression κs a = 8 * (a .1 .1 .0 - a .1 .1 .1 .0 .at) + 7
+μ-expression κs a = 10 * (a .1 .1 .0 - a .1 .1 .1 .0 .at) + 9
 
 abbrev μ-factor : Measures 4 factor-kinds.ps ℕ
-μ-factor κs a = 8 * (a .1 .1 .0 - a .1 .1 .1 .0 .at) + 2
+μ-factor κs a = 10 * (a .1 .1 .0 - a .1 .1 .1 .0 .at) + 2
 
 abbrev μ-joined : Measures 4 joined-kinds.ps ℕ
-μ-joined κs a = 8 * (a .1 .1 .0 - a .1 .1 .1 .0 .at) + 6
+μ-joined κs a = 10 * (a .1 .1 .0 - a .1 .1 .1 .0 .at) + 8
 
 abbrev μ-parenthesised : Measures 4 parenthesised-kinds.ps ℕ
-μ-parenthesised κs a = 8 * (a .1 .1 .0 - a .1 .1 .1 .0 .at) + 0
+μ-parenthesised κs a = 10 * (a .1 .1 .0 - a .1 .1 .1 .0 .at) + 0
 
 abbrev μ-primary : Measures 4 primary-kinds.ps ℕ
-μ-primary κs a = 8 * (a .1 .1 .0 - a .1 .1 .1 .0 .at) + 1
+μ-primary κs a = 10 * (a .1 .1 .0 - a .1 .1 .1 .0 .at) + 1
+
+abbrev μ-product : Measures 4 product-kinds.ps ℕ
+μ-product κs a = 10 * (a .1 .1 .0 - a .1 .1 .1 .0 .at) + 4
 
 abbrev μ-relation : Measures 4 relation-kinds.ps ℕ
-μ-relation κs a = 8 * (a .1 .1 .0 - a .1 .1 .1 .0 .at) + 5
+μ-relation κs a = 10 * (a .1 .1 .0 - a .1 .1 .1 .0 .at) + 7
+
+abbrev μ-scaled : Measures 4 scaled-kinds.ps ℕ
+μ-scaled κs a = 10 * (a .1 .1 .0 - a .1 .1 .1 .0 .at) + 3
 
 abbrev μ-signed : Measures 4 signed-kinds.ps ℕ
-μ-signed κs a = 8 * (a .1 .1 .0 - a .1 .1 .1 .0 .at) + 3
+μ-signed κs a = 10 * (a .1 .1 .0 - a .1 .1 .1 .0 .at) + 5
 
 abbrev μ-simple : Measures 4 simple-kinds.ps ℕ
-μ-simple κs a = 8 * (a .1 .1 .0 - a .1 .1 .1 .0 .at) + 4
+μ-simple κs a = 10 * (a .1 .1 .0 - a .1 .1 .1 .0 .at) + 6
 
 abbrev μ-term : Measures 4 term-kinds.ps ℕ
-μ-term κs a = 8 * (a .1 .1 .0 - a .1 .1 .1 .0 .at) + 3
+μ-term κs a = 10 * (a .1 .1 .0 - a .1 .1 .1 .0 .at) + 5
 
 abbrev expression-at : ℕ → In 4 expression-kinds.ps
 expression-at t = and 4 expression-kinds.ps (is 4 expression-kinds.ps μ-expression t) expression.Pre
@@ -115,11 +129,23 @@ primary-at t = and 4 primary-kinds.ps (is 4 primary-kinds.ps μ-primary t) prima
 abbrev primary-below : ℕ → In 4 primary-kinds.ps
 primary-below t = and 4 primary-kinds.ps (falls 4 primary-kinds.ps _<_ μ-primary t) primary.Pre
 
+abbrev product-at : ℕ → In 4 product-kinds.ps
+product-at t = and 4 product-kinds.ps (is 4 product-kinds.ps μ-product t) product.Pre
+
+abbrev product-below : ℕ → In 4 product-kinds.ps
+product-below t = and 4 product-kinds.ps (falls 4 product-kinds.ps _<_ μ-product t) product.Pre
+
 abbrev relation-at : ℕ → In 4 relation-kinds.ps
 relation-at t = and 4 relation-kinds.ps (is 4 relation-kinds.ps μ-relation t) relation.Pre
 
 abbrev relation-below : ℕ → In 4 relation-kinds.ps
 relation-below t = and 4 relation-kinds.ps (falls 4 relation-kinds.ps _<_ μ-relation t) relation.Pre
+
+abbrev scaled-at : ℕ → In 4 scaled-kinds.ps
+scaled-at t = and 4 scaled-kinds.ps (is 4 scaled-kinds.ps μ-scaled t) scaled.Pre
+
+abbrev scaled-below : ℕ → In 4 scaled-kinds.ps
+scaled-below t = and 4 scaled-kinds.ps (falls 4 scaled-kinds.ps _<_ μ-scaled t) scaled.Pre
 
 abbrev signed-at : ℕ → In 4 signed-kinds.ps
 signed-at t = and 4 signed-kinds.ps (is 4 signed-kinds.ps μ-signed t) signed.Pre
@@ -154,23 +180,35 @@ parenthesised-calls t = (refused-reads.Asked, refused-reads.Learnt, expression-b
 abbrev primary-calls : ℕ → primary-lts.Claims
 primary-calls t = (kind-at-reads.Asked, kind-at-reads.Learnt, parenthesised-below t, parenthesised.Post, refused-reads.Asked, refused-reads.Learnt, item-reads.Asked, item-reads.Learnt, leaf-code-reads.Asked, leaf-code-reads.Learnt, put-reads.Asked, put-reads.Learnt)
 
+abbrev product-calls : ℕ → product-lts.Claims
+product-calls t = (factor-below t, factor.Post, more-factors-reads.Asked, more-factors-reads.Learnt, scaled-below t, scaled.Post)
+
 abbrev relation-calls : ℕ → relation-lts.Claims
 relation-calls t = (simple-below t, simple.Post, kind-at-reads.Asked, kind-at-reads.Learnt, item-reads.Asked, item-reads.Learnt, put-reads.Asked, put-reads.Learnt)
 
+abbrev scaled-calls : ℕ → scaled-lts.Claims
+scaled-calls t = (kind-at-reads.Asked, kind-at-reads.Learnt, item-reads.Asked, item-reads.Learnt, factor-below t, factor.Post, put-reads.Asked, put-reads.Learnt)
+
 abbrev signed-calls : ℕ → signed-lts.Claims
-signed-calls t = (kind-at-reads.Asked, kind-at-reads.Learnt, factor-below t, factor.Post, item-reads.Asked, item-reads.Learnt, put-reads.Asked, put-reads.Learnt)
+signed-calls t = (kind-at-reads.Asked, kind-at-reads.Learnt, product-below t, product.Post, item-reads.Asked, item-reads.Learnt, put-reads.Asked, put-reads.Learnt)
 
 abbrev simple-calls : ℕ → simple-lts.Claims
 simple-calls t = (signed-below t, signed.Post, more-terms-reads.Asked, more-terms-reads.Learnt, term-below t, term.Post)
 
 abbrev term-calls : ℕ → term-lts.Claims
-term-calls t = (kind-at-reads.Asked, kind-at-reads.Learnt, item-reads.Asked, item-reads.Learnt, factor-below t, factor.Post, put-reads.Asked, put-reads.Learnt)
+term-calls t = (kind-at-reads.Asked, kind-at-reads.Learnt, item-reads.Asked, item-reads.Learnt, product-below t, product.Post, put-reads.Asked, put-reads.Learnt)
 
 abbrev expression-Inv-loop : expression-lts.InvT-loop
 expression-Inv-loop kinds long n parens codes₀ tokens₀ a₀ first kind codes tokens a = Chained kind kinds long n a₀ parens (arrays codes₀ tokens₀) a (arrays codes tokens)
 
 abbrev expression-μ-loop : expression-lts.MeasureT-loop
 expression-μ-loop kinds long n parens codes₀ tokens₀ a₀ first kind codes tokens a = (n - a .at) + (1 - a .fault)
+
+abbrev product-Inv-loop : product-lts.InvT-loop
+product-Inv-loop kinds long n parens codes₀ tokens₀ a₀ codes tokens a = TurnOver productTail kinds long n a₀ parens (arrays codes₀ tokens₀) a (arrays codes tokens)
+
+abbrev product-μ-loop : product-lts.MeasureT-loop
+product-μ-loop kinds long n parens codes₀ tokens₀ a₀ codes tokens a = (n - a .at) + (1 - a .fault)
 
 abbrev simple-Inv-loop : simple-lts.InvT-loop
 simple-Inv-loop kinds long n parens codes₀ tokens₀ a₀ codes tokens a = TurnOver sum kinds long n a₀ parens (arrays codes₀ tokens₀) a (arrays codes tokens)
@@ -227,7 +265,7 @@ joined-put-requires : (t : ℕ) → joined-lts.Need-put-requires (joined-calls t
 joined-put-requires t c κs = let s = c .before .before .before .before .before .before .before .args in let w = c .before .before .before .before .before .before .before .pre .1 .2 in let i = (kind-inside (s .kinds .now) (s .n) (s .q .at) (kindIn (s .kinds .now) (s .n) (s .q .at)) refl (omega arith)) in (put-room (s .n) (s .q) (c .before .before .before .before .before .item .result) (c .before .before .relation .result) (s .q) (flagIn (s .long .now) (s .q .at)) (c .before .before .before .before .before .before .before .pre .1 .1) i (c .before .before .before .before .before .item .ensures) (c .before .before .relation .ensures .moves), omega arith)
 
 joined-returns : (t : ℕ) → joined-lts.Need-returns (joined-calls t) (joined-at t) joined.Post
-joined-returns t c = let s = c .before .before .before .before .before .before .before .before .args in let w = c .before .before .before .before .before .before .before .before .pre .1 .2 in let e = sym (c .before .before .before .before .before .before .before .kind-at .ensures) in λ t op. joined-turn (c .before .before .before .before .before .before .before .kind-at .result) e t (subst (operatorOf t) e op) (behind-over relationPart postfix (c .before .before .before .before .before .before .before .kind-at .result) (omega arith) (c .before .before .before .before .before .before .before .before .pre .1 .1) (c .before .before .before .before .before .before .before .before .pre .1 .0) e (c .before .before .before .before .before .before .item .ensures) (c .before .before .before .relation .ensures) (c .put .ensures))
+joined-returns t c = let s = c .before .before .before .before .before .before .before .before .args in let w = c .before .before .before .before .before .before .before .before .pre .1 .2 in let e = sym (c .before .before .before .before .before .before .before .kind-at .ensures) in λ t op. joined-turn (c .before .before .before .before .before .before .before .kind-at .result) e (code-below (c .before .before .before .before .before .before .before .kind-at .result) (omega arith)) (omega arith) t (subst (operatorOf t) e op) (behind-over relationPart postfix (c .before .before .before .before .before .before .before .kind-at .result) (omega arith) (c .before .before .before .before .before .before .before .before .pre .1 .1) (c .before .before .before .before .before .before .before .before .pre .1 .0) e (c .before .before .before .before .before .before .item .ensures) (c .before .before .before .relation .ensures) (c .put .ensures))
 
 parenthesised-returns : (t : ℕ) → parenthesised-lts.Need-returns (parenthesised-calls t) (parenthesised-at t) parenthesised.Post
 parenthesised-returns t c = rw (c .refused .ensures) (parens-full (c .before .before .pre .1 .1) (c .before .before .pre .1 .0) (c .before .before .pre .1 .2) _ (c .before .if1 .taken) (c .before .before .pre .1 .3))
@@ -268,6 +306,21 @@ primary-put-requires t c κs = let s = c .before .before .before .before .before
 primary-returns-5 : (t : ℕ) → primary-lts.Need-returns-5 (primary-calls t) (primary-at t) primary.Post
 primary-returns-5 t c = primary-leaf (c .before .before .before .before .before .before .before .before .before .before .before .pre .1 .1) (c .before .before .before .before .before .before .before .before .before .before .before .pre .1 .0) (c .before .before .before .before .before .before .before .before .before .if1 .left) (c .before .before .before .before .before .before .before .before .kind-at .result) (let f = c .before .before .before .before .before .before .if3 .left in omega arith) (c .before .before .before .before .before .if4 .left) (sym (c .before .before .before .before .before .before .before .before .kind-at .ensures)) _ _ (c .before .before .before .before .item .ensures) (rw (c .before .leaf-code .ensures) at (c .put .ensures))
 
+product-loop-holds : (t : ℕ) → product-lts.Need-loop-holds (product-calls t) (product-at t) product.Post product-Inv-loop product-μ-loop
+product-loop-holds t c = turn-none productTail _ (asks-after (c .before .before .before .pre .1 .1) (c .factor .ensures .moves))
+
+product-scaled-requires : (t : ℕ) → product-lts.Need-scaled-requires (product-calls t) (product-at t) product.Post product-Inv-loop product-μ-loop
+product-scaled-requires t c κs = let s = c .before .before .before .before .before .before .before .before .args in let o = c .before .before .before .before .before .factor .ensures .moves in let i = c .before .before .before .before .loop .inv .moves in (omega arith, (c .before .before .before .before .before .before .before .before .pre .1 .0, asks-after (asks-after (c .before .before .before .before .before .before .before .before .pre .1 .1) (c .before .before .before .before .before .factor .ensures .moves)) (c .before .before .before .before .loop .inv .moves), (more-factors-true (c .before .before .before .before .loop .a .fault) (kindIn (s .kinds .now) (s .n) (c .before .before .before .before .loop .a .at)) (sym (c .before .before .before .more-factors .ensures) ∙ c .before .before .if1 .taken)) .1))
+
+product-loop-less : (t : ℕ) → product-lts.Need-loop-less (product-calls t) (product-at t) product.Post product-Inv-loop product-μ-loop
+product-loop-less t c = let s = c .before .before .before .before .before .before .before .before .before .args in let o = c .before .before .before .before .before .before .factor .ensures .moves in let i = c .before .before .before .before .before .loop .inv .moves in loop-falls (s .n) (c .before .before .before .before .before .loop .a) (c .scaled .result) (omega arith) ((more-factors-true (c .before .before .before .before .before .loop .a .fault) (kindIn (s .kinds .now) (s .n) (c .before .before .before .before .before .loop .a .at)) (sym (c .before .before .before .before .more-factors .ensures) ∙ c .before .before .before .if1 .taken)) .0) (c .scaled .ensures .turn .moves) (c .scaled .ensures .further)
+
+product-loop-again : (t : ℕ) → product-lts.Need-loop-again (product-calls t) (product-at t) product.Post product-Inv-loop product-μ-loop
+product-loop-again t c = turn-then (c .before .before .before .before .before .loop .inv) (c .scaled .ensures .turn)
+
+product-returns : (t : ℕ) → product-lts.Need-returns (product-calls t) (product-at t) product.Post product-Inv-loop product-μ-loop
+product-returns t c = product-read (c .before .before .before .factor .ensures) (c .before .before .loop .inv) (sym (c .before .more-factors .ensures) ∙ c .if1 .left)
+
 relation-returns : (t : ℕ) → relation-lts.Need-returns (relation-calls t) (relation-at t) relation.Post
 relation-returns t c = relation-plain (c .before .before .simple .ensures) (inl (let e = c .before .kind-at .ensures in omega arith))
 
@@ -284,22 +337,37 @@ relation-put-requires : (t : ℕ) → relation-lts.Need-put-requires (relation-c
 relation-put-requires t c κs = let s = c .before .before .before .before .before .before .before .before .before .before .before .before .args in let h = c .before .before .before .before .before .before .before .before .before .before .before .before .pre .1 .1 in let o = c .before .before .before .before .before .before .before .before .before .simple .ensures .moves in let i = (kind-inside (s .kinds .now) (s .n) (c .before .before .before .before .before .before .before .before .before .simple .result .at) (c .before .before .before .before .before .before .before .before .kind-at .result) (sym (c .before .before .before .before .before .before .before .before .kind-at .ensures)) (omega arith)) in (put-room (s .n) (c .before .before .before .before .before .before .before .before .before .simple .result) (c .before .before .before .before .before .item .result) (c .before .before .simple2 .result) (s .q) (flagIn (s .long .now) (c .before .before .before .before .before .before .before .before .before .simple .result .at)) (asks-after (c .before .before .before .before .before .before .before .before .before .before .before .before .pre .1 .1) (c .before .before .before .before .before .before .before .before .before .simple .ensures .moves)) i (c .before .before .before .before .before .item .ensures) (c .before .before .simple2 .ensures .moves), omega arith)
 
 relation-returns-3 : (t : ℕ) → relation-lts.Need-returns-3 (relation-calls t) (relation-at t) relation.Post
-relation-returns-3 t c = let s = c .before .before .before .before .before .before .before .before .before .before .before .before .before .args in let e = sym (c .before .before .before .before .before .before .before .before .before .kind-at .ensures) in relation-compared (c .before .before .before .before .before .before .before .before .before .kind-at .result) (c .before .before .before .before .before .before .before .before .before .before .simple .ensures) (omega arith) (omega arith) e (behind-over simplePart postfix (c .before .before .before .before .before .before .before .before .before .kind-at .result) (omega arith) (asks-after (c .before .before .before .before .before .before .before .before .before .before .before .before .before .pre .1 .1) (c .before .before .before .before .before .before .before .before .before .before .simple .ensures .moves)) (c .before .before .before .before .before .before .before .before .before .before .before .before .before .pre .1 .0) e (c .before .before .before .before .before .before .item .ensures) (c .before .before .before .simple2 .ensures) (c .put .ensures))
+relation-returns-3 t c = let s = c .before .before .before .before .before .before .before .before .before .before .before .before .before .args in let e = sym (c .before .before .before .before .before .before .before .before .before .kind-at .ensures) in relation-compared (c .before .before .before .before .before .before .before .before .before .kind-at .result) (c .before .before .before .before .before .before .before .before .before .before .simple .ensures) (omega arith) (omega arith) e (code-below (c .before .before .before .before .before .before .before .before .before .kind-at .result) (omega arith)) (behind-over simplePart postfix (c .before .before .before .before .before .before .before .before .before .kind-at .result) (omega arith) (asks-after (c .before .before .before .before .before .before .before .before .before .before .before .before .before .pre .1 .1) (c .before .before .before .before .before .before .before .before .before .before .simple .ensures .moves)) (c .before .before .before .before .before .before .before .before .before .before .before .before .before .pre .1 .0) e (c .before .before .before .before .before .before .item .ensures) (c .before .before .before .simple2 .ensures) (c .put .ensures))
+
+scaled-item-requires : (t : ℕ) → scaled-lts.Need-item-requires (scaled-calls t) (scaled-at t) scaled.Post
+scaled-item-requires t c κs = let s = c .before .args in let w = c .before .pre .1 .2 in let i = (kind-inside (s .kinds .now) (s .n) (s .q .at) (kindIn (s .kinds .now) (s .n) (s .q .at)) refl (omega arith)) in omega arith
+
+scaled-factor-requires : (t : ℕ) → scaled-lts.Need-factor-requires (scaled-calls t) (scaled-at t) scaled.Post
+scaled-factor-requires t c κs = let s = c .before .before .before .before .args in let w = c .before .before .before .before .pre .1 .2 in let i = (kind-inside (s .kinds .now) (s .n) (s .q .at) (kindIn (s .kinds .now) (s .n) (s .q .at)) refl (omega arith)) in let a = operand-asks (s .n) (s .q) (c .before .before .item .result) (s .q) (s .q) (flagIn (s .long .now) (s .q .at)) (c .before .before .before .before .pre .1 .1) i (c .before .before .item .ensures) in let m = first-moves (s .n) (s .q) (c .before .before .item .result) (s .q) (s .q) (flagIn (s .long .now) (s .q .at)) (c .before .before .before .before .pre .1 .1) i (c .before .before .item .ensures) in omega arith
+
+scaled-sub-put : (t : ℕ) → scaled-lts.Need-sub-put (scaled-calls t) (scaled-at t) scaled.Post
+scaled-sub-put t c = let s = c .before .before .before .before .before .before .before .args in let w = c .before .before .before .before .before .before .before .pre .1 .2 in let e = c .before .before .before .before .before .before .kind-at .ensures in omega arith
+
+scaled-put-requires : (t : ℕ) → scaled-lts.Need-put-requires (scaled-calls t) (scaled-at t) scaled.Post
+scaled-put-requires t c κs = let s = c .before .before .before .before .before .before .before .args in let w = c .before .before .before .before .before .before .before .pre .1 .2 in let i = (kind-inside (s .kinds .now) (s .n) (s .q .at) (kindIn (s .kinds .now) (s .n) (s .q .at)) refl (omega arith)) in (put-room (s .n) (s .q) (c .before .before .before .before .before .item .result) (c .before .before .factor .result) (s .q) (flagIn (s .long .now) (s .q .at)) (c .before .before .before .before .before .before .before .pre .1 .1) i (c .before .before .before .before .before .item .ensures) (c .before .before .factor .ensures .moves), omega arith)
+
+scaled-returns : (t : ℕ) → scaled-lts.Need-returns (scaled-calls t) (scaled-at t) scaled.Post
+scaled-returns t c = let s = c .before .before .before .before .before .before .before .before .args in let w = c .before .before .before .before .before .before .before .before .pre .1 .2 in let e = sym (c .before .before .before .before .before .before .before .kind-at .ensures) in list-turn (c .before .before .before .before .before .before .before .kind-at .result) e (code-scaling (c .before .before .before .before .before .before .before .kind-at .result) (omega arith)) productTail (omega arith) (behind-over factorPart postfix (c .before .before .before .before .before .before .before .kind-at .result) (omega arith) (c .before .before .before .before .before .before .before .before .pre .1 .1) (c .before .before .before .before .before .before .before .before .pre .1 .0) e (c .before .before .before .before .before .before .item .ensures) (c .before .before .before .factor .ensures) (c .put .ensures))
 
 signed-returns : (t : ℕ) → signed-lts.Need-returns (signed-calls t) (signed-at t) signed.Post
-signed-returns t c = signed-plain (λ z. c .before .before .before .if1 .taken (c .before .before .before .before .kind-at .ensures ∙ z)) (c .factor .ensures)
+signed-returns t c = signed-plain (λ z. c .before .before .before .if1 .taken (c .before .before .before .before .kind-at .ensures ∙ z)) (c .product .ensures)
 
 signed-item-requires : (t : ℕ) → signed-lts.Need-item-requires (signed-calls t) (signed-at t) signed.Post
 signed-item-requires t c κs = let s = c .before .before .args in let i = (kind-inside (s .kinds .now) (s .n) (s .q .at) 12 (sym (c .before .kind-at .ensures) ∙ c .if1 .left) (lit< tt)) in omega arith
 
-signed-factor-requires-2 : (t : ℕ) → signed-lts.Need-factor-requires-2 (signed-calls t) (signed-at t) signed.Post
-signed-factor-requires-2 t c κs = let s = c .before .before .before .before .before .args in let i = (kind-inside (s .kinds .now) (s .n) (s .q .at) 12 (sym (c .before .before .before .before .kind-at .ensures) ∙ c .before .before .before .if1 .left) (lit< tt)) in let a = operand-asks (s .n) (s .q) (c .before .before .item .result) (s .q) (s .q) (flagIn (s .long .now) (s .q .at)) (c .before .before .before .before .before .pre .1 .1) i (c .before .before .item .ensures) in let m = first-moves (s .n) (s .q) (c .before .before .item .result) (s .q) (s .q) (flagIn (s .long .now) (s .q .at)) (c .before .before .before .before .before .pre .1 .1) i (c .before .before .item .ensures) in omega arith
+signed-product-requires-2 : (t : ℕ) → signed-lts.Need-product-requires-2 (signed-calls t) (signed-at t) signed.Post
+signed-product-requires-2 t c κs = let s = c .before .before .before .before .before .args in let i = (kind-inside (s .kinds .now) (s .n) (s .q .at) 12 (sym (c .before .before .before .before .kind-at .ensures) ∙ c .before .before .before .if1 .left) (lit< tt)) in let a = operand-asks (s .n) (s .q) (c .before .before .item .result) (s .q) (s .q) (flagIn (s .long .now) (s .q .at)) (c .before .before .before .before .before .pre .1 .1) i (c .before .before .item .ensures) in let m = first-moves (s .n) (s .q) (c .before .before .item .result) (s .q) (s .q) (flagIn (s .long .now) (s .q .at)) (c .before .before .before .before .before .pre .1 .1) i (c .before .before .item .ensures) in omega arith
 
 signed-put-requires : (t : ℕ) → signed-lts.Need-put-requires (signed-calls t) (signed-at t) signed.Post
-signed-put-requires t c κs = let s = c .before .before .before .before .before .before .before .before .args in let i = (kind-inside (s .kinds .now) (s .n) (s .q .at) 12 (sym (c .before .before .before .before .before .before .before .kind-at .ensures) ∙ c .before .before .before .before .before .before .if1 .left) (lit< tt)) in (put-room (s .n) (s .q) (c .before .before .before .before .before .item .result) (c .before .before .factor2 .result) (s .q) (flagIn (s .long .now) (s .q .at)) (c .before .before .before .before .before .before .before .before .pre .1 .1) i (c .before .before .before .before .before .item .ensures) (c .before .before .factor2 .ensures .moves), omega arith)
+signed-put-requires t c κs = let s = c .before .before .before .before .before .before .before .before .args in let i = (kind-inside (s .kinds .now) (s .n) (s .q .at) 12 (sym (c .before .before .before .before .before .before .before .kind-at .ensures) ∙ c .before .before .before .before .before .before .if1 .left) (lit< tt)) in (put-room (s .n) (s .q) (c .before .before .before .before .before .item .result) (c .before .before .product2 .result) (s .q) (flagIn (s .long .now) (s .q .at)) (c .before .before .before .before .before .before .before .before .pre .1 .1) i (c .before .before .before .before .before .item .ensures) (c .before .before .product2 .ensures .moves), omega arith)
 
 signed-returns-2 : (t : ℕ) → signed-lts.Need-returns-2 (signed-calls t) (signed-at t) signed.Post
-signed-returns-2 t c = let e = sym (c .before .before .before .before .before .before .before .before .kind-at .ensures) ∙ c .before .before .before .before .before .before .before .if1 .left in signed-sign e (behind-over factorPart postfix 12 (lit< tt) (c .before .before .before .before .before .before .before .before .before .pre .1 .1) (c .before .before .before .before .before .before .before .before .before .pre .1 .0) e (c .before .before .before .before .before .before .item .ensures) (c .before .before .before .factor2 .ensures) (c .put .ensures))
+signed-returns-2 t c = let e = sym (c .before .before .before .before .before .before .before .before .kind-at .ensures) ∙ c .before .before .before .before .before .before .before .if1 .left in signed-sign e (behind-over termPart postfix 12 (lit< tt) (c .before .before .before .before .before .before .before .before .before .pre .1 .1) (c .before .before .before .before .before .before .before .before .before .pre .1 .0) e (c .before .before .before .before .before .before .item .ensures) (c .before .before .before .product2 .ensures) (c .put .ensures))
 
 simple-loop-holds : (t : ℕ) → simple-lts.Need-loop-holds (simple-calls t) (simple-at t) simple.Post simple-Inv-loop simple-μ-loop
 simple-loop-holds t c = turn-none sum _ (asks-after (c .before .before .before .pre .1 .1) (c .signed .ensures .moves))
@@ -314,32 +382,34 @@ simple-loop-again : (t : ℕ) → simple-lts.Need-loop-again (simple-calls t) (s
 simple-loop-again t c = turn-then (c .before .before .before .before .before .loop .inv) (c .term .ensures .turn)
 
 simple-returns : (t : ℕ) → simple-lts.Need-returns (simple-calls t) (simple-at t) simple.Post simple-Inv-loop simple-μ-loop
-simple-returns t c = sum-read (sum-goes-on (c .before .before .before .signed .ensures) (c .before .before .loop .inv)) (sym (c .before .more-terms .ensures) ∙ c .if1 .left)
+simple-returns t c = sum-read (c .before .before .before .signed .ensures) (c .before .before .loop .inv) (sym (c .before .more-terms .ensures) ∙ c .if1 .left)
 
 term-item-requires : (t : ℕ) → term-lts.Need-item-requires (term-calls t) (term-at t) term.Post
 term-item-requires t c κs = let s = c .before .args in let w = adding-bounds (kindIn (s .kinds .now) (s .n) (s .q .at)) (c .before .pre .1 .2) in let i = (kind-inside (s .kinds .now) (s .n) (s .q .at) (kindIn (s .kinds .now) (s .n) (s .q .at)) refl (omega arith)) in omega arith
 
-term-factor-requires : (t : ℕ) → term-lts.Need-factor-requires (term-calls t) (term-at t) term.Post
-term-factor-requires t c κs = let s = c .before .before .before .before .args in let w = adding-bounds (kindIn (s .kinds .now) (s .n) (s .q .at)) (c .before .before .before .before .pre .1 .2) in let i = (kind-inside (s .kinds .now) (s .n) (s .q .at) (kindIn (s .kinds .now) (s .n) (s .q .at)) refl (omega arith)) in let a = operand-asks (s .n) (s .q) (c .before .before .item .result) (s .q) (s .q) (flagIn (s .long .now) (s .q .at)) (c .before .before .before .before .pre .1 .1) i (c .before .before .item .ensures) in let m = first-moves (s .n) (s .q) (c .before .before .item .result) (s .q) (s .q) (flagIn (s .long .now) (s .q .at)) (c .before .before .before .before .pre .1 .1) i (c .before .before .item .ensures) in omega arith
+term-product-requires : (t : ℕ) → term-lts.Need-product-requires (term-calls t) (term-at t) term.Post
+term-product-requires t c κs = let s = c .before .before .before .before .args in let w = adding-bounds (kindIn (s .kinds .now) (s .n) (s .q .at)) (c .before .before .before .before .pre .1 .2) in let i = (kind-inside (s .kinds .now) (s .n) (s .q .at) (kindIn (s .kinds .now) (s .n) (s .q .at)) refl (omega arith)) in let a = operand-asks (s .n) (s .q) (c .before .before .item .result) (s .q) (s .q) (flagIn (s .long .now) (s .q .at)) (c .before .before .before .before .pre .1 .1) i (c .before .before .item .ensures) in let m = first-moves (s .n) (s .q) (c .before .before .item .result) (s .q) (s .q) (flagIn (s .long .now) (s .q .at)) (c .before .before .before .before .pre .1 .1) i (c .before .before .item .ensures) in omega arith
 
 term-add-put : (t : ℕ) → term-lts.Need-add-put (term-calls t) (term-at t) term.Post
 term-add-put t c = let s = c .before .before .before .before .before .before .before .args in let w = adding-bounds (kindIn (s .kinds .now) (s .n) (s .q .at)) (c .before .before .before .before .before .before .before .pre .1 .2) in let e = c .before .before .before .before .before .before .kind-at .ensures in omega arith
 
 term-put-requires : (t : ℕ) → term-lts.Need-put-requires (term-calls t) (term-at t) term.Post
-term-put-requires t c κs = let s = c .before .before .before .before .before .before .before .args in let w = adding-bounds (kindIn (s .kinds .now) (s .n) (s .q .at)) (c .before .before .before .before .before .before .before .pre .1 .2) in let i = (kind-inside (s .kinds .now) (s .n) (s .q .at) (kindIn (s .kinds .now) (s .n) (s .q .at)) refl (omega arith)) in (put-room (s .n) (s .q) (c .before .before .before .before .before .item .result) (c .before .before .factor .result) (s .q) (flagIn (s .long .now) (s .q .at)) (c .before .before .before .before .before .before .before .pre .1 .1) i (c .before .before .before .before .before .item .ensures) (c .before .before .factor .ensures .moves), omega arith)
+term-put-requires t c κs = let s = c .before .before .before .before .before .before .before .args in let w = adding-bounds (kindIn (s .kinds .now) (s .n) (s .q .at)) (c .before .before .before .before .before .before .before .pre .1 .2) in let i = (kind-inside (s .kinds .now) (s .n) (s .q .at) (kindIn (s .kinds .now) (s .n) (s .q .at)) refl (omega arith)) in (put-room (s .n) (s .q) (c .before .before .before .before .before .item .result) (c .before .before .product .result) (s .q) (flagIn (s .long .now) (s .q .at)) (c .before .before .before .before .before .before .before .pre .1 .1) i (c .before .before .before .before .before .item .ensures) (c .before .before .product .ensures .moves), omega arith)
 
 term-returns : (t : ℕ) → term-lts.Need-returns (term-calls t) (term-at t) term.Post
-term-returns t c = let s = c .before .before .before .before .before .before .before .before .args in let w = adding-bounds (kindIn (s .kinds .now) (s .n) (s .q .at)) (c .before .before .before .before .before .before .before .before .pre .1 .2) in let e = sym (c .before .before .before .before .before .before .before .kind-at .ensures) in term-turn (c .before .before .before .before .before .before .before .kind-at .result) e (subst isAdding e (c .before .before .before .before .before .before .before .before .pre .1 .2)) (behind-over factorPart postfix (c .before .before .before .before .before .before .before .kind-at .result) (omega arith) (c .before .before .before .before .before .before .before .before .pre .1 .1) (c .before .before .before .before .before .before .before .before .pre .1 .0) e (c .before .before .before .before .before .before .item .ensures) (c .before .before .before .factor .ensures) (c .put .ensures))
+term-returns t c = let s = c .before .before .before .before .before .before .before .before .args in let w = adding-bounds (kindIn (s .kinds .now) (s .n) (s .q .at)) (c .before .before .before .before .before .before .before .before .pre .1 .2) in let e = sym (c .before .before .before .before .before .before .before .kind-at .ensures) in list-turn (c .before .before .before .before .before .before .before .kind-at .result) e (code-below (c .before .before .before .before .before .before .before .kind-at .result) (omega arith)) sum (subst isAdding e (c .before .before .before .before .before .before .before .before .pre .1 .2)) (behind-over termPart postfix (c .before .before .before .before .before .before .before .kind-at .result) (omega arith) (c .before .before .before .before .before .before .before .before .pre .1 .1) (c .before .before .before .before .before .before .before .before .pre .1 .0) e (c .before .before .before .before .before .before .item .ensures) (c .before .before .before .product .ensures) (c .put .ensures))
 
-pub +expression+factor+joined+parenthesised+primary+relation+signed+simple+term-spec : {M : Type 1} → statement M
-+expression+factor+joined+parenthesised+primary+relation+signed+simple+term-spec =
-    close μ-expression μ-factor μ-joined μ-parenthesised μ-primary μ-relation μ-signed μ-simple μ-term
+pub +expression+factor+joined+parenthesised+primary+product+relation+scaled+signed+simple+term-spec : {M : Type 1} → statement M
++expression+factor+joined+parenthesised+primary+product+relation+scaled+signed+simple+term-spec =
+    close μ-expression μ-factor μ-joined μ-parenthesised μ-primary μ-product μ-relation μ-scaled μ-signed μ-simple μ-term
     (λ t. expression-lts.spec (expression-calls t) (expression-at t) expression.Post expression-Inv-loop expression-μ-loop (λ c κs. omega arith) (λ c κs. omega arith) (expression-returns t) (expression-returns-2 t) (expression-loop-holds t) (λ c κs. omega arith) (expression-joined-requires t) (expression-loop-less t) (expression-loop-again t) (expression-returns-3 t))
     (λ t. factor-lts.spec (factor-calls t) (factor-at t) factor.Post (λ c κs. omega arith) (λ c κs. omega arith) (factor-returns t) (factor-item-requires t) (factor-primary-requires-2 t) (factor-put-requires t) (factor-returns-2 t))
     (λ t. joined-lts.spec (joined-calls t) (joined-at t) joined.Post (λ c κs. omega arith) (joined-item-requires t) (joined-relation-requires t) (joined-add-put t) (joined-put-requires t) (joined-returns t))
     (λ t. parenthesised-lts.spec (parenthesised-calls t) (parenthesised-at t) parenthesised.Post (λ c κs. search needs) (parenthesised-returns t) (parenthesised-add-expression t) (λ c. omega arith) (parenthesised-expression-requires t) (parenthesised-expect-requires t) (parenthesised-returns-2 t))
     (λ t. primary-lts.spec (primary-calls t) (primary-at t) primary.Post (primary-returns t) (λ c κs. omega arith) (primary-parenthesised-requires t) (primary-returns-2 t) (λ c κs. search needs) (primary-returns-3 t) (λ c κs. search needs) (primary-returns-4 t) (primary-item-requires t) (λ c κs. search needs) (primary-put-requires t) (primary-returns-5 t))
+    (λ t. product-lts.spec (product-calls t) (product-at t) product.Post product-Inv-loop product-μ-loop (λ c κs. omega arith) (product-loop-holds t) (λ c κs. omega arith) (product-scaled-requires t) (product-loop-less t) (product-loop-again t) (product-returns t))
     (λ t. relation-lts.spec (relation-calls t) (relation-at t) relation.Post (λ c κs. omega arith) (λ c κs. omega arith) (relation-returns t) (relation-returns-2 t) (relation-item-requires t) (relation-simple-requires-2 t) (λ c. omega arith) (relation-put-requires t) (relation-returns-3 t))
-    (λ t. signed-lts.spec (signed-calls t) (signed-at t) signed.Post (λ c κs. omega arith) (λ c κs. omega arith) (signed-returns t) (signed-item-requires t) (signed-factor-requires-2 t) (signed-put-requires t) (signed-returns-2 t))
+    (λ t. scaled-lts.spec (scaled-calls t) (scaled-at t) scaled.Post (λ c κs. omega arith) (scaled-item-requires t) (scaled-factor-requires t) (scaled-sub-put t) (scaled-put-requires t) (scaled-returns t))
+    (λ t. signed-lts.spec (signed-calls t) (signed-at t) signed.Post (λ c κs. omega arith) (λ c κs. omega arith) (signed-returns t) (signed-item-requires t) (signed-product-requires-2 t) (signed-put-requires t) (signed-returns-2 t))
     (λ t. simple-lts.spec (simple-calls t) (simple-at t) simple.Post simple-Inv-loop simple-μ-loop (λ c κs. omega arith) (simple-loop-holds t) (λ c κs. omega arith) (simple-term-requires t) (simple-loop-less t) (simple-loop-again t) (simple-returns t))
-    (λ t. term-lts.spec (term-calls t) (term-at t) term.Post (λ c κs. omega arith) (term-item-requires t) (term-factor-requires t) (term-add-put t) (term-put-requires t) (term-returns t))
+    (λ t. term-lts.spec (term-calls t) (term-at t) term.Post (λ c κs. omega arith) (term-item-requires t) (term-product-requires t) (term-add-put t) (term-put-requires t) (term-returns t))
