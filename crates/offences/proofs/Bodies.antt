@@ -15,8 +15,9 @@ use Rattle.language.specs.Lists.{each}
 use Rattle.language.specs.Declarations.{within, statements}
 use Rattle.language.proofs.Facts.{each-append}
 use Rattle.cursor.specs.Tokens.{tokenAt}
-use Rattle.expressions.specs.Postfix.{Item, itemOf, postfix}
+use Rattle.expressions.specs.Postfix.{Item, itemOf, operatorCode, postfix}
 use Rattle.expressions.specs.Written.{itemAtIndex}
+use Rattle.expressions.proofs.Codes.{code-above}
 use Rattle.expressions.proofs.Folds.{Steps, postfix-whole}
 use Rattle.statements.specs.Entries.{Entry, entry, stmtEntries, bodyEntries, entryItems}
 use Rattle.statements.specs.Rows.{Line, seen, linesFrom}
@@ -156,7 +157,7 @@ names-steps r q =
       name = λ x w k f c. sym (append-assoc w (r x) (each (itemRule r) k)) ∙ c;
       sign = λ x a w k f. (tt, λ c. c);
       negate = λ x a w k f. (tt, λ c. c);
-      binary = λ x a b w k f. (tt, tt, λ c. rw (ne-eqb (x .kind + 7) 1 (λ e. omega arith)) (ap (λ (l : List ℕ). l ++ each (itemRule r) k) (append-assoc w (ofNames r a) (ofNames r b)) ∙ c));
+      binary = λ x a b w k f. (tt, tt, λ c. rw (ne-eqb (operatorCode (x .kind)) 1 (λ e. let h = code-above (x .kind) in omega arith)) (ap (λ (l : List ℕ). l ++ each (itemRule r) k) (append-assoc w (ofNames r a) (ofNames r b)) ∙ c));
       parens = λ a w k f. (tt, λ c. c);
     }
 

@@ -1,20 +1,20 @@
 -- In the tree of a derivation every token has the kind that its place in the grammar asks for: a property of what each nonterminal says, kept by
 -- every production. Assumes nothing.
-use mathlib.Core.Path.{_≡_, subst}
+use mathlib.Core.Path.{_≡_, sym, subst}
 use mathlib.Core.Logic.{inl, inr}
 use mathlib.Core.List.{List}
 use Prim.Native.Nat.{ℕ, _≤_, _<_}
 use native.Mathlib.Omega.{arith}
 use lib.ListN.{length}
-use Rattle.grammar.specs.Token.{Token, NAME, PLUS, XOR}
+use Rattle.grammar.specs.Token.{Token, NAME}
 use Rattle.grammar.specs.Tree.{Expr, binary, Stmt, Body, Text}
-use Rattle.grammar.specs.Grammar.{NonTerminal, text, ports, morePorts, port, names, moreNames, mode, type, init, value, vars, body, more, statement, target, else-part, expression, chain, ands, ors, xors, relation, compared, simple, terms, factor, primary}
+use Rattle.grammar.specs.Grammar.{NonTerminal, text, ports, morePorts, port, names, moreNames, mode, type, init, value, vars, body, more, statement, target, else-part, expression, chain, ands, ors, xors, relation, compared, simple, terms, term, factors, factor, primary}
 use Rattle.grammar.specs.Grammar.{Says, Mark, productions, textProduction}
 use Rattle.grammar.specs.Derivation.{span, Reads}
 use Rattle.grammar.specs.Limits.{Each}
 use Rattle.grammar.proofs.Each.{each-any}
 use Rattle.grammar.proofs.Keeping.{KeepAll, tree-keeps}
-use Rattle.syntax.specs.Kinded.{IsType, IsOperator, KindedExpr, KindedStmt, KindedBody, KindedInit, KindedGroup, Kinded}
+use Rattle.syntax.specs.Kinded.{IsType, OperatorKind, IsOperator, KindedExpr, KindedStmt, KindedBody, KindedInit, KindedGroup, Kinded}
 
 -- what goes on after an operand keeps it
 abbrev Goes : (Expr → Expr) → Type 0
@@ -47,15 +47,17 @@ Kept relation v = KindedExpr v
 Kept compared f = Goes f
 Kept simple v = KindedExpr v
 Kept terms f = Goes f
+Kept term v = KindedExpr v
+Kept factors f = Goes f
 Kept factor v = KindedExpr v
 Kept primary v = KindedExpr v
 
--- an operator's kind is one of eleven
-operator : (x : Token) (k : ℕ) → PLUS ≤ k → k ≤ XOR → x .kind ≡ k → IsOperator x
-operator x k l h e = (omega arith, omega arith)
+-- an operator's kind is one of fifteen
+operator : (x : Token) (k : ℕ) → OperatorKind k → x .kind ≡ k → IsOperator x
+operator x k h e = subst OperatorKind (sym e) h
 
-joined : (x : Token) (k : ℕ) → PLUS ≤ k → k ≤ XOR → x .kind ≡ k → (b : Expr) → KindedExpr b → (f : Expr → Expr) → Goes f → Goes (λ (a : Expr). f (binary x a b))
-joined x k l h e b kb f g a ka = g _ (operator x k l h e, ka, kb)
+joined : (x : Token) (k : ℕ) → OperatorKind k → x .kind ≡ k → (b : Expr) → KindedExpr b → (f : Expr → Expr) → Goes f → Goes (λ (a : Expr). f (binary x a b))
+joined x k h e b kb f g a ka = g _ (operator x k h e, ka, kb)
 
 all-keep : (M : NonTerminal) → KeepAll (λ (k : ℕ) (x : Token). x .kind ≡ k) Kept M (productions M)
 unfolding productions textProduction
@@ -86,35 +88,46 @@ all-keep expression = (λ a ha f hf. hf a ha, tt)
 all-keep chain = (
   λ a ha. ha,
   (
-    λ x hx b hb f hf. joined x _ (omega arith) (omega arith) hx b hb f hf,
+    λ x hx b hb f hf. joined x _ (inl (omega arith)) hx b hb f hf,
     (
-      λ x hx b hb f hf. joined x _ (omega arith) (omega arith) hx b hb f hf,
-      (λ x hx b hb f hf. joined x _ (omega arith) (omega arith) hx b hb f hf, tt),
+      λ x hx b hb f hf. joined x _ (inl (omega arith)) hx b hb f hf,
+      (λ x hx b hb f hf. joined x _ (inl (omega arith)) hx b hb f hf, tt),
     ),
   ),
 )
-all-keep ands = (λ a ha. ha, (λ x hx b hb f hf. joined x _ (omega arith) (omega arith) hx b hb f hf, tt))
-all-keep ors = (λ a ha. ha, (λ x hx b hb f hf. joined x _ (omega arith) (omega arith) hx b hb f hf, tt))
-all-keep xors = (λ a ha. ha, (λ x hx b hb f hf. joined x _ (omega arith) (omega arith) hx b hb f hf, tt))
+all-keep ands = (λ a ha. ha, (λ x hx b hb f hf. joined x _ (inl (omega arith)) hx b hb f hf, tt))
+all-keep ors = (λ a ha. ha, (λ x hx b hb f hf. joined x _ (inl (omega arith)) hx b hb f hf, tt))
+all-keep xors = (λ a ha. ha, (λ x hx b hb f hf. joined x _ (inl (omega arith)) hx b hb f hf, tt))
 all-keep relation = (λ a ha f hf. hf a ha, tt)
 all-keep compared = (
   λ a ha. ha,
   (
-    λ x hx b hb a ha. (operator x _ (omega arith) (omega arith) hx, ha, hb),
+    λ x hx b hb a ha. (operator x _ (inl (omega arith)) hx, ha, hb),
     (
-      λ x hx b hb a ha. (operator x _ (omega arith) (omega arith) hx, ha, hb),
+      λ x hx b hb a ha. (operator x _ (inl (omega arith)) hx, ha, hb),
       (
-        λ x hx b hb a ha. (operator x _ (omega arith) (omega arith) hx, ha, hb),
+        λ x hx b hb a ha. (operator x _ (inl (omega arith)) hx, ha, hb),
         (
-          λ x hx b hb a ha. (operator x _ (omega arith) (omega arith) hx, ha, hb),
-          (λ x hx b hb a ha. (operator x _ (omega arith) (omega arith) hx, ha, hb), (λ x hx b hb a ha. (operator x _ (omega arith) (omega arith) hx, ha, hb), tt)),
+          λ x hx b hb a ha. (operator x _ (inl (omega arith)) hx, ha, hb),
+          (λ x hx b hb a ha. (operator x _ (inl (omega arith)) hx, ha, hb), (λ x hx b hb a ha. (operator x _ (inl (omega arith)) hx, ha, hb), tt)),
         ),
       ),
     ),
   ),
 )
 all-keep simple = (λ a ha f hf. hf a ha, (λ s hs a ha f hf. hf _ (hs, ha), tt))
-all-keep terms = (λ a ha. ha, (λ x hx b hb f hf. joined x _ (omega arith) (omega arith) hx b hb f hf, (λ x hx b hb f hf. joined x _ (omega arith) (omega arith) hx b hb f hf, tt)))
+all-keep terms = (λ a ha. ha, (λ x hx b hb f hf. joined x _ (inl (omega arith)) hx b hb f hf, (λ x hx b hb f hf. joined x _ (inl (omega arith)) hx b hb f hf, tt)))
+all-keep term = (λ a ha f hf. hf a ha, tt)
+all-keep factors = (
+  λ a ha. ha,
+  (
+    λ x hx b hb f hf. joined x _ (inr (omega arith)) hx b hb f hf,
+    (
+      λ x hx b hb f hf. joined x _ (inr (omega arith)) hx b hb f hf,
+      (λ x hx b hb f hf. joined x _ (inr (omega arith)) hx b hb f hf, (λ x hx b hb f hf. joined x _ (inr (omega arith)) hx b hb f hf, tt)),
+    ),
+  ),
+)
 all-keep factor = (λ a ha. ha, (λ x hx a ha. (hx, ha), tt))
 all-keep primary = (λ x h. h, (λ x h. inl h, (λ x h. inr h, (λ x h. h, (λ _ _ e he _ _. he, tt)))))
 

@@ -1,4 +1,5 @@
 pub mod Lowest
 pub mod Kinded
+pub mod Operators
 pub mod Named
 pub mod Stored

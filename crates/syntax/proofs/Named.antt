@@ -7,6 +7,7 @@ use Rattle.grammar.specs.Token.{Token, NAME}
 use Rattle.grammar.specs.Tree.{Expr}
 use Rattle.grammar.specs.Limits.{Each}
 use Rattle.expressions.specs.Postfix.{Item, postfix}
+use Rattle.expressions.proofs.Codes.{code-above}
 use Rattle.expressions.proofs.Folds.{Steps, postfix-whole}
 use Rattle.syntax.specs.Kinded.{KindedExpr}
 
@@ -25,7 +26,7 @@ named-steps =
       name = λ x w k f c. ((λ z. f), c);
       sign = λ x a w k f. (f .1, λ c. ((λ z. absurd (omega arith)), c));
       negate = λ x a w k f. (f .1, λ c. ((λ z. absurd (omega arith)), c));
-      binary = λ x a b w k f. (f .1, f .2, λ c. ((λ z. absurd (omega arith)), c));
+      binary = λ x a b w k f. (f .1, f .2, λ c. ((λ z. absurd (let h = code-above (x .kind) in omega arith)), c));
       parens = λ a w k f. (f, λ c. c);
     }
 

@@ -4,19 +4,23 @@ use mathlib.Core.List.{List}
 use mathlib.Core.Logic.{_⊎_}
 use Prim.Native.Nat.{ℕ, _≤_, _<_}
 use lib.ListN.{length}
-use Rattle.grammar.specs.Token.{Token, NAME, NUMBER, ZERO, ONE, PLUS, MINUS, XOR, NOT, IF, WHILE, PROCESS, STD-LOGIC, INTEGER}
+use Rattle.grammar.specs.Token.{Token, NAME, NUMBER, ZERO, ONE, PLUS, MINUS, XOR, NOT, TIMES, REM, IF, WHILE, PROCESS, STD-LOGIC, INTEGER}
 use Rattle.grammar.specs.Tree.{Expr, number, bit, name, sign, negate, binary, parens, Stmt, output, assign, null, wait, if-then, if-else, while, Body, only, andThen, Init, without, integer-literal, logic-literal, minus, Group, Text}
 use Rattle.grammar.specs.Limits.{Each}
 
--- '0' or '1'; std_logic or integer; + - = /= < <= > >= and or xor have successive kinds
+-- '0' or '1'; std_logic or integer
 abbrev pub IsBit : Token → Type 0
 IsBit x = (x .kind ≡ ZERO) ⊎ (x .kind ≡ ONE)
 
 abbrev pub IsType : Token → Type 0
 IsType x = (x .kind ≡ STD-LOGIC) ⊎ (x .kind ≡ INTEGER)
 
+-- + - = /= < <= > >= and or xor have successive kinds, and so have * / mod rem
+abbrev pub OperatorKind : ℕ → Type 0
+OperatorKind k = ((PLUS ≤ k) × (k ≤ XOR)) ⊎ ((TIMES ≤ k) × (k ≤ REM))
+
 abbrev pub IsOperator : Token → Type 0
-IsOperator x = (PLUS ≤ x .kind) × (x .kind ≤ XOR)
+IsOperator x = OperatorKind (x .kind)
 
 abbrev pub KindedExpr : Expr → Type 0
 KindedExpr (number x) = x .kind ≡ NUMBER
