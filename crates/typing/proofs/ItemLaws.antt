@@ -14,10 +14,11 @@ use Rattle.design.specs.Expression.{sumType, logicalType}
 use Rattle.language.specs.Lists.{unless, lowest}
 use Rattle.language.specs.Declarations.{Decl, find, typeIn}
 use Rattle.language.specs.Typing.{operatorOf, resultOf, onOne, onTwo, typeOf, typesIn, wrong1, wrong2}
-use Rattle.expressions.specs.Postfix.{Item, itemOf, binaryItem, postfix}
+use Rattle.expressions.specs.Postfix.{Item, itemOf, operatorCode, binaryItem, postfix}
+use Rattle.expressions.proofs.Codes.{code-above}
 use Rattle.expressions.proofs.Folds.{Steps, postfix-law}
 use Rattle.syntax.specs.Lowest.{number, lowestOf, lower}
-use Rattle.syntax.specs.Kinded.{KindedExpr}
+use Rattle.syntax.specs.Kinded.{OperatorKind, KindedExpr}
 use Rattle.syntax.proofs.Lowest.{lower-none, lower-assoc, lowest-append}
 use Rattle.typing.specs.Operators.{codeOf, typeCodeOf, rightOne, rightTwo}
 use Rattle.typing.specs.Expressions.{Work, work, pushed, unaryOn, binaryOn, stepWork}
@@ -69,12 +70,13 @@ module _ (Δ : List Decl) where
   unfolding itemStep stepWork unaryOn
   not-step x a l s b = rw (not-law a, join1 b l a (onOne logicalType a) (x .place))
 
-  binary-step : (x : Token) (a c : Option ExprTy) (l m : List ℕ) (s : List ℕ) (b : ℕ) → 11 ≤ x .kind → x .kind ≤ 21
+  binary-step : (x : Token) (a c : Option ExprTy) (l m : List ℕ) (s : List ℕ) (b : ℕ) → OperatorKind (x .kind)
       → itemStep (binaryItem x) (work (typeCodeOf c ∷ (typeCodeOf a ∷ s)) (lower (lower b (lowestOf l)) (lowestOf m)))
       ≡ work (typeCodeOf (onTwo (resultOf (operatorOf (x .kind))) a c) ∷ s) (lower b (lowestOf (l ++ (m ++ wrong2 a c (onTwo (resultOf (operatorOf (x .kind))) a c) (x .place)))))
   unfolding itemStep stepWork binaryOn
-  binary-step x a c l m s b h k =
-      rw (le-ltb (x .kind + 7) 4 (omega arith), le-ltb (x .kind + 7) 6 (omega arith), binary-law (x .kind) h k a c, join2 b l m a c (onTwo (resultOf (operatorOf (x .kind))) a c) (x .place))
+  binary-step x a c l m s b h =
+      let k = code-above (x .kind) in
+      rw (le-ltb (operatorCode (x .kind)) 4 (omega arith), le-ltb (operatorCode (x .kind)) 6 (omega arith), binary-law (x .kind) h a c, join2 b l m a c (onTwo (resultOf (operatorOf (x .kind))) a c) (x .place))
 
   -- what an expression needs: tokens of the right kinds, and room on the stack
   abbrev Fits : Expr → Work → Type 0
@@ -102,7 +104,7 @@ module _ (Δ : List Decl) where
           (f .0 .1, omega arith),
           (f .0 .2, omega arith),
           λ c. before (binaryItem x) k (judged b (judged a w)) (judged (binary x a b) w) r
-              (binary-step x (typeOf Δ a) (typeOf Δ b) (typesIn Δ a) (typesIn Δ b) (w .stack) (w .lowest) (f .0 .0 .0) (f .0 .0 .1)) c,
+              (binary-step x (typeOf Δ a) (typeOf Δ b) (typesIn Δ a) (typesIn Δ b) (w .stack) (w .lowest) (f .0 .0)) c,
         );
         parens = λ a w k f. (f, λ c. c);
       }

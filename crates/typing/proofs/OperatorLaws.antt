@@ -1,14 +1,14 @@
 -- The types of operators as numbers are those of the language. Assumes nothing.
-use mathlib.Core.Path.{_≡_, refl, subst}
+use mathlib.Core.Path.{_≡_, refl}
 use mathlib.Core.Option.{Option, none, some}
-use Prim.Native.Nat.{ℕ, suc, _+_, _≤_}
-use native.Mathlib.Omega.{arith}
-use native.Mathlib.Decide.{decLe}
-use Rattle.grammar.specs.Token.{PLUS, XOR}
+use Prim.Native.Nat.{ℕ}
 use Rattle.design.specs.Types.{std-logic, integer, ExprTy, plain, boolean, sameTy, sameType}
 use Rattle.design.specs.Expression.{sumType, orderType, equalityType, logicalType, binaryType}
 use Rattle.language.specs.Lists.{unless}
 use Rattle.language.specs.Typing.{operatorOf, resultOf, onOne, onTwo, wrong1, wrong2, wants}
+use Rattle.expressions.specs.Postfix.{operatorCode}
+use Rattle.syntax.specs.Kinded.{OperatorKind}
+use Rattle.syntax.proofs.Operators.{each-operator}
 use Rattle.typing.specs.Operators.{codeOf, typeCodeOf, sumCode, orderCode, equalityCode, logicalCode, unaryCode, resultCode, binaryCode, rightOne, rightTwo, fitsCode}
 
 pub sum-law : (t : ExprTy) → sumCode (codeOf t) ≡ typeCodeOf (sumType t)
@@ -46,48 +46,35 @@ unfolding unaryCode onOne typeCodeOf
 not-law none = refl
 not-law (some t) = logical-law t
 
--- What holds of each of the eleven kinds of operators.
-one-less : (P : ℕ → Type 0) (k m : ℕ) → k ≤ suc m → P (suc m) → (k ≤ m → P k) → P k
-one-less P k m h p q = go (decLe k m)
-  where
-    go : Dec (k ≤ m) → P k
-    go (yes l) = q l
-    go (no l) = let z : suc m ≡ k = omega arith in subst P z p
-
-operators : (P : ℕ → Type 0) → P 11 → P 12 → P 13 → P 14 → P 15 → P 16 → P 17 → P 18 → P 19 → P 20 → P 21 → (k : ℕ) → PLUS ≤ k → k ≤ XOR → P k
-operators P a b c d e f g h i j l k m n =
-    one-less P k 20 n l (λ n. one-less P k 19 n j (λ n. one-less P k 18 n i (λ n. one-less P k 17 n h (λ n. one-less P k 16 n g (λ n. one-less P k 15 n f
-    (λ n. one-less P k 14 n e (λ n. one-less P k 13 n d (λ n. one-less P k 12 n c (λ n. one-less P k 11 n b (λ n. let z : 11 ≡ k = omega arith in subst P z a))))))))))
-
 -- an operator on operands of one type
-result-law : (k : ℕ) → PLUS ≤ k → k ≤ XOR → (t : ExprTy) → resultCode (k + 7) (codeOf t) ≡ typeCodeOf (resultOf (operatorOf k) t)
-unfolding resultCode resultOf operatorOf binaryType
+result-law : (k : ℕ) → OperatorKind k → (t : ExprTy) → resultCode (operatorCode k) (codeOf t) ≡ typeCodeOf (resultOf (operatorOf k) t)
+unfolding resultCode operatorCode resultOf operatorOf binaryType
 result-law =
-    operators (λ (k : ℕ). (t : ExprTy) → resultCode (k + 7) (codeOf t) ≡ typeCodeOf (resultOf (operatorOf k) t))
-    sum-law sum-law equality-law equality-law order-law order-law order-law order-law logical-law logical-law logical-law
+    each-operator (λ (k : ℕ). (t : ExprTy) → resultCode (operatorCode k) (codeOf t) ≡ typeCodeOf (resultOf (operatorOf k) t))
+    sum-law sum-law equality-law equality-law order-law order-law order-law order-law logical-law logical-law logical-law sum-law sum-law sum-law sum-law
 
-result-untyped : (k : ℕ) → PLUS ≤ k → k ≤ XOR → resultCode (k + 7) 0 ≡ 0
-unfolding resultCode
-result-untyped = operators (λ (k : ℕ). resultCode (k + 7) 0 ≡ 0) refl refl refl refl refl refl refl refl refl refl refl
+result-untyped : (k : ℕ) → OperatorKind k → resultCode (operatorCode k) 0 ≡ 0
+unfolding resultCode operatorCode
+result-untyped = each-operator (λ (k : ℕ). resultCode (operatorCode k) 0 ≡ 0) refl refl refl refl refl refl refl refl refl refl refl refl refl refl refl
 
-pub binary-law : (k : ℕ) → PLUS ≤ k → k ≤ XOR → (a b : Option ExprTy) → binaryCode (k + 7) (typeCodeOf a) (typeCodeOf b) ≡ typeCodeOf (onTwo (resultOf (operatorOf k)) a b)
+pub binary-law : (k : ℕ) → OperatorKind k → (a b : Option ExprTy) → binaryCode (operatorCode k) (typeCodeOf a) (typeCodeOf b) ≡ typeCodeOf (onTwo (resultOf (operatorOf k)) a b)
 unfolding binaryCode onTwo typeCodeOf codeOf sameType sameTy
-binary-law k m n none none = result-untyped k m n
-binary-law k m n none (some (plain std-logic)) = refl
-binary-law k m n none (some (plain integer)) = refl
-binary-law k m n none (some boolean) = refl
-binary-law k m n (some (plain std-logic)) none = refl
-binary-law k m n (some (plain integer)) none = refl
-binary-law k m n (some boolean) none = refl
-binary-law k m n (some (plain std-logic)) (some (plain std-logic)) = result-law k m n (plain std-logic)
-binary-law k m n (some (plain std-logic)) (some (plain integer)) = refl
-binary-law k m n (some (plain std-logic)) (some boolean) = refl
-binary-law k m n (some (plain integer)) (some (plain std-logic)) = refl
-binary-law k m n (some (plain integer)) (some (plain integer)) = result-law k m n (plain integer)
-binary-law k m n (some (plain integer)) (some boolean) = refl
-binary-law k m n (some boolean) (some (plain std-logic)) = refl
-binary-law k m n (some boolean) (some (plain integer)) = refl
-binary-law k m n (some boolean) (some boolean) = result-law k m n boolean
+binary-law k m none none = result-untyped k m
+binary-law k m none (some (plain std-logic)) = refl
+binary-law k m none (some (plain integer)) = refl
+binary-law k m none (some boolean) = refl
+binary-law k m (some (plain std-logic)) none = refl
+binary-law k m (some (plain integer)) none = refl
+binary-law k m (some boolean) none = refl
+binary-law k m (some (plain std-logic)) (some (plain std-logic)) = result-law k m (plain std-logic)
+binary-law k m (some (plain std-logic)) (some (plain integer)) = refl
+binary-law k m (some (plain std-logic)) (some boolean) = refl
+binary-law k m (some (plain integer)) (some (plain std-logic)) = refl
+binary-law k m (some (plain integer)) (some (plain integer)) = result-law k m (plain integer)
+binary-law k m (some (plain integer)) (some boolean) = refl
+binary-law k m (some boolean) (some (plain std-logic)) = refl
+binary-law k m (some boolean) (some (plain integer)) = refl
+binary-law k m (some boolean) (some boolean) = result-law k m boolean
 
 -- Offences. A type's number is not 0.
 wrong-some : (t : ExprTy) (r : Option ExprTy) (p : ℕ) → unless (rightOne (codeOf t) (typeCodeOf r)) p ≡ wrong1 (some t) r p

@@ -16,7 +16,7 @@ unfoldable pub typeCodeOf : Option ExprTy → ℕ
 typeCodeOf none = 0
 typeCodeOf (some t) = codeOf t
 
--- "+ - and the orders take integers"
+-- "+ - and the orders take integers", "*, /, mod and rem on integers"
 abbrev pub sumCode : ℕ → ℕ
 sumCode t = choose (eqb t 2) 2 0
 
@@ -35,9 +35,9 @@ logicalCode t = choose (eqb t 1) 1 (choose (eqb t 3) 3 0)
 unfoldable pub unaryCode : ℕ → ℕ → ℕ
 unaryCode c t = choose (eqb c 4) (sumCode t) (logicalCode t)
 
--- an operator of two operands of the type t by its item code: 18 and 19 are + and -, 20 and 21 = and /=, 22 to 25 the orders, 26 to 28 and or xor
+-- an operator of two operands of the type t by its item code: 18 and 19 are + and -, 20 and 21 = and /=, 22 to 25 the orders, 26 to 28 and or xor, 29 to 32 * / mod rem
 unfoldable pub resultCode : ℕ → ℕ → ℕ
-resultCode c t = choose (ltb c 20) (sumCode t) (choose (ltb c 22) (equalityCode t) (choose (ltb c 26) (orderCode t) (logicalCode t)))
+resultCode c t = choose (ltb c 20) (sumCode t) (choose (ltb c 22) (equalityCode t) (choose (ltb c 26) (orderCode t) (choose (ltb c 29) (logicalCode t) (sumCode t))))
 
 unfoldable pub binaryCode : ℕ → ℕ → ℕ → ℕ
 binaryCode c t u = choose (eqb t u) (resultCode c t) 0

@@ -2,7 +2,7 @@
 ghost use mathlib.Core.Path.{_≡_};
 ghost use Rattle.typing.specs.Operators.{sumCode, orderCode, equalityCode, logicalCode, unaryCode, resultCode, binaryCode, rightOne, rightTwo, fitsCode};
 
-// + - and the sign.
+// + - * / mod rem and the sign.
 fn sum(t: u8) -> u8
     ensures { λ r. ⌜ r ≡ sumCode t ⌝ }
 {
@@ -61,7 +61,10 @@ fn result(c: u8, t: u8) -> u8
     if c < 26 {
         return order(t);
     }
-    logical(t)
+    if c < 29 {
+        return logical(t);
+    }
+    sum(t)
 }
 
 // An operator on two operands.
