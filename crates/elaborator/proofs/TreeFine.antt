@@ -16,7 +16,8 @@ use Rattle.language.specs.Declarations.{within, statements, isClock}
 use Rattle.language.specs.Clock.{readsIn, readsOf}
 use Rattle.language.proofs.Facts.{both-nil, each-nil, unless-nil, not-true}
 use Rattle.language.proofs.Expressions.{Unread}
-use Rattle.expressions.specs.Postfix.{Item, itemOf, postfix}
+use Rattle.expressions.specs.Postfix.{Item, itemOf, operatorCode, postfix}
+use Rattle.expressions.proofs.Codes.{code-above}
 use Rattle.expressions.proofs.Folds.{Steps, postfix-whole}
 use Rattle.statements.specs.Entries.{Entry, stmtEntries, bodyEntries, entryItems}
 use Rattle.statements.proofs.Lines.{entry-items-append}
@@ -110,7 +111,7 @@ module _ (c : Option Token) where
         binary = λ x a b w k f.
             let v = unread-two c x a b (f .1) in
             let q = each-split (λ (x : Token). x .value ≤ 2147483647) (exprNumbers a) (exprNumbers b) (f .2) in
-            ((f .0 .1, v .0, q .0), (f .0 .2, v .1, q .1), λ h. (operator-fine (x .kind + 7) x (omega arith), h));
+            ((f .0 .1, v .0, q .0), (f .0 .2, v .1, q .1), λ h. (operator-fine (operatorCode (x .kind)) x (let z = code-above (x .kind) in omega arith), h));
         parens = λ a w k f. ((f .0, unread-parens c a (f .1), f .2), λ h. h);
       }
 

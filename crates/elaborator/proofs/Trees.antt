@@ -3,13 +3,13 @@ use mathlib.Core.Path.{_≡_, refl, sym, _∙_, ap}
 use mathlib.Core.Bool.{false}
 use mathlib.Core.Option.{Option, none, some}
 use mathlib.Core.List.{List, [], _∷_, _++_, map, map-append, append-assoc, append-nil}
-use Prim.Native.Nat.{ℕ, zero, suc, _+_, _-_, _≤_, _<_}
+use Prim.Native.Nat.{ℕ, suc, _+_, _<_}
 use native.Mathlib.Omega.{arith}
 use lib.ListN.{length, length-append}
 use lib.Dec.{eqb}
 use lib.IntN.{pos}
 use borrow.Author.Tests.{ne-eqb}
-use Rattle.grammar.specs.Token.{Token, PLUS, XOR}
+use Rattle.grammar.specs.Token.{Token}
 use Rattle.grammar.specs.Tree as T
 use Rattle.grammar.specs.Tree.{Body, Mode}
 use Rattle.design.specs.Expression.{Expr}
@@ -17,35 +17,20 @@ use Rattle.design.specs.Statement.{Stmt, size}
 use Rattle.language.specs.Declarations.{Decl, Scope, find}
 use Rattle.language.specs.Typing.{operatorOf}
 use Rattle.language.specs.Elaboration.{nameCode, named, orPlus, code, stmt, stmts}
-use Rattle.expressions.specs.Postfix.{Item, itemOf, binaryItem, postfix}
+use Rattle.expressions.specs.Postfix.{Item, itemOf, operatorCode, binaryItem, postfix}
+use Rattle.expressions.proofs.Codes.{code-above}
 use Rattle.expressions.proofs.Folds.{Steps, postfix-whole}
 use Rattle.statements.specs.Entries.{stmtEntries, bodyEntries}
-use Rattle.syntax.specs.Kinded.{IsOperator, KindedExpr, KindedStmt, KindedBody}
+use Rattle.syntax.specs.Kinded.{OperatorKind, IsOperator, KindedExpr, KindedStmt, KindedBody}
+use Rattle.syntax.proofs.Operators.{each-operator}
 use Rattle.ir.specs.Operations.{Op, op, ops, binaryCode}
 use Rattle.ir.specs.Entries.{entries, Single, single-act, single-wait, single-if, single-else, single-while, Block, only, andThen}
 use Rattle.elaborator.specs.Elaborated.{modeOp, foundOp, opOf, targetOf, entryOf}
 
--- the eleven operators, by their kinds
-by-kind : (d : ℕ) → d ≤ 10 → binaryCode (orPlus (operatorOf (11 + d))) ≡ 18 + d
-unfolding operatorOf orPlus
-by-kind zero h = refl
-by-kind (suc zero) h = refl
-by-kind (suc (suc zero)) h = refl
-by-kind (suc (suc (suc zero))) h = refl
-by-kind (suc (suc (suc (suc zero)))) h = refl
-by-kind (suc (suc (suc (suc (suc zero))))) h = refl
-by-kind (suc (suc (suc (suc (suc (suc zero)))))) h = refl
-by-kind (suc (suc (suc (suc (suc (suc (suc zero))))))) h = refl
-by-kind (suc (suc (suc (suc (suc (suc (suc (suc zero)))))))) h = refl
-by-kind (suc (suc (suc (suc (suc (suc (suc (suc (suc zero))))))))) h = refl
-by-kind (suc (suc (suc (suc (suc (suc (suc (suc (suc (suc zero)))))))))) h = refl
-by-kind (suc (suc (suc (suc (suc (suc (suc (suc (suc (suc (suc d))))))))))) h = absurd (omega arith)
-
-operator-code : (k : ℕ) → PLUS ≤ k → k ≤ XOR → binaryCode (orPlus (operatorOf k)) ≡ k + 7
-operator-code k l h =
-    let z : k ≡ 11 + (k - 11) = omega arith in
-    let y : 18 + (k - 11) ≡ k + 7 = omega arith in
-    ap (λ (q : ℕ). binaryCode (orPlus (operatorOf q))) z ∙ (by-kind (k - 11) (omega arith) ∙ y)
+-- the fifteen operators, by their kinds
+operator-code : (k : ℕ) → OperatorKind k → binaryCode (orPlus (operatorOf k)) ≡ operatorCode k
+unfolding operatorOf orPlus operatorCode
+operator-code = each-operator (λ (k : ℕ). binaryCode (orPlus (operatorOf k)) ≡ operatorCode k) refl refl refl refl refl refl refl refl refl refl refl refl refl refl refl
 
 -- EXPRESSIONS
 
@@ -62,11 +47,12 @@ named-op Γ v (some d) = go (d .mode)
 -- an operator's item
 binary-op : (Δ : List Decl) (Γ : Scope) (x : Token) → IsOperator x → opOf Δ Γ (binaryItem x) ≡ op (binaryCode (orPlus (operatorOf (x .kind)))) (pos 0)
 unfolding opOf
-binary-op Δ Γ x h = let c = operator-code (x .kind) (h .0) (h .1) in
-    rw (c, no 1 (omega arith), no 2 (omega arith), no 3 (omega arith), no 4 (omega arith), no 5 (omega arith))
+binary-op Δ Γ x h =
+    let c = code-above (x .kind) in
+    rw (operator-code (x .kind) h, no 1 (omega arith), no 2 (omega arith), no 3 (omega arith), no 4 (omega arith), no 5 (omega arith))
   where
-    no : (k : ℕ) → k < x .kind + 7 → eqb (x .kind + 7) k ≡ false
-    no k l = ne-eqb (x .kind + 7) k (λ e. omega arith)
+    no : (k : ℕ) → k < operatorCode (x .kind) → eqb (operatorCode (x .kind)) k ≡ false
+    no k l = ne-eqb (operatorCode (x .kind)) k (λ e. omega arith)
 
 -- one operation more behind an operand, and behind two
 behind : (w a : List Op) (o : Op) (k : List Op) → (w ++ a) ++ (o ∷ k) ≡ (w ++ (a ++ (o ∷ []))) ++ k
