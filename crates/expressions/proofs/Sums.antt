@@ -8,7 +8,7 @@ use native.Mathlib.Omega.{arith}
 use borrow.Author.Tests.{ne-eqb, eqb-true, eqb-false, lt-ltb, le-ltb, ltb-true, ltb-false}
 use lib.Dec.{T, eqb, ltb}
 use lib.ListN.{length}
-use Rattle.grammar.specs.Token.{Token, PLUS, MINUS, EQ, GE, AND, OR, XOR, NOT, TIMES, DIVIDE, MOD, REM}
+use Rattle.grammar.specs.Token.{Token, PLUS, MINUS, EQ, GE, AND, OR, XOR, TIMES, DIVIDE, MOD, REM}
 use Rattle.grammar.specs.Tree.{Expr, sign, negate, binary}
 use Rattle.grammar.specs.Grammar.{NonTerminal, expression, chain, ands, ors, xors, relation, compared, simple, terms, term, factors, factor, primary, Says, Sym, tk, nt, Fun, item, Production, productions, _↠_}
 use Rattle.grammar.specs.Meter.{InHeading}
