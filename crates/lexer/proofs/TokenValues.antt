@@ -1,26 +1,24 @@
 -- Every token of a text lies in it, and its value is that of its bytes. By the pieces of the text one after the other, and by what a string of bytes can
 -- mean: a word, a number, or a fixed token, whose kinds are told apart by number. Assumes nothing.
-use mathlib.Core.Path.{_≡_, refl, sym, _∙_, ap, subst}
-use mathlib.Core.Bool.{Bool, true, false, cond, _&&_, and-false}
-use mathlib.Core.Logic.{_⊎_, inl, inr}
+use mathlib.Core.Path.{_≡_, refl, sym, _∙_, ap}
+use mathlib.Core.Bool.{Bool, true, false, cond, not, _&&_}
 use mathlib.Core.List.{List, [], _∷_, _++_, map}
 use Prim.Native.Nat.{ℕ, _+_, _-_, _≤_, _<_}
 use native.Mathlib.Omega.{arith}
-use lib.Dec.{eqb, leb}
+use lib.Dec.{eqb}
 use lib.ListN.{length, take, drop, length-append, length-drop}
 use lib.Seq.{drop-drop, drop-append-seam, take-at}
-use borrow.Author.Tests.{eqb-true, leb-true, lt-leb, eq-eqb, ne-eqb}
-use Rattle.grammar.specs.Token.{Token, NAME, NUMBER, ZERO, ONE, GE}
+use borrow.Author.Tests.{eqb-true, eq-eqb, ne-eqb}
+use Rattle.grammar.specs.Token.{Token, NAME, NUMBER, ONE}
 use Rattle.grammar.specs.Limits.{Each}
 use Rattle.language.specs.Bytes.{bytes, between, ByteKind, letter, digit, underscore, blank, quote, mark, none, byteKind, is, isDigit, inWord, notLF, lower}
 use Rattle.language.specs.Words.{wellMade, folded, value, Word, reserved, wordKind, Fixed, fixed, isDashes}
 use Rattle.language.specs.Lexing.{Meaning, nothing, all, equal, alone, wordMeaning, fixedMeaning, meaningFrom, meaning, Piece, Lexes}
 use Rattle.language.specs.Lexing as S
-use Rattle.language.proofs.Facts.{and-true-both}
+use Rattle.language.proofs.Facts.{clash, not-true, and-true-both}
 use Rattle.language.proofs.LexExact.{token-something, piece-some}
-use Rattle.language.proofs.Folding.{between-le}
 use Rattle.scanner.specs.Places.{part}
-use Rattle.lexer.specs.TokenValues.{tokenValue, Valued}
+use Rattle.lexer.specs.TokenValues.{isFixed, tokenValue, Valued}
 use Rattle.scanner.proofs.WordLaws.{folded-equal}
 
 -- what a string of bytes that means a token is
@@ -80,79 +78,78 @@ token-is (b ∷ l) k v e = go (byteKind b) refl e
     go mark h f = dashed (isDashes b l) (all notLF l) f
     go none h f = no-token f
 
--- the kinds of the reserved words come after those of the fixed tokens
-above : List Word → Bool
-above [] = true
-above (w ∷ ws) = leb 19 (w .kind) && above ws
+-- the kinds of the reserved words are neither that of numbers nor those of the fixed tokens
+apart : List Word → Bool
+apart [] = true
+apart (w ∷ ws) = (not (eqb (w .kind) NUMBER) && not (isFixed (w .kind))) && apart ws
 
-above-reserved : above reserved ≡ true
-unfolding above reserved bytes
-above-reserved = refl
+apart-reserved : apart reserved ≡ true
+unfolding apart reserved bytes between
+apart-reserved = refl
 
-word-above : (ws : List Word) (v : ℕ) → above ws ≡ true → (wordKind ws v ≡ NAME) ⊎ (19 ≤ wordKind ws v)
-unfolding above wordKind
-word-above [] v a = inl refl
-word-above (w ∷ ws) v a = let s = and-true-both (leb 19 (w .kind)) (above ws) a in
-    go (eqb (folded 0 (w .bytes)) v) (leb-true 19 (w .kind) (s .0)) (word-above ws v (s .1))
+word-apart : (ws : List Word) (v : ℕ) → apart ws ≡ true → (eqb (wordKind ws v) NUMBER ≡ false) × (isFixed (wordKind ws v) ≡ false)
+unfolding apart wordKind between
+word-apart [] v a = (refl, refl)
+word-apart (w ∷ ws) v a =
+    let s = and-true-both (not (eqb (w .kind) NUMBER) && not (isFixed (w .kind))) (apart ws) a in
+    let r = and-true-both (not (eqb (w .kind) NUMBER)) (not (isFixed (w .kind))) (s .0) in
+    go (eqb (folded 0 (w .bytes)) v) (not-true (eqb (w .kind) NUMBER) (r .0)) (not-true (isFixed (w .kind)) (r .1)) (word-apart ws v (s .1))
   where
-    go : (q : Bool) → 19 ≤ w .kind → (wordKind ws v ≡ NAME) ⊎ (19 ≤ wordKind ws v)
-        → (cond q (w .kind) (wordKind ws v) ≡ NAME) ⊎ (19 ≤ cond q (w .kind) (wordKind ws v))
-    go true h i = inr h
-    go false h i = i
+    go : (q : Bool) → eqb (w .kind) NUMBER ≡ false → isFixed (w .kind) ≡ false → (eqb (wordKind ws v) NUMBER ≡ false) × (isFixed (wordKind ws v) ≡ false)
+        → (eqb (cond q (w .kind) (wordKind ws v)) NUMBER ≡ false) × (isFixed (cond q (w .kind) (wordKind ws v)) ≡ false)
+    go true h g i = (h, g)
+    go false h g i = i
 
 -- the kinds of the fixed tokens, and their values
 tabled : List Fixed → Bool
 tabled [] = true
-tabled (f ∷ fs) = (between ZERO GE (f .kind) && eqb (f .value) (cond (eqb (f .kind) ONE) 1 0)) && tabled fs
+tabled (f ∷ fs) = (isFixed (f .kind) && eqb (f .value) (cond (eqb (f .kind) ONE) 1 0)) && tabled fs
 
 tabled-fixed : tabled fixed ≡ true
 unfolding tabled fixed bytes between
 tabled-fixed = refl
 
-fixed-value : (fs : List Fixed) (w : List ℕ) (k v : ℕ) → tabled fs ≡ true → fixedMeaning fs w ≡ Meaning.token k v → (between ZERO GE k ≡ true)
+fixed-value : (fs : List Fixed) (w : List ℕ) (k v : ℕ) → tabled fs ≡ true → fixedMeaning fs w ≡ Meaning.token k v → (isFixed k ≡ true)
     × (v ≡ cond (eqb k ONE) 1 0)
 unfolding tabled fixedMeaning
 fixed-value [] w k v a e = no-token e
 fixed-value (f ∷ fs) w k v a e =
-    let s = and-true-both (between ZERO GE (f .kind) && eqb (f .value) (cond (eqb (f .kind) ONE) 1 0)) (tabled fs) a in
-    let r = and-true-both (between ZERO GE (f .kind)) (eqb (f .value) (cond (eqb (f .kind) ONE) 1 0)) (s .0) in
+    let s = and-true-both (isFixed (f .kind) && eqb (f .value) (cond (eqb (f .kind) ONE) 1 0)) (tabled fs) a in
+    let r = and-true-both (isFixed (f .kind)) (eqb (f .value) (cond (eqb (f .kind) ONE) 1 0)) (s .0) in
     go (equal (f .bytes) w) (r .0) (eqb-true (f .value) (cond (eqb (f .kind) ONE) 1 0) (r .1)) (fixed-value fs w k v (s .1)) e
   where
-    go : (q : Bool) → between ZERO GE (f .kind) ≡ true → f .value ≡ cond (eqb (f .kind) ONE) 1 0
-        → (fixedMeaning fs w ≡ Meaning.token k v → (between ZERO GE k ≡ true) × (v ≡ cond (eqb k ONE) 1 0))
-        → cond q (Meaning.token (f .kind) (f .value)) (fixedMeaning fs w) ≡ Meaning.token k v → (between ZERO GE k ≡ true) × (v ≡ cond (eqb k ONE) 1 0)
+    go : (q : Bool) → isFixed (f .kind) ≡ true → f .value ≡ cond (eqb (f .kind) ONE) 1 0
+        → (fixedMeaning fs w ≡ Meaning.token k v → (isFixed k ≡ true) × (v ≡ cond (eqb k ONE) 1 0))
+        → cond q (Meaning.token (f .kind) (f .value)) (fixedMeaning fs w) ≡ Meaning.token k v → (isFixed k ≡ true) × (v ≡ cond (eqb k ONE) 1 0)
     go true b c i g =
         let x : f .kind ≡ k = cc in
         let y : f .value ≡ v = cc in
-        (ap (between ZERO GE) (sym x) ∙ b, sym y ∙ (c ∙ ap (λ (m : ℕ). cond (eqb m ONE) 1 0) x))
+        (ap (λ (m : ℕ). isFixed m) (sym x) ∙ b, sym y ∙ (c ∙ ap (λ (m : ℕ). cond (eqb m ONE) 1 0) x))
     go false b c i g = i g
-
-outside : (k : ℕ) → (k ≡ NAME) ⊎ (19 ≤ k) → (eqb k NUMBER ≡ false) × (between ZERO GE k ≡ false)
-unfolding between
-outside k (inl e) = rw e (refl, refl)
-outside k (inr h) = (ne-eqb k NUMBER (λ e. omega arith), rw (lt-leb k GE h, and-false (leb ZERO k)))
 
 -- the value of a token, from its kind and its bytes
 pub value-is : (w : List ℕ) (k v : ℕ) → meaning w ≡ Meaning.token k v → v ≡ tokenValue k w
-unfolding tokenValue
+unfolding tokenValue between
 value-is w k v e = go (token-is w k v e)
   where
-    go : Token-is w k v → v ≡ cond (eqb k NUMBER) (value 0 w) (cond (between ZERO GE k) (cond (eqb k ONE) 1 0) (folded 0 w))
-    go (a-word a c d) = let o = outside k (subst (λ (m : ℕ). (m ≡ NAME) ⊎ (19 ≤ m)) (sym c) (word-above reserved (folded 0 w) above-reserved)) in rw (o .0, o .1) d
+    go : Token-is w k v → v ≡ cond (eqb k NUMBER) (value 0 w) (cond (isFixed k) (cond (eqb k ONE) 1 0) (folded 0 w))
+    go (a-word a c d) = let o = word-apart reserved (folded 0 w) apart-reserved in
+        rw (ap (λ (m : ℕ). eqb m NUMBER) c ∙ o .0, ap (λ (m : ℕ). isFixed m) c ∙ o .1) d
     go (a-number c d) = rw (eq-eqb k NUMBER c) d
     go (fixed-one f) = let t = fixed-value fixed w k v tabled-fixed f in let n : (k ≡ NUMBER → ⊥) = not-number (t .0) in rw (ne-eqb k NUMBER n, t .0) (t .1)
       where
-        not-number : between ZERO GE k ≡ true → k ≡ NUMBER → ⊥
-        not-number b c = let h = between-le ZERO GE k b in omega arith
+        not-number : isFixed k ≡ true → k ≡ NUMBER → ⊥
+        not-number b c = clash (sym b ∙ ap (λ (m : ℕ). isFixed m) c)
 
 -- the bytes of a name are those of a word
 pub name-is : (w : List ℕ) (v : ℕ) → meaning w ≡ Meaning.token NAME v → all inWord w ≡ true
+unfolding between
 name-is w v e = go (token-is w NAME v e)
   where
     go : Token-is w NAME v → all inWord w ≡ true
     go (a-word a c d) = a
     go (a-number c d) = absurd (omega arith)
-    go (fixed-one f) = absurd (let h = between-le ZERO GE NAME ((fixed-value fixed w NAME v tabled-fixed f) .0) in omega arith)
+    go (fixed-one f) = clash (sym ((fixed-value fixed w NAME v tabled-fixed f) .0))
 
 module _ (text : List ℕ) where
   -- a piece of the text that is a token

@@ -1,19 +1,23 @@
 -- What holds of each token of a text: it lies in the text, and its kind and value are those of its bytes. Assumes nothing.
 use mathlib.Core.Path.{_≡_}
-use mathlib.Core.Bool.{true, cond}
+use mathlib.Core.Bool.{Bool, true, cond, _||_}
 use mathlib.Core.List.{List}
 use Prim.Native.Nat.{ℕ, _+_, _≤_, _<_}
 use lib.Dec.{eqb}
 use lib.ListN.{length}
-use Rattle.grammar.specs.Token.{Token, NAME, NUMBER, ZERO, ONE, GE}
+use Rattle.grammar.specs.Token.{Token, NAME, NUMBER, ZERO, ONE, GE, TIMES, DIVIDE}
 use Rattle.language.specs.Bytes.{between, inWord}
 use Rattle.language.specs.Words.{folded, value}
 use Rattle.language.specs.Lexing.{Meaning, all, meaning}
 use Rattle.scanner.specs.Places.{part}
 
+-- the kinds of '0', '1' and the marks
+abbrev pub isFixed : ℕ → Bool
+isFixed k = between ZERO GE k || between TIMES DIVIDE k
+
 -- the value of a token of the kind k that has the bytes w: a number's value, 1 for '1', 0 for '0' and the marks, a word's folded number
 unfoldable pub tokenValue : ℕ → List ℕ → ℕ
-tokenValue k w = cond (eqb k NUMBER) (value 0 w) (cond (between ZERO GE k) (cond (eqb k ONE) 1 0) (folded 0 w))
+tokenValue k w = cond (eqb k NUMBER) (value 0 w) (cond (isFixed k) (cond (eqb k ONE) 1 0) (folded 0 w))
 
 -- the token has a byte, lies in the text, means what its kind and value say, has the value of its bytes, and a name's bytes are those of a word
 pub record Valued (text : List ℕ) (t : Token) : Type 0 where

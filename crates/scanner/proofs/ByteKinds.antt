@@ -32,7 +32,7 @@ word-code false false false false false false k e = rw e
 -- "letters, digits and underscores" are the first three kinds, told by the three tests
 pub word-is : (b : ℕ) (l d u : Bool) → (between 97 122 b || between 65 90 b) ≡ l → between 48 57 b ≡ d → eqb b 95 ≡ u → (l || (d || u)) ≡ inWord b
 unfolding inWord is byteKind
-word-is b l d u e f g = word-code l d u (elem b (32 ∷ 9 ∷ 10 ∷ 13 ∷ [])) (eqb b 39) (elem b (bytes "();:,+-=<>/")) (byteKind b) (rw (e, f, g))
+word-is b l d u e f g = word-code l d u (elem b (32 ∷ 9 ∷ 10 ∷ 13 ∷ [])) (eqb b 39) (elem b (bytes "();:,+-*/=<>")) (byteKind b) (rw (e, f, g))
 
 -- a blank is of that kind: no test before it holds of one
 pub blank-is : (b : ℕ) → elem b (32 ∷ 9 ∷ 10 ∷ 13 ∷ []) ≡ true → byteKind b ≡ blank
@@ -63,7 +63,7 @@ under-is b = go (eqb b 95) refl
     go : (u : Bool) → eqb b 95 ≡ u → u ≡ is underscore b
     go true e = rw (eqb-true b 95 e)
     go false e =
-        rw e (sym (other-kind (between 97 122 b || between 65 90 b) (between 48 57 b) (elem b (32 ∷ 9 ∷ 10 ∷ 13 ∷ [])) (eqb b 39) (elem b (bytes "();:,+-=<>/"))))
+        rw e (sym (other-kind (between 97 122 b || between 65 90 b) (between 48 57 b) (elem b (32 ∷ 9 ∷ 10 ∷ 13 ∷ [])) (eqb b 39) (elem b (bytes "();:,+-*/=<>"))))
 
 pub kind-is : (k : ByteKind) (b r : ℕ) → r ≡ kindCode (byteKind b) → eqb r (kindCode k) ≡ is k b
 unfolding is

@@ -159,10 +159,10 @@ unfolding fixedKind ofLength fixed bytes equal
 not-two-first b h k l m = rw (ne-eqb 58 b (λ e. h (sym e)), ne-eqb 47 b (λ e. k (sym e)), ne-eqb 60 b (λ e. l (sym e)), ne-eqb 62 b (λ e. m (sym e)))
 
 pub not-one : (b : ℕ) → (b ≡ 40 → ⊥) → (b ≡ 41 → ⊥) → (b ≡ 59 → ⊥) → (b ≡ 58 → ⊥) → (b ≡ 44 → ⊥) → (b ≡ 43 → ⊥) → (b ≡ 45 → ⊥) → (b ≡ 61 → ⊥)
-    → (b ≡ 60 → ⊥) → (b ≡ 62 → ⊥)
+    → (b ≡ 60 → ⊥) → (b ≡ 62 → ⊥) → (b ≡ 42 → ⊥) → (b ≡ 47 → ⊥)
     → 0 ≡ fixedKind (ofLength 1 fixed) (b ∷ [])
 unfolding fixedKind ofLength fixed bytes equal
-not-one b h40 h41 h59 h58 h44 h43 h45 h61 h60 h62 =
+not-one b h40 h41 h59 h58 h44 h43 h45 h61 h60 h62 h42 h47 =
     rw (
       ne-eqb 40 b (λ e. h40 (sym e)),
       ne-eqb 41 b (λ e. h41 (sym e)),
@@ -174,4 +174,6 @@ not-one b h40 h41 h59 h58 h44 h43 h45 h61 h60 h62 =
       ne-eqb 61 b (λ e. h61 (sym e)),
       ne-eqb 60 b (λ e. h60 (sym e)),
       ne-eqb 62 b (λ e. h62 (sym e)),
+      ne-eqb 42 b (λ e. h42 (sym e)),
+      ne-eqb 47 b (λ e. h47 (sym e)),
     )

@@ -60,42 +60,23 @@ pub fn is_blank(b: u8) -> bool
 
 // A byte of a mark.
 fn is_mark(b: u8) -> bool
-    ensures { λ r. ⌜ r ≡ elem b (bytes "();:,+-=<>/") ⌝ }
+    ensures { λ r. ⌜ r ≡ elem b (bytes "();:,+-*/=<>") ⌝ }
 {
-    if b == b'(' {
-        return true;
+    match b {
+        b'(' => true,
+        b')' => true,
+        b';' => true,
+        b':' => true,
+        b',' => true,
+        b'+' => true,
+        b'-' => true,
+        b'*' => true,
+        b'/' => true,
+        b'=' => true,
+        b'<' => true,
+        b'>' => true,
+        _ => false,
     }
-    if b == b')' {
-        return true;
-    }
-    if b == b';' {
-        return true;
-    }
-    if b == b':' {
-        return true;
-    }
-    if b == b',' {
-        return true;
-    }
-    if b == b'+' {
-        return true;
-    }
-    if b == b'-' {
-        return true;
-    }
-    if b == b'=' {
-        return true;
-    }
-    if b == b'<' {
-        return true;
-    }
-    if b == b'>' {
-        return true;
-    }
-    if b == b'/' {
-        return true;
-    }
-    false
 }
 
 // The kind of a byte, by the tests in the definition's order.

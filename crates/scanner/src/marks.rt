@@ -59,6 +59,8 @@ fn of_one(b: u8) -> u8
         b'=' => token::EQ,
         b'<' => token::LT,
         b'>' => token::GT,
+        b'*' => token::TIMES,
+        b'/' => token::DIVIDE,
         _ => 0,
     }
 }

@@ -1,4 +1,4 @@
-// The 43 kinds of token by number, in the order of the grammar's definition (crates/grammar, Token).
+// The 47 kinds of token by number, in the order of the grammar's definition (crates/grammar, Token).
 // A word that is not reserved.
 pub const NAME: u8 = 1;
 // Literals: digits, and the two bits.
@@ -85,3 +85,11 @@ pub const LOOP: u8 = 41;
 pub const STD_LOGIC: u8 = 42;
 
 pub const INTEGER: u8 = 43;
+// Operators: * / mod rem
+pub const TIMES: u8 = 44;
+
+pub const DIVIDE: u8 = 45;
+
+pub const MOD: u8 = 46;
+
+pub const REM: u8 = 47;

@@ -103,7 +103,13 @@ fn of_three(text: &[u8], at: usize) -> u8
     if spells(text, at, b"xor") {
         return token::XOR;
     }
-    kind_if(spells(text, at, b"not"), token::NOT)
+    if spells(text, at, b"not") {
+        return token::NOT;
+    }
+    if spells(text, at, b"mod") {
+        return token::MOD;
+    }
+    kind_if(spells(text, at, b"rem"), token::REM)
 }
 
 // The kind of a word of four bytes.

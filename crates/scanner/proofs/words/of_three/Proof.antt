@@ -80,24 +80,74 @@ slice-aggregate-spells-5 c = search needs
 spells-requires-5 : tie.Need-spells-requires-5
 spells-requires-5 c κs = search needs
 
-kind-if-requires : tie.Need-kind-if-requires
-kind-if-requires c κs = search needs
-
 returns-5 : tie.Need-returns-5
 unfolding ofSize reserved bytes
 returns-5 c =
     let a = c .before .before .before .before .before .before .before .before .before .before .before .before .before .before .before .before .args in
     let l = drop (a .at) (a .text .now) in
-    let first = spelled _ l
-    (c .before .before .before .before .before .before .before .before .before .before .before .before .before .spells .ensures)
+    let first = spelled _ l (c .before .before .before .before .before .before .before .before .before .before .before .before .before .spells .ensures)
     (c .before .before .before .before .before .before .before .before .before .before .before .before .if1 .left) in
     let second = spelled _ l (c .before .before .before .before .before .before .before .before .before .before .spells2 .ensures)
     (c .before .before .before .before .before .before .before .before .before .if2 .left) in
     let third = spelled _ l (c .before .before .before .before .before .before .before .spells3 .ensures)
     (c .before .before .before .before .before .before .if3 .left) in
     let fourth = spelled _ l (c .before .before .before .before .spells4 .ensures) (c .before .before .before .if4 .left) in
-    let fifth = spelled _ l (c .before .spells5 .ensures) refl in
-    kind-on _ _ _ first (kind-on _ _ _ second (kind-on _ _ _ third (kind-on _ _ _ fourth (kind-last _ _ fifth (c .kind-if .ensures)))))
+    let fifth = spelled _ l (c .before .spells5 .ensures) (c .if5 .taken) in
+    kind-on _ _ _ first (kind-on _ _ _ second (kind-on _ _ _ third (kind-on _ _ _ fourth (kind-here _ _ _ fifth))))
+
+slice-aggregate-spells-6 : tie.Need-slice-aggregate-spells-6
+slice-aggregate-spells-6 c = search needs
+
+spells-requires-6 : tie.Need-spells-requires-6
+spells-requires-6 c κs = search needs
+
+returns-6 : tie.Need-returns-6
+unfolding ofSize reserved bytes
+returns-6 c =
+    let a = c .before .before .before .before .before .before .before .before .before .before .before .before .before .before .before .before .before .before .before .args in
+    let l = drop (a .at) (a .text .now) in
+    let first = spelled _ l
+    (c .before .before .before .before .before .before .before .before .before .before .before .before .before .before .before .before .spells .ensures)
+    (c .before .before .before .before .before .before .before .before .before .before .before .before .before .before .before .if1 .left) in
+    let second = spelled _ l (c .before .before .before .before .before .before .before .before .before .before .before .before .before .spells2 .ensures)
+    (c .before .before .before .before .before .before .before .before .before .before .before .before .if2 .left) in
+    let third = spelled _ l (c .before .before .before .before .before .before .before .before .before .before .spells3 .ensures)
+    (c .before .before .before .before .before .before .before .before .before .if3 .left) in
+    let fourth = spelled _ l (c .before .before .before .before .before .before .before .spells4 .ensures)
+    (c .before .before .before .before .before .before .if4 .left) in
+    let fifth = spelled _ l (c .before .before .before .before .spells5 .ensures) (c .before .before .before .if5 .left) in
+    let sixth = spelled _ l (c .before .spells6 .ensures) (c .if6 .taken) in
+    kind-on _ _ _ first (kind-on _ _ _ second (kind-on _ _ _ third (kind-on _ _ _ fourth (kind-on _ _ _ fifth (kind-here _ _ _ sixth)))))
+
+slice-aggregate-spells-7 : tie.Need-slice-aggregate-spells-7
+slice-aggregate-spells-7 c = search needs
+
+spells-requires-7 : tie.Need-spells-requires-7
+spells-requires-7 c κs = search needs
+
+kind-if-requires : tie.Need-kind-if-requires
+kind-if-requires c κs = search needs
+
+returns-7 : tie.Need-returns-7
+unfolding ofSize reserved bytes
+returns-7 c =
+    let a = c .before .before .before .before .before .before .before .before .before .before .before .before .before .before .before .before .before .before .before .before .before .before .args in
+    let l = drop (a .at) (a .text .now) in
+    let first = spelled _ l
+    (c .before .before .before .before .before .before .before .before .before .before .before .before .before .before .before .before .before .before .before .spells .ensures)
+    (c .before .before .before .before .before .before .before .before .before .before .before .before .before .before .before .before .before .before .if1 .left) in
+    let second = spelled _ l
+    (c .before .before .before .before .before .before .before .before .before .before .before .before .before .before .before .before .spells2 .ensures)
+    (c .before .before .before .before .before .before .before .before .before .before .before .before .before .before .before .if2 .left) in
+    let third = spelled _ l (c .before .before .before .before .before .before .before .before .before .before .before .before .before .spells3 .ensures)
+    (c .before .before .before .before .before .before .before .before .before .before .before .before .if3 .left) in
+    let fourth = spelled _ l (c .before .before .before .before .before .before .before .before .before .before .spells4 .ensures)
+    (c .before .before .before .before .before .before .before .before .before .if4 .left) in
+    let fifth = spelled _ l (c .before .before .before .before .before .before .before .spells5 .ensures)
+    (c .before .before .before .before .before .before .if5 .left) in
+    let sixth = spelled _ l (c .before .before .before .before .spells6 .ensures) (c .before .before .before .if6 .left) in
+    let seventh = spelled _ l (c .before .spells7 .ensures) refl in
+    kind-on _ _ _ first (kind-on _ _ _ second (kind-on _ _ _ third (kind-on _ _ _ fourth (kind-on _ _ _ fifth (kind-on _ _ _ sixth (kind-last _ _ seventh (c .kind-if .ensures)))))))
 
 pub of-three-spec : {M : Type 1} → statement M
 of-three-spec =
@@ -117,5 +167,11 @@ of-three-spec =
     returns-4
     slice-aggregate-spells-5
     spells-requires-5
+    returns-5
+    slice-aggregate-spells-6
+    spells-requires-6
+    returns-6
+    slice-aggregate-spells-7
+    spells-requires-7
     kind-if-requires
-    returns-5)
+    returns-7)
