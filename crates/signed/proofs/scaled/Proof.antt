@@ -35,7 +35,10 @@ unfolding applyBinary binaryResult
 returns-4 c = let s = c .before .before in rw (c .before .match .keys4) (simp (toZ-ofZ (s .fits .x), toZ-ofZ (s .fits .y)) at (c .remainder .ensures))
 
 returns-5 : tie.Need-returns-5
-returns-5 c = let k = c .before .args .op in rw (ne-eqb k 29 (c .match .rest .0 .0 .0 .1), ne-eqb k 30 (c .match .rest .0 .0 .1), ne-eqb k 31 (c .match .rest .0 .1), ne-eqb k 32 (c .match .rest .1))
+returns-5 c =
+    let k = c .before .args .op in
+    let other = c .match .rest in
+    rw (ne-eqb k 29 (other .0 .0 .0 .1), ne-eqb k 30 (other .0 .0 .1), ne-eqb k 31 (other .0 .1), ne-eqb k 32 (other .1))
 
 pub scaled-spec : {M : Type 1} → statement M
 scaled-spec = tie.close (tie.spec multiply-requires divide-requires modulus-requires remainder-requires returns returns-2 returns-3 returns-4 returns-5)

@@ -1,12 +1,15 @@
--- `signed::to_sign` meets its contract: integers of unlike signs have a sum. Assumes nothing.
+-- `signed::to_sign` meets its contract: its tests are those of the definition, and integers of unlike signs have a sum. Assumes nothing.
 use mathlib.Core.Path.{_≡_, sym, _∙_}
-use mathlib.Core.Bool.{true, false}
-use mir.Facts.{toZ-ofZ}
-use borrow.Author.Needs.{needs}
-use lib.IntN.{pos}
+use mathlib.Core.Bool.{true, false, Bool·beq}
+use lib.IntN.{pos, _+ℤ_}
 use lib.Signed.{ltZ}
+use borrow.Author.Needs.{needs}
+use mir.Facts.{toZ-ofZ}
+use mir.Syntax.{w32}
+use mir.Val.{SFits}
 use Rattle.design.specs.Types.{eqZ}
-use Rattle.signed.proofs.Division.{sign-zero, sign-is, unlike-fits}
+use Rattle.semantics.specs.Division.{negative, alike}
+use Rattle.signed.proofs.Division.{signs-are, sign-zero, sign-alike, sign-unlike, unlike-fits}
 use Rattle.signed.proofs.to_sign.Statement.{statement}
 use Rattle.signed.proofs.to_sign.Tie as tie
 
@@ -24,26 +27,38 @@ less-requires c κs = search needs
 less-requires-2 : tie.Need-less-requires-2
 less-requires-2 c κs = search needs
 
+-- where the first test leaves off, the second is that of the signs
+module _ (c : tie.After-less2) where
+  some : eqZ (c .before .before .before .before .args .r) (pos 0) ≡ false
+  some =
+      let s = c .before .before .before .before in
+      sym (rw (toZ-ofZ (s .fits .r)) at (c .before .before .before .equal .ensures)) ∙ c .before .before .if1 .left
+
+  signs :
+      let s = c .before .before .before .before in
+      Bool·beq (c .before .less .result) (c .less2 .result) ≡ alike (negative (s .args .r)) (negative (s .args .y))
+  signs =
+      let s = c .before .before .before .before in
+      rw ((rw (toZ-ofZ (s .fits .r)) at (c .before .less .ensures)), (rw (toZ-ofZ (s .fits .y)) at (c .less2 .ensures))) (signs-are (s .args .r) (s .args .y))
+
 returns-2 : tie.Need-returns-2
-returns-2 c = let s = c .before .before .before .before .before .before in rw (toZ-ofZ (s .fits .r)) (sym (sign-is (s .args .r) (s .args .y) (sym (rw (toZ-ofZ (s .fits .r)) at (c .before .before .before .before .before .equal .ensures)) ∙ c .before .before .before .before .if1 .left) (sym (rw (toZ-ofZ (s .fits .r)) at (c .before .before .before .less .ensures)) ∙ c .before .before .if2 .taken) (sym (rw (toZ-ofZ (s .fits .y)) at (c .before .less2 .ensures)) ∙ c .if3 .taken)))
+returns-2 c =
+    let s = c .before .before .before .before .before in
+    rw (toZ-ofZ (s .fits .r)) (sym (sign-alike (s .args .r) (s .args .y) (some (c .before)) (sym (signs (c .before)) ∙ c .if2 .taken)))
+
+fits : (c : tie.Else2) → let s = c .before .before .before .before .before in SFits w32 (s .args .r +ℤ s .args .y)
+fits c =
+    let s = c .before .before .before .before .before in
+    unlike-fits (s .args .r) (s .args .y) (s .fits .r) (s .fits .y) (sym (signs (c .before)) ∙ c .if2 .left)
 
 add-result : tie.Need-add-result
-add-result c = let s = c .before .before .before .before .before .before in simp (toZ-ofZ (s .fits .r), toZ-ofZ (s .fits .y)) (unlike-fits (s .args .r) (s .args .y) (s .fits .r) (s .fits .y) (rw ((sym (rw (toZ-ofZ (s .fits .r)) at (c .before .before .before .less .ensures)) ∙ c .before .before .if2 .taken), (sym (rw (toZ-ofZ (s .fits .y)) at (c .before .less2 .ensures)) ∙ c .if3 .left))))
+add-result c = let s = c .before .before .before .before .before in simp (toZ-ofZ (s .fits .r), toZ-ofZ (s .fits .y)) (fits c)
 
 returns-3 : tie.Need-returns-3
-returns-3 c = let s = c .before .before .before .before .before .before in simp (toZ-ofZ (s .fits .r), toZ-ofZ (s .fits .y), toZ-ofZ (unlike-fits (s .args .r) (s .args .y) (s .fits .r) (s .fits .y) (rw ((sym (rw (toZ-ofZ (s .fits .r)) at (c .before .before .before .less .ensures)) ∙ c .before .before .if2 .taken), (sym (rw (toZ-ofZ (s .fits .y)) at (c .before .less2 .ensures)) ∙ c .if3 .left))))) (sym (sign-is (s .args .r) (s .args .y) (sym (rw (toZ-ofZ (s .fits .r)) at (c .before .before .before .before .before .equal .ensures)) ∙ c .before .before .before .before .if1 .left) (sym (rw (toZ-ofZ (s .fits .r)) at (c .before .before .before .less .ensures)) ∙ c .before .before .if2 .taken) (sym (rw (toZ-ofZ (s .fits .y)) at (c .before .less2 .ensures)) ∙ c .if3 .left)))
-
-less-requires-3 : tie.Need-less-requires-3
-less-requires-3 c κs = search needs
-
-add-result-2 : tie.Need-add-result-2
-add-result-2 c = let s = c .before .before .before .before .before .before in simp (toZ-ofZ (s .fits .r), toZ-ofZ (s .fits .y)) (unlike-fits (s .args .r) (s .args .y) (s .fits .r) (s .fits .y) (rw ((sym (rw (toZ-ofZ (s .fits .r)) at (c .before .before .before .less .ensures)) ∙ c .before .before .if2 .left), (sym (rw (toZ-ofZ (s .fits .y)) at (c .before .less3 .ensures)) ∙ c .if4 .taken))))
-
-returns-4 : tie.Need-returns-4
-returns-4 c = let s = c .before .before .before .before .before .before in simp (toZ-ofZ (s .fits .r), toZ-ofZ (s .fits .y), toZ-ofZ (unlike-fits (s .args .r) (s .args .y) (s .fits .r) (s .fits .y) (rw ((sym (rw (toZ-ofZ (s .fits .r)) at (c .before .before .before .less .ensures)) ∙ c .before .before .if2 .left), (sym (rw (toZ-ofZ (s .fits .y)) at (c .before .less3 .ensures)) ∙ c .if4 .taken))))) (sym (sign-is (s .args .r) (s .args .y) (sym (rw (toZ-ofZ (s .fits .r)) at (c .before .before .before .before .before .equal .ensures)) ∙ c .before .before .before .before .if1 .left) (sym (rw (toZ-ofZ (s .fits .r)) at (c .before .before .before .less .ensures)) ∙ c .before .before .if2 .left) (sym (rw (toZ-ofZ (s .fits .y)) at (c .before .less3 .ensures)) ∙ c .if4 .taken)))
-
-returns-5 : tie.Need-returns-5
-returns-5 c = let s = c .before .before .before .before .before .before in rw (toZ-ofZ (s .fits .r)) (sym (sign-is (s .args .r) (s .args .y) (sym (rw (toZ-ofZ (s .fits .r)) at (c .before .before .before .before .before .equal .ensures)) ∙ c .before .before .before .before .if1 .left) (sym (rw (toZ-ofZ (s .fits .r)) at (c .before .before .before .less .ensures)) ∙ c .before .before .if2 .left) (sym (rw (toZ-ofZ (s .fits .y)) at (c .before .less3 .ensures)) ∙ c .if4 .left)))
+returns-3 c =
+    let s = c .before .before .before .before .before in
+    simp (toZ-ofZ (s .fits .r), toZ-ofZ (s .fits .y), toZ-ofZ (fits c))
+    (sym (sign-unlike (s .args .r) (s .args .y) (some (c .before)) (sym (signs (c .before)) ∙ c .if2 .left)))
 
 pub to-sign-spec : {M : Type 1} → statement M
-to-sign-spec = tie.close (tie.spec equal-requires returns less-requires less-requires-2 returns-2 add-result returns-3 less-requires-3 add-result-2 returns-4 returns-5)
+to-sign-spec = tie.close (tie.spec equal-requires returns less-requires less-requires-2 returns-2 add-result returns-3)
