@@ -79,71 +79,62 @@ unfolding withType bind
 integer-checked (fine z) = refl
 integer-checked (fault q) = refl
 
--- Integers take + - and the comparisons, and * / mod rem: no other byte.
+-- A byte beside the arms of integers and beside * / mod rem: integers have no operator for it.
 integers-none : (k : ℕ) (x y : ℤ)
     → (k ≡ 18 → ⊥) → (k ≡ 19 → ⊥) → (k ≡ 20 → ⊥) → (k ≡ 21 → ⊥) → (k ≡ 22 → ⊥) → (k ≡ 23 → ⊥) → (k ≡ 24 → ⊥) → (k ≡ 25 → ⊥)
     → (k ≡ 29 → ⊥) → (k ≡ 30 → ⊥) → (k ≡ 31 → ⊥) → (k ≡ 32 → ⊥)
     → Fault 13 ≡ evaluatedOf (binaryOf (operator k) (plain integer, x) (plain integer, y))
 unfolding sameType sameTy withType binaryType logicalType
-integers-none k x y a b c d e f g h l m n o′ = operator-cases (λ o. Fault 13 ≡ evaluatedOf (binaryOf o (plain integer, x) (plain integer, y))) k refl (λ o q. refl) two
+integers-none k x y n18 n19 n20 n21 n22 n23 n24 n25 n29 n30 n31 n32 =
+    operator-cases (λ o. Fault 13 ≡ evaluatedOf (binaryOf o (plain integer, x) (plain integer, y))) k refl (λ o q. refl) two
   where
     two : (o : Binary) → k ≡ binaryByte o → Fault 13 ≡ evaluatedOf (binaryOf (some (apply2 o)) (plain integer, x) (plain integer, y))
-    two plus q = absurd (a q)
-    two minus q = absurd (b q)
-    two equal q = absurd (c q)
-    two unequal q = absurd (d q)
-    two less q = absurd (e q)
-    two at-most q = absurd (f q)
-    two greater q = absurd (g q)
-    two at-least q = absurd (h q)
+    two plus q = absurd (n18 q)
+    two minus q = absurd (n19 q)
+    two equal q = absurd (n20 q)
+    two unequal q = absurd (n21 q)
+    two less q = absurd (n22 q)
+    two at-most q = absurd (n23 q)
+    two greater q = absurd (n24 q)
+    two at-least q = absurd (n25 q)
     two and q = refl
     two or q = refl
     two xor q = refl
-    two times q = absurd (l q)
-    two divide q = absurd (m q)
-    two modulo q = absurd (n q)
-    two remainder q = absurd (o′ q)
+    two times q = absurd (n29 q)
+    two divide q = absurd (n30 q)
+    two modulo q = absurd (n31 q)
+    two remainder q = absurd (n32 q)
+
+by-byte : {P : Type 0} (k n : ℕ) → (k ≡ n → P) → ((k ≡ n → ⊥) → P) → P
+by-byte {P} k n p f = go (eqb k n) refl
+  where
+    go : (b : Bool) → eqb k n ≡ b → P
+    go true e = p (eqb-true k n e)
+    go false e = f (eqb-false k n e)
 
 scaling-none : (k : ℕ) → (k ≡ 29 → ⊥) → (k ≡ 30 → ⊥) → (k ≡ 31 → ⊥) → (k ≡ 32 → ⊥) → scaling k ≡ none
-scaling-none k l m n o = rw (ne-eqb k 29 l, ne-eqb k 30 m, ne-eqb k 31 n, ne-eqb k 32 o)
+scaling-none k n29 n30 n31 n32 = rw (ne-eqb k 29 n29, ne-eqb k 30 n30, ne-eqb k 31 n31, ne-eqb k 32 n32)
 
-scaled-arm : (o : Binary) (x y : ℤ) → binaryType o (plain integer) ≡ some (plain integer)
-    → applyBinary o boolean x y ≡ applyBinary o (plain integer) x y
-    → integerOf (checkedOf (applyBinary o boolean x y)) ≡ evaluatedOf (operators .ofBinary o (plain integer, x) (plain integer, y))
+-- the last arm of integers at the byte of an operator of `scaling`, which takes integers and gives one
+scaled-arm : (o : Binary) (k : ℕ) (x y : ℤ) → k ≡ binaryByte o → scaling (binaryByte o) ≡ some o → binaryType o (plain integer) ≡ some (plain integer)
+    → integerOf (checkedOf (scaledOf (scaling k) x y)) ≡ evaluatedOf (binaryOf (operator k) (plain integer, x) (plain integer, y))
 unfolding sameType sameTy
-scaled-arm o x y t e = rw t (ap (λ (z : Out ℤ). integerOf (checkedOf z)) e ∙ integer-checked (applyBinary o (plain integer) x y))
+scaled-arm o k x y q s t =
+    binary-arm o k (plain integer, x) (plain integer, y) q
+    (ap (λ (n : ℕ). integerOf (checkedOf (scaledOf (scaling n) x y))) q ∙ rw (s, t) (integer-checked (applyBinary o (plain integer) x y)))
 
+-- Integers take + - and the comparisons, and by `scaling` * / mod rem: no other byte.
 pub integers-other : (k : ℕ) (x y : ℤ)
     → (k ≡ 18 → ⊥) → (k ≡ 19 → ⊥) → (k ≡ 20 → ⊥) → (k ≡ 21 → ⊥) → (k ≡ 22 → ⊥) → (k ≡ 23 → ⊥) → (k ≡ 24 → ⊥) → (k ≡ 25 → ⊥)
     → integerOf (checkedOf (scaledOf (scaling k) x y)) ≡ evaluatedOf (binaryOf (operator k) (plain integer, x) (plain integer, y))
-unfolding binaryType sumType applyBinary
-integers-other k x y a b c d e f g h = by (eqb k 29) refl
-  where
-    Said : Type 0
-    Said = integerOf (checkedOf (scaledOf (scaling k) x y)) ≡ evaluatedOf (binaryOf (operator k) (plain integer, x) (plain integer, y))
-
-    at : (o : Binary) → k ≡ binaryByte o → scaling (binaryByte o) ≡ some o
-        → binaryType o (plain integer) ≡ some (plain integer) → applyBinary o boolean x y ≡ applyBinary o (plain integer) x y → Said
-    at o q s t u = rw (q, s, binary-byte o) (scaled-arm o x y t u)
-
-    rest : (k ≡ 29 → ⊥) → (k ≡ 30 → ⊥) → (k ≡ 31 → ⊥) → (k ≡ 32 → ⊥) → Said
-    rest l m n o′ = ap (λ (o : Option Binary). integerOf (checkedOf (scaledOf o x y))) (scaling-none k l m n o′) ∙ integers-none k x y a b c d e f g h l m n o′
-
-    by : (z : Bool) → eqb k 29 ≡ z → Said
-    by true q = at times (eqb-true k 29 q) refl refl refl
-    by false q = by2 (eqb k 30) refl
-      where
-        by2 : (z : Bool) → eqb k 30 ≡ z → Said
-        by2 true r = at divide (eqb-true k 30 r) refl refl refl
-        by2 false r = by3 (eqb k 31) refl
-          where
-            by3 : (z : Bool) → eqb k 31 ≡ z → Said
-            by3 true s = at modulo (eqb-true k 31 s) refl refl refl
-            by3 false s = by4 (eqb k 32) refl
-              where
-                by4 : (z : Bool) → eqb k 32 ≡ z → Said
-                by4 true t = at remainder (eqb-true k 32 t) refl refl refl
-                by4 false t = rest (eqb-false k 29 q) (eqb-false k 30 r) (eqb-false k 31 s) (eqb-false k 32 t)
+unfolding binaryType sumType
+integers-other k x y n18 n19 n20 n21 n22 n23 n24 n25 =
+    by-byte k 29 (λ q. scaled-arm times k x y q refl refl) (λ n29.
+    by-byte k 30 (λ q. scaled-arm divide k x y q refl refl) (λ n30.
+    by-byte k 31 (λ q. scaled-arm modulo k x y q refl refl) (λ n31.
+    by-byte k 32 (λ q. scaled-arm remainder k x y q refl refl) (λ n32.
+    ap (λ (o : Option Binary). integerOf (checkedOf (scaledOf o x y))) (scaling-none k n29 n30 n31 n32)
+    ∙ integers-none k x y n18 n19 n20 n21 n22 n23 n24 n25 n29 n30 n31 n32))))
 
 -- Truth values take and, or, xor: no other byte.
 pub logical-other : (k t : ℕ) (x y : ℤ) → (k ≡ 26 → ⊥) → (k ≡ 27 → ⊥) → (k ≡ 28 → ⊥) → Fault 13 ≡ taggedAs t (logicalOf (operator k) x y)

@@ -1,4 +1,4 @@
--- What the evaluator answers for the code of a line: a value with its type, 16, or 13 where the bytes are no expression. Assumes nothing.
+-- What the evaluator answers for the code of a line: a value with its type, 16 or 18 by an operator, or 13 where the bytes are no expression. Assumes nothing.
 use mathlib.Core.Bool.{cond}
 use mathlib.Core.List.{List, [], map}
 use Prim.Native.Nat.{ℕ, _+_}

@@ -11,8 +11,8 @@ ghost use Rattle.evaluator.specs.Value.{machineFor, codeValue, partValue
 ghost use Rattle.evaluator.specs.Operators.{unaryNext, binaryNext};
 ghost use Rattle.evaluator.specs.Stack.{cellsOf, outcomeOf, Room, Says};
 
-// The value of an expression: its type (the type byte, or 255 for boolean) and its number. Or the refusal's number: 16, or 13 where the bytes are
-// no expression.
+// The value of an expression: its type (the type byte, or 255 for boolean) and its number. Or the refusal's number: 16 or 18 by an operator, or 13
+// where the bytes are no expression.
 pub enum Evaluated {
     Value(u8, i32),
     Fault(u8),

@@ -47,7 +47,7 @@ fn differs(a: bool, b: bool) -> bool
     if a { !b } else { b }
 }
 
-// Two integers.
+// Two integers. The codes of * / mod rem come last, in one arm, so that no other operator pays for them.
 fn integers(op: u8, x: i32, y: i32) -> Evaluated
     ensures { λ r. ⌜ r ≡ evaluatedOf (binaryOf (operator op) (plain integer, x) (plain integer, y)) ⌝ }
 {

@@ -46,7 +46,7 @@ pub(crate) fn unary(op: u8, x: i32) -> Checked
     }
 }
 
-// An operator of two operands, the left one first.
+// An operator of two operands, the left one first. The codes of * / mod rem come last, in one arm, so that no other operator pays for them.
 pub(crate) fn binary(op: u8, x: i32, y: i32) -> Checked
     ensures { λ r. ⌜ r ≡ checkedOf (binaryOf (binaryFor op) x y) ⌝ }
 {

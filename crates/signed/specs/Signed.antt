@@ -5,7 +5,7 @@ use mathlib.Core.Option.{Option, none, some}
 use Prim.Native.Nat.{ℕ}
 use lib.IntN.{ℤ}
 use lib.Dec.{eqb}
-use Rattle.design.specs.Types.{Ty, boolean, inType}
+use Rattle.design.specs.Types.{Ty, integer, plain, inType}
 use Rattle.design.specs.Expression.{Out, fine, fault, Binary, times, divide, modulo, remainder}
 use Rattle.semantics.specs.Evaluation.{applyBinary}
 use Rattle.format.specs.Signature.{typeOfByte}
@@ -21,10 +21,10 @@ checkedOf (fault q) = Refused q
 abbrev pub scaling : ℕ → Option Binary
 scaling k = cond (eqb k 29) (some times) (cond (eqb k 30) (some divide) (cond (eqb k 31) (some modulo) (cond (eqb k 32) (some remainder) none)))
 
--- an operator applied to two integers, the left one first (of these four none looks at a type); 13 where there is no operator
+-- an operator applied to two integers, the left one first; 13 where there is none
 abbrev pub scaledOf : Option Binary → ℤ → ℤ → Out ℤ
 scaledOf none x y = fault 13
-scaledOf (some o) x y = applyBinary o boolean x y
+scaledOf (some o) x y = applyBinary o (plain integer) x y
 
 -- z is a value of the type; where there is no type there is no value
 abbrev pub inSome : Option Ty → ℤ → Bool

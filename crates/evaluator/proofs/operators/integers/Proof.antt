@@ -130,10 +130,11 @@ returns-8 c =
 returns-9 : tie.Need-returns-9
 returns-9 c =
     let s = c .before .before .before in
+    let other = c .before .before .match .rest in
     c .checked3 .ensures ∙ ap integerOf (simp (toZ-ofZ (s .fits .x), toZ-ofZ (s .fits .y)) at (c .before .scaled .ensures))
     ∙ integers-other (s .args .op) (s .args .x) (s .args .y)
-    (c .before .before .match .rest .0 .0 .0 .0 .0 .0 .0 .1) (c .before .before .match .rest .0 .0 .0 .0 .0 .0 .1) (c .before .before .match .rest .0 .0 .0 .0 .0 .1) (c .before .before .match .rest .0 .0 .0 .0 .1)
-    (c .before .before .match .rest .0 .0 .0 .1) (c .before .before .match .rest .0 .0 .1) (c .before .before .match .rest .0 .1) (c .before .before .match .rest .1)
+    (other .0 .0 .0 .0 .0 .0 .0 .1) (other .0 .0 .0 .0 .0 .0 .1) (other .0 .0 .0 .0 .0 .1) (other .0 .0 .0 .0 .1)
+    (other .0 .0 .0 .1) (other .0 .0 .1) (other .0 .1) (other .1)
 
 pub integers-spec : {M : Type 1} → statement M
 integers-spec =

@@ -162,8 +162,11 @@ returns-11 c =
 returns-12 : tie.Need-returns-12
 returns-12 c =
     let s = c .before .before in
+    let other = c .before .match .rest in
     (simp (toZ-ofZ (s .fits .x), toZ-ofZ (s .fits .y)) at (c .scaled .ensures))
-    ∙ binary-other (c .before .before .args .op) (c .before .before .args .x) (c .before .before .args .y) (c .before .match .rest .0 .0 .0 .0 .0 .0 .0 .0 .0 .0 .1) (c .before .match .rest .0 .0 .0 .0 .0 .0 .0 .0 .0 .1) (c .before .match .rest .0 .0 .0 .0 .0 .0 .0 .0 .1) (c .before .match .rest .0 .0 .0 .0 .0 .0 .0 .1) (c .before .match .rest .0 .0 .0 .0 .0 .0 .1) (c .before .match .rest .0 .0 .0 .0 .0 .1) (c .before .match .rest .0 .0 .0 .0 .1) (c .before .match .rest .0 .0 .0 .1) (c .before .match .rest .0 .0 .1) (c .before .match .rest .0 .1) (c .before .match .rest .1)
+    ∙ binary-other (s .args .op) (s .args .x) (s .args .y)
+    (other .0 .0 .0 .0 .0 .0 .0 .0 .0 .0 .1) (other .0 .0 .0 .0 .0 .0 .0 .0 .0 .1) (other .0 .0 .0 .0 .0 .0 .0 .0 .1) (other .0 .0 .0 .0 .0 .0 .0 .1)
+    (other .0 .0 .0 .0 .0 .0 .1) (other .0 .0 .0 .0 .0 .1) (other .0 .0 .0 .0 .1) (other .0 .0 .0 .1) (other .0 .0 .1) (other .0 .1) (other .1)
 
 pub binary-spec : {M : Type 1} → statement M
 binary-spec =
