@@ -344,7 +344,8 @@ module _ (is vs : List Ty) where
   binary-past k h [] = refl
   binary-past k h (y ∷ []) = refl
   binary-past k h (y ∷ x ∷ st) =
-      rw (le-ltb k 20 (omega arith), le-ltb k 22 (omega arith), le-ltb k 26 (omega arith), le-ltb k 29 (omega arith), le-ltb k 33 h) (either (eqb x y))
+      rw (le-ltb k 20 (omega arith), le-ltb k 22 (omega arith), le-ltb k 26 (omega arith), le-ltb k 29 (omega arith), le-ltb k 33 h)
+      (either (eqb x y))
     where
       either : (b : Bool) → _≡_ {A = Option (List ℕ)} (cond b none none) none
       either true = refl
@@ -554,12 +555,13 @@ module _ (is vs : List Ty) where
         byte-case Step k 32 (step-binary 32 remainder refl refl sum-tag refl) (λ n32.
         step-other k n1 n2 n3 n4 (λ l h. none-left l h n16 n17 n18 n19 n20 n21 n22 n23 n24 n25 n26 n27 n28 n29 n30 n31 n32))))))))))))))))))))))
       where
-        none-left : 16 ≤ k → k < 33 → (k ≡ 16 → ⊥) → (k ≡ 17 → ⊥) → (k ≡ 18 → ⊥) → (k ≡ 19 → ⊥) → (k ≡ 20 → ⊥) → (k ≡ 21 → ⊥) → (k ≡ 22 → ⊥) → (k ≡ 23
-            → ⊥) → (k ≡ 24 → ⊥) → (k ≡ 25 → ⊥) → (k ≡ 26 → ⊥) → (k ≡ 27 → ⊥) → (k ≡ 28 → ⊥)
-            → (k ≡ 29 → ⊥) → (k ≡ 30 → ⊥) → (k ≡ 31 → ⊥) → (k ≡ 32 → ⊥) → ⊥
+        none-left : 16 ≤ k → k < 33 → (k ≡ 16 → ⊥) → (k ≡ 17 → ⊥) → (k ≡ 18 → ⊥) → (k ≡ 19 → ⊥) → (k ≡ 20 → ⊥) → (k ≡ 21 → ⊥) → (k ≡ 22 → ⊥)
+            → (k ≡ 23 → ⊥) → (k ≡ 24 → ⊥) → (k ≡ 25 → ⊥) → (k ≡ 26 → ⊥) → (k ≡ 27 → ⊥) → (k ≡ 28 → ⊥) → (k ≡ 29 → ⊥) → (k ≡ 30 → ⊥)
+            → (k ≡ 31 → ⊥) → (k ≡ 32 → ⊥) → ⊥
         none-left l h n16 n17 n18 n19 n20 n21 n22 n23 n24 n25 n26 n27 n28 n29 n30 n31 n32 =
-            apart k (above 32 k (above 31 k (above 30 k (above 29 k (above 28 k (above 27 k (above 26 k (above 25 k (above 24 k (above 23 k (above 22 k (above 21 k (above 20 k (above 19 k (above 18
-            k (above 17 k (above 16 k l n16) n17) n18) n19) n20) n21) n22) n23) n24) n25) n26) n27) n28) n29) n30) n31) n32) h
+            apart k (above 32 k (above 31 k (above 30 k (above 29 k (above 28 k (above 27 k (above 26 k (above 25 k (above 24 k
+            (above 23 k (above 22 k (above 21 k (above 20 k (above 19 k (above 18 k (above 17 k (above 16 k l
+            n16) n17) n18) n19) n20) n21) n22) n23) n24) n25) n26) n27) n28) n29) n30) n31) n32) h
 
   -- What the loop over the operations keeps: the rest of the code, with f operations left.
   abbrev pub restOf : List ℕ → ℕ → ℕ → List ℕ → ℕ

@@ -49,7 +49,7 @@ tagAt ts k = tagOr (plainly (nth ts k))
 unfoldable pub codeType : List Ty → List Ty → List ℕ → Option ExprTy
 codeType is vs s = bind (decode is vs s) (λ p. onlyIf (leb (items (p .1)) 64) (some (p .0)))
 
--- "+ - .. and the orders take integers; = /= two integers or two std_logics; and or xor not booleans or std_logics"
+-- "+ - .. and the orders take integers; = /= two integers or two std_logics; and or xor not booleans or std_logics"; "*, /, mod and rem on integers"
 abbrev pub sumTag : ℕ → ℕ
 sumTag t = cond (eqb t 1) 1 3
 
@@ -68,7 +68,9 @@ unaryTag k t = cond (eqb k 16) (sumTag t) (logicalTag t)
 
 -- "18 +, 19 -, 20 =, 21 /=, 22 <, 23 <=, 24 >, 25 >=, 26 and, 27 or, 28 xor, 29 *, 30 /, 31 mod, 32 rem"
 abbrev pub binaryTag : ℕ → ℕ → ℕ
-binaryTag k t = cond (ltb k 20) (sumTag t) (cond (ltb k 22) (equalityTag t) (cond (ltb k 26) (orderTag t) (cond (ltb k 29) (logicalTag t) (cond (ltb k 33) (sumTag t) 3))))
+binaryTag k t =
+    cond (ltb k 20) (sumTag t)
+    (cond (ltb k 22) (equalityTag t) (cond (ltb k 26) (orderTag t) (cond (ltb k 29) (logicalTag t) (cond (ltb k 33) (sumTag t) 3))))
 
 -- "1 integer (4 bytes), 2 std_logic (1 byte), 3 input, 4 variable (1-byte index)": the tag of the leaf at the place `at` whose first byte is k
 unfoldable pub leafTag : List Ty → List Ty → List ℕ → ℕ → ℕ → ℕ

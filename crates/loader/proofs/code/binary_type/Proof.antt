@@ -58,7 +58,13 @@ returns-5 c =
     let if3 = c .before .before .before .if3 in
     let if4 = c .before .before .if4 in
     let if5 = c .before .if5 in
-    rw (le-ltb (args .k) 20 (if1 .left), le-ltb (args .k) 22 (if2 .left), le-ltb (args .k) 26 (if3 .left), le-ltb (args .k) 29 (if4 .left), lt-ltb (args .k) 33 (if5 .taken))
+    rw (
+      le-ltb (args .k) 20 (if1 .left),
+      le-ltb (args .k) 22 (if2 .left),
+      le-ltb (args .k) 26 (if3 .left),
+      le-ltb (args .k) 29 (if4 .left),
+      lt-ltb (args .k) 33 (if5 .taken),
+    )
     (c .sum-type2 .ensures)
 
 returns-6 : tie.Need-returns-6
@@ -69,7 +75,13 @@ returns-6 c =
     let if3 = c .before .before .if3 in
     let if4 = c .before .if4 in
     let if5 = c .if5 in
-    rw (le-ltb (args .k) 20 (if1 .left), le-ltb (args .k) 22 (if2 .left), le-ltb (args .k) 26 (if3 .left), le-ltb (args .k) 29 (if4 .left), le-ltb (args .k) 33 (if5 .left))
+    rw (
+      le-ltb (args .k) 20 (if1 .left),
+      le-ltb (args .k) 22 (if2 .left),
+      le-ltb (args .k) 26 (if3 .left),
+      le-ltb (args .k) 29 (if4 .left),
+      le-ltb (args .k) 33 (if5 .left),
+    )
 
 pub binary-type-spec : {M : Type 1} → statement M
 binary-type-spec =
