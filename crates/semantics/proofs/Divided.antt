@@ -98,9 +98,13 @@ divided a b e = go (eqZ (remZ a b) (pos 0)) refl (alike (negative (remZ a b)) (n
 
     kept : modZ a b ≡ remZ a b → (remZ a b ≡ pos 0) ⊎ (negative (remZ a b) ≡ negative b) → Divided a b (quotZ a b) (remZ a b) (modZ a b)
     kept m s = record {
-      whole = whole; rem-sign = rem-sign a b; rem-small = rem-small a b e;
-      mod-sign = rw m s; mod-small = rw m (rem-small a b e);
-      times = quotZ a b; mod-whole = rw m (whole ∙ ap (λ z. z +ℤ remZ a b) (*ℤ-comm (quotZ a b) b));
+      whole = whole;
+      rem-sign = rem-sign a b;
+      rem-small = rem-small a b e;
+      mod-sign = rw m s;
+      mod-small = rw m (rem-small a b e);
+      times = quotZ a b;
+      mod-whole = rw m (whole ∙ ap (λ z. z +ℤ remZ a b) (*ℤ-comm (quotZ a b) b));
     }
 
     go : (z : Bool) → eqZ (remZ a b) (pos 0) ≡ z → (t : Bool) → alike (negative (remZ a b)) (negative b) ≡ t → Divided a b (quotZ a b) (remZ a b) (modZ a b)
@@ -110,9 +114,13 @@ divided a b e = go (eqZ (remZ a b) (pos 0)) refl (alike (negative (remZ a b)) (n
         let h = shifted (remZ a b) b f g (rem-small a b e) in
         let m : modZ a b ≡ remZ a b +ℤ b = rw (f, g) in
         record {
-          whole = whole; rem-sign = rem-sign a b; rem-small = rem-small a b e;
-          mod-sign = rw m (inr (h .sign)); mod-small = rw m (h .small);
-          times = predℤ (quotZ a b); mod-whole = rw m (shift-whole a b (quotZ a b) (remZ a b) (quot-whole a b));
+          whole = whole;
+          rem-sign = rem-sign a b;
+          rem-small = rem-small a b e;
+          mod-sign = rw m (inr (h .sign));
+          mod-small = rw m (h .small);
+          times = predℤ (quotZ a b);
+          mod-whole = rw m (shift-whole a b (quotZ a b) (remZ a b) (quot-whole a b));
         }
 
 -- the values that the request names, and the corners
