@@ -11,7 +11,7 @@ use crate::table::cycle_opened;
 const NUMBERS: usize = 3;
 
 /// All rows on an image that is opened once, each from the state that the row before it left. 17 is
-/// "after 13, before 14, writing nothing"; 14 to 16 are a row's own, and the next row follows.
+/// "after 13, before 14, writing nothing"; 14 to 16 and 18 are a row's own, and the next row follows.
 pub fn cycles(
     image: &[u8],
     state: &mut State,

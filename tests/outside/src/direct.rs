@@ -3,6 +3,7 @@
 
 use crate::answer::{refusal, Outcome};
 use crate::design::{Action, Design, Step, Term};
+use crate::division::{modulus, quotient, remainder};
 use crate::row;
 use crate::state::{self, State, BEGINNING, OUTPUTS, VARIABLES};
 use crate::tree::{Binary, Unary};
@@ -45,7 +46,7 @@ pub fn direct(text: &[u8], state: &mut State, inputs: &[i32], outputs: &mut [i32
 }
 
 /// One cycle of a design; answers its way. "A refused operator (16) refuses the row, [..] all that
-/// is kept is then as before the row."
+/// is kept is then as before the row"; a zero divisor (18) likewise.
 pub fn cycle(
     design: &Design,
     state: &mut State,
@@ -192,38 +193,54 @@ impl Memory<'_> {
         Ok(self.value(condition, number)? == 1)
     }
 
-    /// The value of an expression: "Both operands are always evaluated, left first." Booleans are 0
-    /// and 1. 16: "result of `+`, `-` or sign outside integer", at the statement.
+    /// The value of an expression: "Both operands are always evaluated, left first", and then the
+    /// operator. Booleans are 0 and 1.
     fn value(&self, term: &Term, number: usize) -> Outcome<i32> {
-        let exact = |value: i64| i32::try_from(value).map_err(|_| refusal(16, number));
-        match term {
-            Term::Integer(value) | Term::StdLogic(value) => Ok(*value),
-            Term::Input(index) => Ok(self.inputs[*index]),
-            Term::Variable(index) => Ok(self.variables[*index]),
+        let exact = match term {
+            Term::Integer(value) | Term::StdLogic(value) => return Ok(*value),
+            Term::Input(index) => return Ok(self.inputs[*index]),
+            Term::Variable(index) => return Ok(self.variables[*index]),
             Term::Unary(operator, operand) => {
-                let operand = self.value(operand, number)?;
+                let operand = i64::from(self.value(operand, number)?);
                 match operator {
-                    Unary::Sign => exact(-i64::from(operand)),
-                    Unary::Not => Ok(1 - operand),
+                    Unary::Sign => -operand,
+                    Unary::Not => 1 - operand,
                 }
             }
             Term::Binary(operator, left, right) => {
                 let left = i64::from(self.value(left, number)?);
                 let right = i64::from(self.value(right, number)?);
-                match operator {
-                    Binary::Plus => exact(left + right),
-                    Binary::Minus => exact(left - right),
-                    Binary::Equal => Ok(i32::from(left == right)),
-                    Binary::Unequal => Ok(i32::from(left != right)),
-                    Binary::Less => Ok(i32::from(left < right)),
-                    Binary::LessEqual => Ok(i32::from(left <= right)),
-                    Binary::Greater => Ok(i32::from(left > right)),
-                    Binary::GreaterEqual => Ok(i32::from(left >= right)),
-                    Binary::And => Ok(i32::from(left == 1 && right == 1)),
-                    Binary::Or => Ok(i32::from(left == 1 || right == 1)),
-                    Binary::Xor => Ok(i32::from(left != right)),
-                }
+                // "Turned away: 18, a zero divisor, with the line as place".
+                applied(*operator, left, right).ok_or(refusal(18, number))?
             }
-        }
+        };
+        // 16: "result of `+`, `-` or sign outside integer", at the statement; so are "a product
+        // outside integer and the least integer divided by -1" (change request 2).
+        i32::try_from(exact).map_err(|_| refusal(16, number))
     }
+}
+
+/// The exact result of an operator; none for a zero divisor.
+fn applied(operator: Binary, left: i64, right: i64) -> Option<i64> {
+    let divides = matches!(operator, Binary::Divide | Binary::Mod | Binary::Rem);
+    if divides && right == 0 {
+        return None;
+    }
+    Some(match operator {
+        Binary::Plus => left + right,
+        Binary::Minus => left - right,
+        Binary::Times => left * right,
+        Binary::Divide => quotient(left, right),
+        Binary::Mod => modulus(left, right),
+        Binary::Rem => remainder(left, right),
+        Binary::Equal => i64::from(left == right),
+        Binary::Unequal => i64::from(left != right),
+        Binary::Less => i64::from(left < right),
+        Binary::LessEqual => i64::from(left <= right),
+        Binary::Greater => i64::from(left > right),
+        Binary::GreaterEqual => i64::from(left >= right),
+        Binary::And => i64::from(left == 1 && right == 1),
+        Binary::Or => i64::from(left == 1 || right == 1),
+        Binary::Xor => i64::from(left != right),
+    })
 }

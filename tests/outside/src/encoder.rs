@@ -21,8 +21,9 @@ pub const CODE_VARIABLE: u8 = 4;
 /// "16 sign, 17 not".
 pub const UNARY_CODES: [(u8, Unary); 2] = [(16, Unary::Sign), (17, Unary::Not)];
 
-/// "18 +, 19 -, 20 =, 21 /=, 22 <, 23 <=, 24 >, 25 >=, 26 and, 27 or, 28 xor."
-pub const BINARY_CODES: [(u8, Binary); 11] = [
+/// "18 +, 19 -, 20 =, 21 /=, 22 <, 23 <=, 24 >, 25 >=, 26 and, 27 or, 28 xor." Those of `*`, `/`,
+/// `mod` and `rem` "are 29 to 32 in the order named" (change request 2).
+pub const BINARY_CODES: [(u8, Binary); 15] = [
     (18, Binary::Plus),
     (19, Binary::Minus),
     (20, Binary::Equal),
@@ -34,6 +35,10 @@ pub const BINARY_CODES: [(u8, Binary); 11] = [
     (26, Binary::And),
     (27, Binary::Or),
     (28, Binary::Xor),
+    (29, Binary::Times),
+    (30, Binary::Divide),
+    (31, Binary::Mod),
+    (32, Binary::Rem),
 ];
 
 /// Compile: the image is written at the buffer's beginning and its length answered. "an accepted

@@ -19,6 +19,7 @@ pub enum Kind {
     Integer,
     Is,
     Loop,
+    Mod,
     Not,
     Null,
     Of,
@@ -26,6 +27,7 @@ pub enum Kind {
     Out,
     Port,
     Process,
+    Rem,
     StdLogic,
     Then,
     Until,
@@ -48,10 +50,13 @@ pub enum Kind {
     GreaterEqual,
     Plus,
     Minus,
+    Times,
+    Divide,
 }
 
-/// "Reserved are the words shown below, the operator words and both type names".
-pub const RESERVED: [(&str, Kind); 25] = [
+/// "Reserved are the words shown below, the operator words and both type names"; operator words are
+/// also `mod` and `rem` (change request 2).
+pub const RESERVED: [(&str, Kind); 27] = [
     ("and", Kind::And),
     ("architecture", Kind::Architecture),
     ("begin", Kind::Begin),
@@ -63,6 +68,7 @@ pub const RESERVED: [(&str, Kind); 25] = [
     ("integer", Kind::Integer),
     ("is", Kind::Is),
     ("loop", Kind::Loop),
+    ("mod", Kind::Mod),
     ("not", Kind::Not),
     ("null", Kind::Null),
     ("of", Kind::Of),
@@ -70,6 +76,7 @@ pub const RESERVED: [(&str, Kind); 25] = [
     ("out", Kind::Out),
     ("port", Kind::Port),
     ("process", Kind::Process),
+    ("rem", Kind::Rem),
     ("std_logic", Kind::StdLogic),
     ("then", Kind::Then),
     ("until", Kind::Until),
@@ -79,8 +86,8 @@ pub const RESERVED: [(&str, Kind); 25] = [
     ("xor", Kind::Xor),
 ];
 
-/// The tokens made of signs, "the longest taken first".
-pub const SIGNS: [(&str, Kind); 16] = [
+/// The tokens made of signs, "the longest taken first": `/=` before `/`.
+pub const SIGNS: [(&str, Kind); 18] = [
     ("'0'", Kind::Zero),
     ("'1'", Kind::One),
     (":=", Kind::Becomes),
@@ -97,6 +104,8 @@ pub const SIGNS: [(&str, Kind); 16] = [
     (">", Kind::Greater),
     ("+", Kind::Plus),
     ("-", Kind::Minus),
+    ("*", Kind::Times),
+    ("/", Kind::Divide),
 ];
 
 /// A token: its kind and the bytes `start..end` of the text.

@@ -1,5 +1,6 @@
-//! An independent implementation of document 01, written from the document alone: the texts, the
-//! images, the cycle on a table, the direct run from the text, and the trace.
+//! An independent implementation of document 01 and of the change requests that have landed, written
+//! from the documents alone: the texts, the images, the cycle on a table, the direct run from the
+//! text, and the trace.
 //!
 //! Each file has one topic and quotes the sentences that it follows. `board` gathers the eight
 //! public functions in the shape of the C interface; `generate` makes random inputs for them;
@@ -13,9 +14,11 @@ pub mod caller;
 pub mod classes;
 pub mod clock;
 pub mod compare;
+pub mod damaged;
 pub mod declarations;
 pub mod design;
 pub mod direct;
+pub mod division;
 pub mod encoder;
 pub mod frozen;
 pub mod generate;
@@ -27,6 +30,7 @@ pub mod names;
 pub mod parser;
 #[cfg(proved)]
 pub mod proved;
+pub mod refusals;
 pub mod row;
 pub mod state;
 pub mod table;

@@ -317,7 +317,8 @@ impl Parser<'_> {
         Ok(binary(operator, at, left, right))
     }
 
-    /// "then `+ -`, with at most one `-` as sign before the first term".
+    /// "then `+ -`, with at most one `-` as sign before the first term": "a sign covers the whole
+    /// first term" (change request 2).
     fn simple(&mut self) -> Outcome<Expression> {
         let mut left = if let Some(at) = self.perhaps(Kind::Minus) {
             self.limits.item(at)?;
@@ -338,8 +339,27 @@ impl Parser<'_> {
         }
     }
 
-    /// "precedence: `not` on a primary".
+    /// "`*`, `/`, `mod` and `rem` on integers, binding tighter than `+`" (change request 2), in any
+    /// mixture, the left ones first.
     fn term(&mut self) -> Outcome<Expression> {
+        let mut left = self.factor()?;
+        loop {
+            let operator = match self.peek() {
+                Some(Kind::Times) => Binary::Times,
+                Some(Kind::Divide) => Binary::Divide,
+                Some(Kind::Mod) => Binary::Mod,
+                Some(Kind::Rem) => Binary::Rem,
+                _ => return Ok(left),
+            };
+            let at = self.tokens[self.at];
+            self.at += 1;
+            self.limits.item(at)?;
+            left = binary(operator, at, left, self.factor()?);
+        }
+    }
+
+    /// "precedence: `not` on a primary".
+    fn factor(&mut self) -> Outcome<Expression> {
         if let Some(at) = self.perhaps(Kind::Not) {
             self.limits.item(at)?;
             return Ok(unary(Unary::Not, at, self.primary()?));

@@ -1,5 +1,5 @@
-//! The cycle on a table: "image, state, input row to state, output row" (refusals 14, 15, 16 after
-//! those of the opener).
+//! The cycle on a table: "image, state, input row to state, output row" (refusals 14, 15, then 16 or
+//! 18, after those of the opener).
 
 use crate::answer::{refusal, Outcome};
 use crate::encoder::{
@@ -67,10 +67,10 @@ pub fn cycle_opened(
     Ok(lines)
 }
 
-/// The value that good code leaves, or 16 at its line: "result of `+`, `-` or sign outside
-/// integer".
+/// The value that good code leaves, or a refusal at its line: 16, "result of `+`, `-` or sign outside
+/// integer", and 18, "a zero divisor" (change request 2); they "go by whichever operator is reached
+/// first".
 fn value(code: &[u8], inputs: &[i32], state: &State, line: usize) -> Outcome<i32> {
-    let outside = refusal(16, line);
     let mut stack = [0i32; ITEMS];
     let mut height = 0;
     let mut at = 0;
@@ -95,26 +95,50 @@ fn value(code: &[u8], inputs: &[i32], state: &State, line: usize) -> Outcome<i32
         if operation < 18 {
             let operand = stack[height - 1];
             stack[height - 1] = match operation {
-                16 => operand.checked_neg().ok_or(outside)?,
+                16 => operand.checked_neg().ok_or(refusal(16, line))?,
                 _ => 1 - operand,
             };
             continue;
         }
         height -= 1;
-        let (left, right) = (stack[height - 1], stack[height]);
-        stack[height - 1] = match operation {
-            18 => left.checked_add(right).ok_or(outside)?,
-            19 => left.checked_sub(right).ok_or(outside)?,
-            20 => i32::from(left == right),
-            21 => i32::from(left != right),
-            22 => i32::from(left < right),
-            23 => i32::from(left <= right),
-            24 => i32::from(left > right),
-            25 => i32::from(left >= right),
-            26 => left & right,
-            27 => left | right,
-            _ => left ^ right,
-        };
+        stack[height - 1] = applied(operation, stack[height - 1], stack[height], line)?;
     }
     Ok(stack[0])
+}
+
+/// The result of a binary operator, by its code.
+fn applied(operation: u8, left: i32, right: i32, line: usize) -> Outcome<i32> {
+    let outside = refusal(16, line);
+    Ok(match operation {
+        18 => left.checked_add(right).ok_or(outside)?,
+        19 => left.checked_sub(right).ok_or(outside)?,
+        20 => i32::from(left == right),
+        21 => i32::from(left != right),
+        22 => i32::from(left < right),
+        23 => i32::from(left <= right),
+        24 => i32::from(left > right),
+        25 => i32::from(left >= right),
+        26 => left & right,
+        27 => left | right,
+        28 => left ^ right,
+        29 => left.checked_mul(right).ok_or(outside)?,
+        _ if right == 0 => return Err(refusal(18, line)),
+        // "the least integer divided by -1" is the one quotient outside integer.
+        30 => left.checked_div(right).ok_or(outside)?,
+        31 => modulus(left, right),
+        // "the latter's `mod` and `rem` by -1 are 0."
+        _ => left.wrapping_rem(right),
+    })
+}
+
+/// IEEE 1076: A = B * N + (A mod B), where N is the largest integer that is at most A / B, since the
+/// result has the sign of B. No N that is taken times B leaves 64 bits.
+fn modulus(left: i32, right: i32) -> i32 {
+    let (a, b) = (i64::from(left), i64::from(right));
+    let below = if b < 0 {
+        (-a).div_euclid(-b)
+    } else {
+        a.div_euclid(b)
+    };
+    (a - b * below) as i32
 }

@@ -68,6 +68,10 @@ pub enum Unary {
 pub enum Binary {
     Plus,
     Minus,
+    Times,
+    Divide,
+    Mod,
+    Rem,
     Equal,
     Unequal,
     Less,

@@ -25,14 +25,14 @@ pub fn unary(operator: Unary, operand: Of) -> Option<Of> {
 }
 
 /// "`+ -` and the orders take integers; `= /=` two integers or two std_logics; `and or xor not`
-/// booleans or std_logics."
+/// booleans or std_logics." And "`*`, `/`, `mod` and `rem` on integers" (change request 2).
 pub fn binary(operator: Binary, left: Of, right: Of) -> Option<Of> {
     use Binary::*;
     if left != right {
         return None;
     }
     match operator {
-        Plus | Minus => (left == INTEGER).then_some(INTEGER),
+        Plus | Minus | Times | Divide | Mod | Rem => (left == INTEGER).then_some(INTEGER),
         Less | LessEqual | Greater | GreaterEqual => (left == INTEGER).then_some(Of::Boolean),
         Equal | Unequal => (left != Of::Boolean).then_some(Of::Boolean),
         And | Or | Xor => (left == STD_LOGIC || left == Of::Boolean).then_some(left),

@@ -205,7 +205,7 @@ pub(crate) fn print_state(out: &mut String, state: &State) {
 }
 
 /// Place 512 with 0 in every slot: what stands beside a refused fresh state.
-fn blank() -> State {
+pub(crate) fn blank() -> State {
     let mut state = [0; 49];
     state[0] = BEGINNING;
     state

@@ -1,5 +1,6 @@
 //! What document 01 says by example: the trace of tally, P1 to P9, the examples of its table, and
-//! the decisions on what it leaves open. Texts are drawn with `^` before the place.
+//! the decisions on what it leaves open; the examples of change request 2. Texts are drawn with `^`
+//! before the place.
 
 use reference::board::REFERENCE;
 use reference::generate::limits::drawn;
@@ -131,6 +132,96 @@ fn p8_p9_bounds_of_integer() {
     );
 }
 
+/// Change request 2's own examples, and the operator that is reached first.
+#[test]
+fn times_and_division() {
+    let row = |expression: &str| last_row(&format!("q <= {expression};"), "0 0\n");
+    for (expression, expected) in [
+        ("(-7) mod 3", 2),
+        ("(-7) rem 3", -1),
+        ("7 mod (-3)", -2),
+        ("-7 mod 3", -1),
+        ("7 rem (-3)", 1),
+        ("(-7) mod (-3)", -1),
+        ("(-7) / 2", -3),
+        ("7 / (-2)", -3),
+        ("(-7) / (-2)", 3),
+        ("2 + 3 * 4", 14),
+        ("100 / 7 * 7", 98),
+        ("100 - 100 / 7 * 7 mod 5", 97),
+        ("(-65536) * 32768", -2147483648),
+        ("(-2147483647 - 1) mod (-1)", 0),
+        ("(-2147483647 - 1) rem (-1)", 0),
+        ("46341 * 46340", 2147441940),
+        ("-(7 mod 3)", -1),
+        ("5 - 6 * 7 - 8", -45),
+    ] {
+        assert_eq!(
+            row(expression),
+            format!("0 1 2 {expected} 0"),
+            "{expression}"
+        );
+    }
+    for (expression, number) in [
+        ("(-2147483647 - 1) / (-1)", 16),
+        ("65536 * 32768", 16),
+        ("-65536 * 32768", 16),
+        ("46341 * 46341", 16),
+        ("1 / 0", 18),
+        ("1 mod 0", 18),
+        ("1 rem 0", 18),
+        ("0 / 0", 18),
+        ("(-2147483647 - 1) mod 0", 18),
+        ("(2147483647 + 1) / 0", 16),
+        ("1 / 0 + (2147483647 + 1)", 18),
+        ("(2147483647 + 1) + 1 / 0", 16),
+        ("1 / (65536 * 65536)", 16),
+        ("65536 * 65536 * (1 / 0)", 16),
+        ("65536 * (65536 * (1 / 0))", 18),
+        ("- (1 / 0)", 18),
+        ("- (0 mod (2147483647 + 1))", 16),
+    ] {
+        assert_eq!(
+            row(expression),
+            format!("0 refused {number}"),
+            "{expression}"
+        );
+    }
+    // The place is the statement, also of a condition; both operands of `or` are evaluated.
+    let text = body("null; s := 4; if (s = 4) or (1 / d = 1) then q <= 5 rem d; end if;");
+    let image = image_of(&text);
+    for (d, answer) in [(0, [18, 2, 0]), (3, [0, 0, 5])] {
+        let mut state = [0; 49];
+        (REFERENCE.fresh)(&image, &mut state);
+        let mut other = state;
+        let by_table = (REFERENCE.cycle)(&image, &mut state, &[0, d], &mut [0, 0]);
+        let by_text = (REFERENCE.direct)(text.as_bytes(), &mut other, &[0, d], &mut [0, 0]);
+        assert_eq!([by_table, by_text], [answer, answer]);
+    }
+}
+
+/// "Codes are 29 to 32 in the order named"; the sign stands behind the whole first term.
+#[test]
+fn codes_of_times_and_division() {
+    let code = |statement: &str| {
+        let image = image_of(&body(statement));
+        open(&image).expect("it opens").code.to_vec()
+    };
+    let (seven, three) = ([1, 7, 0, 0, 0], [1, 3, 0, 0, 0]);
+    for (operator, byte) in [("*", 29), ("/", 30), ("mod", 31), ("rem", 32)] {
+        let plain = [&seven[..], &three, &[byte]].concat();
+        assert_eq!(code(&format!("q <= 7 {operator} 3;")), plain);
+        let signed = [&plain[..], &[16]].concat();
+        assert_eq!(code(&format!("q <= -7 {operator} 3;")), signed);
+        let inside = [&seven[..], &[16], &three, &[byte]].concat();
+        assert_eq!(code(&format!("q <= (-7) {operator} 3;")), inside);
+        let left_first = [&seven[..], &three, &[byte], &three, &[29]].concat();
+        assert_eq!(code(&format!("q <= 7 {operator} 3 * 3;")), left_first);
+        let tighter = [&seven[..], &seven, &three, &[byte, 19]].concat();
+        assert_eq!(code(&format!("q <= 7 - 7 {operator} 3;")), tighter);
+    }
+}
+
 #[test]
 fn examples_of_refusals_1_to_9() {
     refused(1, &format!("^{}", " ".repeat(16_385)));
@@ -198,7 +289,7 @@ fn examples_of_refusals_14_to_16() {
 fn tokens() {
     refused_body(2, "b := ^'2';");
     refused_body(2, "b := ^'0;");
-    refused_body(2, "s := s ^/ 2;");
+    refused_body(2, "s := s ^% 2;");
     refused_body(2, "s := 1^_000;");
     refused_body(2, "s := ^_s;");
     refused_body(2, "^process_ := 1;");
@@ -206,6 +297,14 @@ fn tokens() {
     refused_body(3, "s := 1^e5;");
     refused_body(3, "s := 5 ^loop;");
     refused_body(3, "s ^: = 1;");
+    refused_body(3, "if s / ^= u then null; end if;");
+    refused_body(3, "s := s *^* 2;");
+    refused_body(3, "s := s /^/ 2;");
+    refused_body(3, "^mod := 1;");
+    refused_body(3, "s := ^REM;");
+    refused_body(3, "wait until ^Mod = '1';");
+    refused_body(5, "s := ^mod_1 + rem1;");
+    accepted_body("if s/=u then s:=s/u*2mod 3REM 4;end if;");
     accepted_body("while s < 5loop wait until clk='1';end loop;");
     accepted_body("s:=s--1\n+-- any bytes: \u{e9} ' \" __ \r still the comment\n1;");
     accepted_body("S := U; NULL; Null; If B = '1' THEN s := 1; eNd iF;");
@@ -233,6 +332,12 @@ fn grammar() {
     refused_body(3, "s := not ^-s;");
     refused_body(3, "s := ^+s;");
     refused_body(3, "s := s + ^-u;");
+    refused_body(3, "s := s * ^-u;");
+    refused_body(3, "s := 7 mod ^-3;");
+    refused_body(3, "s := s * ^+u;");
+    refused_body(3, "s := ^* s;");
+    refused_body(3, "s := s rem ^;");
+    refused_body(3, "s := s ^not mod u;");
     refused_body(3, "if s = 0 then ^end if;");
     refused_body(3, "if s = 0 then null; else ^end if;");
     refused_body(3, "wait until clk = ^'0';");
@@ -270,6 +375,18 @@ fn types() {
     refused_body(6, "b := s ^+ c + 1 = u;");
     refused_body(6, "b := (s ^+ c) and (s - c);");
     refused_body(6, "if ^- b = s then null; end if;");
+    for operator in ["*", "/", "mod", "rem"] {
+        refused_body(6, &format!("s := s ^{operator} b;"));
+        refused_body(6, &format!("b := b ^{operator} c;"));
+        refused_body(6, &format!("s := (s = u) ^{operator} u;"));
+        refused_body(6, &format!("^b := s {operator} u;"));
+        refused_body(6, &format!("^if s {operator} u then null; end if;"));
+        refused_body(6, &format!("s := s + b ^{operator} u - c;"));
+        // `not` is read on the first operand alone.
+        refused_body(6, &format!("s := ^not s {operator} u;"));
+        refused_body(6, &format!("s := not b ^{operator} c;"));
+        refused_body(6, &format!("s := s ^{operator} not c;"));
+    }
 }
 
 #[test]

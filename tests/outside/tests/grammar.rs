@@ -8,7 +8,7 @@ use reference::lexer::{tokens, Kind, Token, RESERVED, SIGNS};
 use reference::verdict::verdict;
 use std::collections::HashSet;
 
-/// Document 01's sentences on the grammar. `name` and `number` are tokens of any spelling; a word
+/// Document 01's sentences on the grammar, with those of change request 2. `name` and `number` are tokens of any spelling; a word
 /// with an own line is a part; every other word is the token itself.
 const GRAMMAR: &str = "
 text = entity name is port ( groups ) ; end name ; rest
@@ -64,8 +64,13 @@ simple = - terms
 terms = term
 terms = terms + term
 terms = terms - term
-term = primary
-term = not primary
+term = factor
+term = term * factor
+term = term / factor
+term = term mod factor
+term = term rem factor
+factor = primary
+factor = not primary
 primary = number
 primary = '0'
 primary = '1'

@@ -33,8 +33,8 @@ struct Memory {
     variables: Vec<i32>,
 }
 
-/// The number of the statement whose operator left the range.
-type Fault = usize;
+/// The refusal of an operator, 16 or 18, and the number of its statement.
+type Fault = (u32, usize);
 type Inputs<'a> = &'a [i32];
 
 /// "iota x omega x phi -> omega x phi", and so on, as 5.2 has them.
@@ -533,7 +533,7 @@ fn tested(term: Term, number: usize) -> Condition {
     Box::new(move |si, memory| Ok(evaluate(&term, si, memory, number)? != 0))
 }
 
-/// The value over the integers; outside 32 bits it is a fault.
+/// The value over the integers; outside 32 bits it is a fault, and so is a zero divisor.
 fn evaluate(term: &Term, si: Inputs, memory: &Memory, number: usize) -> Result<i32, Fault> {
     let value = |term: &Term| evaluate(term, si, memory, number).map(i128::from);
     let exact: i128 = match term {
@@ -544,9 +544,16 @@ fn evaluate(term: &Term, si: Inputs, memory: &Memory, number: usize) -> Result<i
         Term::Unary(Unary::Not, operand) => i128::from(value(operand)? == 0),
         Term::Binary(operator, left, right) => {
             let (left, right) = (value(left)?, value(right)?);
+            if matches!(operator, Binary::Divide | Binary::Mod | Binary::Rem) && right == 0 {
+                return Err((18, number));
+            }
             match operator {
                 Binary::Plus => left + right,
                 Binary::Minus => left - right,
+                Binary::Times => left * right,
+                Binary::Divide => (left - left % right) / right,
+                Binary::Mod => modulus(left, right),
+                Binary::Rem => left % right,
                 Binary::Equal => i128::from(left == right),
                 Binary::Unequal => i128::from(left != right),
                 Binary::Less => i128::from(left < right),
@@ -559,7 +566,19 @@ fn evaluate(term: &Term, si: Inputs, memory: &Memory, number: usize) -> Result<i
             }
         }
     };
-    i32::try_from(exact).map_err(|_| number)
+    i32::try_from(exact).map_err(|_| (16, number))
+}
+
+/// IEEE 1076's sentence on `mod`, tried on the only two numbers nearer to 0 than the right operand
+/// that differ from the left one by multiples of the right one.
+fn modulus(left: i128, right: i128) -> i128 {
+    let rest = left % right;
+    let has_its_sign = |m: &i128| *m == 0 || (*m < 0) == (right < 0);
+    let is_near = |m: &i128| m.abs() < right.abs();
+    let mut found = [rest, rest + right].into_iter();
+    found
+        .find(|m| has_its_sign(m) && is_near(m))
+        .expect("one of the two is the modulus")
 }
 
 /// Both runs over good rows, from the fresh state on.
@@ -581,7 +600,7 @@ fn check(design: &Design, calls: usize, random: &mut Random) {
         match close_c(&body, &inputs, memory.clone(), place.clone()) {
             Err(fault) => {
                 let refusal = way.expect_err("the equations have a fault");
-                assert_eq!((refusal.number, refusal.place), (16, fault as u32));
+                assert_eq!((refusal.number, refusal.place as usize), fault);
             }
             Ok((after, wait)) => {
                 way.expect("the equations have no fault");

@@ -1,0 +1,22 @@
+//! Writes the output of the test program `refusals` into the folder of its crate: the verdicts of this
+//! implementation on the texts in `data`, into `stdout`.
+
+use reference::refusals::answers;
+use std::path::Path;
+use std::{env, fs, io, process};
+
+fn main() {
+    let arguments: Vec<String> = env::args().skip(1).collect();
+    let [folder] = &arguments[..] else {
+        eprintln!("usage: refusals FOLDER");
+        process::exit(2);
+    };
+    if let Err(error) = write(Path::new(folder)) {
+        eprintln!("{folder}: {error}");
+        process::exit(1);
+    }
+}
+
+fn write(folder: &Path) -> io::Result<()> {
+    fs::write(folder.join("stdout"), answers(folder)?)
+}
