@@ -1,25 +1,39 @@
-//! The reference against the frozen cases.
+//! The reference against the frozen cases: those of document 01, and those of the change requests
+//! that hold since request 2 has landed.
 
 use reference::board::REFERENCE;
 use reference::frozen::{
     batches, check_batch, check_image, check_text, images, request_images, request_texts, texts,
+    ImageCase, TextCase,
 };
 use reference::lexer::token_at;
 use reference::loader::open;
 use reference::trace::{direct_trace, trace};
 
+/// All texts, those of document 01 first.
+fn all_texts() -> Vec<TextCase> {
+    let (texts, more) = (texts(), request_texts());
+    assert_eq!((texts.len(), more.len()), (251, 199));
+    texts.into_iter().chain(more).collect()
+}
+
+/// All images, those of document 01 first.
+fn all_images() -> Vec<ImageCase> {
+    let (images, more) = (images(), request_images());
+    assert_eq!((images.len(), more.len()), (72, 39));
+    images.into_iter().chain(more).collect()
+}
+
 #[test]
 fn texts_are_answered_as_frozen() {
-    let cases = texts();
-    assert_eq!(cases.len(), 251);
-    for case in &cases {
-        check_text(&REFERENCE, case);
+    for case in all_texts() {
+        check_text(&REFERENCE, &case);
     }
 }
 
 #[test]
 fn tokens_are_handed_out_as_frozen() {
-    for case in texts() {
+    for case in all_texts() {
         if let Err(refusal) = case.image {
             if refusal.number <= 9 {
                 let token = token_at(&case.text, refusal.place as usize);
@@ -31,7 +45,7 @@ fn tokens_are_handed_out_as_frozen() {
 
 #[test]
 fn traces_are_printed_as_frozen() {
-    for case in texts() {
+    for case in all_texts() {
         let by_table = trace(&case.text, &case.rows);
         let by_text = direct_trace(&case.text, &case.rows);
         assert_eq!(by_table, case.trace, "trace of {}", case.label);
@@ -41,16 +55,14 @@ fn traces_are_printed_as_frozen() {
 
 #[test]
 fn images_are_answered_as_frozen() {
-    let cases = images();
-    assert_eq!(cases.len(), 72);
-    for case in &cases {
-        check_image(&REFERENCE, case);
+    for case in all_images() {
+        check_image(&REFERENCE, &case);
     }
 }
 
 #[test]
 fn sections_are_lent_as_frozen() {
-    for case in images() {
+    for case in all_images() {
         let Ok(bounds) = case.opened else { continue };
         let image = open(&case.image).expect("the case opens");
         let parts = [
@@ -64,25 +76,9 @@ fn sections_are_lent_as_frozen() {
 }
 
 #[test]
-fn what_the_change_requests_keep_is_answered_as_frozen() {
-    let (texts, images) = (request_texts(), request_images());
-    assert_eq!((texts.len(), images.len()), (94, 28));
-    for case in &texts {
-        check_text(&REFERENCE, case);
-        let by_table = trace(&case.text, &case.rows);
-        assert_eq!(by_table, case.trace, "trace of {}", case.label);
-        let by_text = direct_trace(&case.text, &case.rows);
-        assert_eq!(by_text, case.trace, "direct trace of {}", case.label);
-    }
-    for case in &images {
-        check_image(&REFERENCE, case);
-    }
-}
-
-#[test]
 fn many_rows_in_one_call_are_answered_as_frozen() {
     let cases = batches();
-    assert_eq!(cases.len(), 42);
+    assert_eq!(cases.len(), 44);
     for case in &cases {
         check_batch(&REFERENCE, case);
     }
