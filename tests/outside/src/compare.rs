@@ -107,14 +107,14 @@ pub fn compiled(board: &Board, text: &[u8]) -> Vec<u8> {
 
 /// Demand 3 on one board: from the fresh states on, call by call, the table's cycle does what the
 /// direct run does. Every few calls both go on from another state, good or damaged. Answers how
-/// many calls were performed, and refused by 14, 15 and 16.
+/// many calls were performed, and refused by 14, 15, 16 and 18.
 pub fn table_is_direct(
     board: &Board,
     text: &[u8],
     calls: usize,
     random: &mut Random,
-) -> [usize; 4] {
-    let mut counts = [0; 4];
+) -> [usize; 5] {
+    let mut counts = [0; 5];
     let image = compiled(board, text);
     let shown = || String::from_utf8_lossy(text).to_string();
     assert_eq!((board.open)(&image), [0, 0, 0], "a compiled image opens");
@@ -137,7 +137,11 @@ pub fn table_is_direct(
         let by_text = call(board.direct, text, &from, &inputs, room);
         assert_eq!(by_table, by_text, "call {number}, {inputs:?}: {}", shown());
         check_call(&by_table, &from, shape.lines);
-        counts[by_table.answer[0].saturating_sub(13) as usize] += 1;
+        counts[match by_table.answer[0] {
+            0 => 0,
+            18 => 4,
+            number => number as usize - 13,
+        }] += 1;
         if by_table.answer[0] != 15 {
             state = by_table.state;
         }

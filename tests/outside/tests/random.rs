@@ -10,7 +10,7 @@ use reference::verdict::verdict;
 #[test]
 fn accepted_texts_run_alike_from_table_and_text() {
     let seed = seed();
-    let mut calls = [0; 4];
+    let mut calls = [0; 5];
     for round in 0..rounds(1500) {
         let mut random = Random::round(seed, round);
         let text = texts::accepted(&mut random);
@@ -19,8 +19,8 @@ fn accepted_texts_run_alike_from_table_and_text() {
             *sum += count;
         }
     }
-    println!("calls performed, then refused by 14 to 16: {calls:?}");
-    assert!(calls.iter().all(|count| *count > 0) || rounds(100) < 100);
+    println!("calls performed, then refused by 14, 15, 16, 18: {calls:?}");
+    assert!(calls.iter().all(|count| *count > 500) || rounds(100) < 100);
 }
 
 #[test]

@@ -61,22 +61,42 @@ impl Expressions<'_> {
 
     fn simple(&self, give: Give, size: usize, tokens: &mut Tokens, random: &mut Random) {
         if give != Give::Integer {
-            return self.term(give, size, tokens, random);
+            return self.factor(give, size, tokens, random);
         }
         if random.chance(15) {
             tokens.push("-".to_string());
         }
-        self.term(give, size, tokens, random);
+        self.term(size, tokens, random);
         if size == 0 {
             return;
         }
         for _ in 0..random.below(3) {
             tokens.push(random.pick(&["+", "-"]).to_string());
-            self.term(give, size - 1, tokens, random);
+            self.term(size - 1, tokens, random);
         }
     }
 
-    fn term(&self, give: Give, size: usize, tokens: &mut Tokens, random: &mut Random) {
+    /// A factor, and often one or two behind `*`, `/`, `mod` and `rem`.
+    fn term(&self, size: usize, tokens: &mut Tokens, random: &mut Random) {
+        self.factor(Give::Integer, size, tokens, random);
+        let more = match random.below(10) {
+            0..=1 => 1,
+            2 if size > 0 => 2,
+            _ => 0,
+        };
+        for _ in 0..more {
+            let operator = *random.pick(&["*", "/", "mod", "rem"]);
+            tokens.push(operator.to_string());
+            // Other divisors than names are seldom 0: a text with many of them would do nothing.
+            match operator != "*" && random.chance(40) {
+                true if random.chance(8) => tokens.push("0".to_string()),
+                true => tokens.push(random.between(1, 9).to_string()),
+                false => self.factor(Give::Integer, size.saturating_sub(1), tokens, random),
+            }
+        }
+    }
+
+    fn factor(&self, give: Give, size: usize, tokens: &mut Tokens, random: &mut Random) {
         if give != Give::Integer && random.chance(25) {
             tokens.push("not".to_string());
         }

@@ -180,7 +180,7 @@ fn postfix(
         return operations + 1;
     }
     let (operand, operators): (Of, &[u8]) = match give {
-        Of::Value(Type::Integer) => (integer, &[18, 19]),
+        Of::Value(Type::Integer) => (integer, &[18, 19, 18, 19, 29, 30, 31, 32]),
         Of::Value(Type::StdLogic) => (std_logic, &[26, 27, 28]),
         Of::Boolean if size > 0 && random.chance(40) => (give, &[26, 27, 28]),
         Of::Boolean if random.chance(60) => (integer, &[20, 21, 22, 23, 24, 25]),
@@ -226,7 +226,7 @@ fn damage(image: &mut Vec<u8>, random: &mut Random) {
         return image.push(random.byte());
     }
     let at = random.below(image.len());
-    let small = *random.pick(&[0, 1, 2, 3, 5, 16, 17, 29, 32, 33, 255]);
+    let small = *random.pick(&[0, 1, 2, 3, 5, 16, 17, 18, 29, 30, 31, 32, 33, 255]);
     match random.below(24) {
         0 => image[at] ^= 1 << random.below(8),
         1 => image[at] = random.byte(),

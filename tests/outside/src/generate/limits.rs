@@ -254,6 +254,28 @@ fn items() -> Vec<LimitText> {
             texts.push(drawn(&label, number, &text("", INTEGER, &body)));
         }
     }
+    // A product of n factors has 2 n - 1 items, and its sign is one more.
+    for operator in ["*", "/", "mod", "rem"] {
+        for (count, product) in [
+            (
+                ITEMS,
+                format!("- {}^u", format!("s {operator} ").repeat(31)),
+            ),
+            (
+                ITEMS + 1,
+                format!("{}^u", format!("s {operator} ").repeat(32)),
+            ),
+            (
+                ITEMS + 1,
+                format!("- {}s ^{operator} u", format!("s {operator} ").repeat(31)),
+            ),
+        ] {
+            let number = over(count, ITEMS);
+            let label = format!("{count} items with {operator}");
+            let body = format!("s := {product} ;");
+            texts.push(drawn(&label, number, &text("", INTEGER, &body)));
+        }
+    }
     // A condition's `=` and right side count too.
     for (count, condition) in [
         (ITEMS, format!("- {}s = ^u", "s + ".repeat(30))),

@@ -6,7 +6,7 @@ use super::texts;
 use crate::lexer::RESERVED;
 
 /// Tokens, and what is none, that a change may bring in.
-const ODD: [&str; 36] = [
+const ODD: [&str; 41] = [
     "(",
     ")",
     ";",
@@ -34,7 +34,10 @@ const ODD: [&str; 36] = [
     "_a",
     "'2'",
     "'0",
+    "*",
+    "**",
     "/",
+    "%",
     "\"",
     "1_000",
     "1e5",
@@ -42,8 +45,13 @@ const ODD: [&str; 36] = [
     "x",
     "elsif",
     "mod",
+    "rem",
+    "mod_1",
     "a23456789012345678901234567890123",
 ];
+
+/// Operators, one of which may stand in the place of another.
+const OPERATORS: [&str; 10] = ["and", "or", "xor", "+", "-", "=", "*", "/", "mod", "rem"];
 
 /// A mutant of an accepted text.
 pub fn mutant(random: &mut Random) -> Vec<u8> {
@@ -61,7 +69,7 @@ pub fn mutant(random: &mut Random) -> Vec<u8> {
             ),
             11 => exchange(&mut tokens, &["std_logic", "integer"], random),
             12 => exchange(&mut tokens, &["<=", ":=", "=", "<"], random),
-            13 => exchange(&mut tokens, &["and", "or", "xor", "+", "-", "="], random),
+            13 => exchange(&mut tokens, &OPERATORS, random),
             _ => token(&mut tokens, random),
         }
     }

@@ -72,7 +72,19 @@ impl Random {
 
     /// A 32-bit integer: mostly small, sometimes at a bound, sometimes anything.
     pub fn integer(&mut self) -> i32 {
-        const BOUNDS: [i32; 6] = [i32::MIN, i32::MIN + 1, i32::MAX, i32::MAX - 1, 1 << 30, -1];
+        const BOUNDS: [i32; 10] = [
+            i32::MIN,
+            i32::MIN + 1,
+            i32::MAX,
+            i32::MAX - 1,
+            1 << 30,
+            -1,
+            // Roots of the bounds, whose products are at them.
+            46_340,
+            46_341,
+            65_536,
+            -32_768,
+        ];
         match self.below(10) {
             0 => *self.pick(&BOUNDS),
             1 => self.word() as i32,

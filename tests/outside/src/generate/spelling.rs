@@ -26,9 +26,11 @@ pub fn name(random: &mut Random, used: &mut Vec<String>) -> String {
 
 fn candidate(random: &mut Random) -> String {
     // Words of VHDL that are free here, and words that nearly are reserved.
-    const NEAR: [&str; 14] = [
+    const NEAR: [&str; 16] = [
         "elsif",
-        "mod",
+        "mod_1",
+        "modulo",
+        "rem0",
         "boolean",
         "signal",
         "std",
