@@ -175,12 +175,3 @@ pub fn everything(board: &Board, rounds: usize, seed: u64) -> [usize; 5] {
     }
     counts
 }
-
-/// The boards at hand: this implementation and, where their archive is there, the proved crates, with
-/// guards and with NULL for what is empty.
-pub fn boards() -> Vec<Board> {
-    #[cfg(proved)]
-    return vec![REFERENCE, crate::proved::PROVED, crate::proved::NULLS];
-    #[cfg(not(proved))]
-    vec![REFERENCE]
-}

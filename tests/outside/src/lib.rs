@@ -7,6 +7,7 @@
 //! `compare` holds two boards, or the two runs of one board, side by side.
 
 pub mod answer;
+pub mod arithmetic;
 pub mod batch;
 pub mod batches;
 pub mod board;

@@ -1,8 +1,8 @@
 //! Many rows in one call equal the same rows given singly: the row lists of all cases and random
 //! ones, from fresh, other and wrong states, for every board at hand.
 
-use reference::batches::{boards, check, everything, fresh, widths, Batch, NUMBER, WORD};
-use reference::board::REFERENCE;
+use reference::batches::{check, everything, fresh, widths, Batch, NUMBER, WORD};
+use reference::board::{boards, REFERENCE};
 use reference::compare::compiled;
 use reference::frozen::{batches, check_batch, texts};
 use reference::generate::random::{rounds, seed, Random};

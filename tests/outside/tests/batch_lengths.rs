@@ -2,8 +2,8 @@
 //! hand: lengths off by one, counts that no buffer can meet, and counts whose dues are the lengths
 //! only where a product is cut to 32 or 64 bits.
 
-use reference::batches::{boards, check, fresh, Batch, NUMBER, WORD};
-use reference::board::REFERENCE;
+use reference::batches::{check, fresh, Batch, NUMBER, WORD};
+use reference::board::{boards, REFERENCE};
 use reference::compare::compiled;
 use reference::generate::batches::wrapped;
 

@@ -1,6 +1,7 @@
-//! Random inputs for the eight functions: accepted texts, mutants, texts at the limits, good and
-//! damaged images, states and rows.
+//! Random inputs for the eight functions: accepted texts, expressions, mutants, texts at the limits,
+//! good and damaged images, states and rows.
 
+pub mod arithmetic;
 pub mod batches;
 pub mod expressions;
 pub mod images;
