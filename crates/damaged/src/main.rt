@@ -9,12 +9,12 @@
 //   27        1: the answers of opening and of the fresh state are printed too
 // Of tally: each field one more and one less (1 to 144), each bit of the header (145 to 368), cut at each length (369 to 502), a byte longer (503 to 506),
 // places (507 to 521), each slot 1 and -1 (522 to 617), sums at the ends of the range (618 to 669), rows of other lengths (670 to 711), the trace of
-// document 01 (712 to 717).
+// document 01 (712 to 717), the codes of *, /, mod and rem for + (718 to 757), other codes for + (758 to 765), codes for < (766 to 772).
 // gate has inputs a : std_logic, n : integer, outputs q : std_logic := '0', m : integer := -5, variables f : std_logic := '1', k : integer := 2147483647,
 // j : integer, which the image starts at -2147483648, and the body: if a = '1' then k := k - n; m <= -n; wait; else f := f xor a; if not (n >= 0) or n /= 5
 // then q <= not f and a; null; else m <= n + k - j; end if; wait; if (k <= n) and (n > j) then j := j - 1; end if; end if;
 // Of gate: each field one more and one less (1 to 334), input values (335 to 370), each slot 2 and -1 (371 to 466), its std_logic slots (467 to 470), row
-// lengths (471 to 486), every place and the ends of the range (487 to 540), rows one after the other (541 to 552).
+// lengths (471 to 486), every place and the ends of the range (487 to 540), rows in turn (541 to 552), *, /, mod, rem (553 to 581).
 ghost use Prim.Native.Nat.{_≤_};
 ghost use lib.ListN.{length};
 use answers::Cycled;

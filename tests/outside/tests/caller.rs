@@ -21,7 +21,7 @@ fn the_program_prints_what_document_01_says() {
 fn every_refusal_is_told() {
     let texts = PathBuf::from(env!("CARGO_MANIFEST_DIR")).join("../../crates/caller/data/texts");
     let answers = answers(&std::fs::read(texts).expect("texts"));
-    for number in 1..=17 {
+    for number in 1..=18 {
         assert!(answers.contains(&format!(" refused {number} ")), "{number}");
     }
 }

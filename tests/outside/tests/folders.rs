@@ -18,7 +18,7 @@ fn every_folder_has_its_trace() {
         assert_eq!(direct_trace(&text, &rows), expected, "{}", folder.display());
         seen += 1;
     }
-    assert_eq!(seen, 11);
+    assert_eq!(seen, 12);
 }
 
 /// The program crates/trace has its own copy of tally, as a program's data must stand in its crate.

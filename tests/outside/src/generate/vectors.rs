@@ -1,6 +1,7 @@
 //! The cases of the test program `vectors`: accepted texts with rows, right and wrong ones, and some
 //! refused texts.
 
+use super::arithmetic::{EDGES, OPERATORS};
 use super::limits::limit_texts;
 use super::random::{Random, SEED};
 use super::{rows, texts};
@@ -237,6 +238,21 @@ fn operators() -> Vec<Case> {
     ] {
         add("integer", &integers, &format!("q <= {value};"));
     }
+    for operator in OPERATORS {
+        add("integer", &EDGES, &format!("q <= x {operator} y;"));
+    }
+    // A sign on a whole term; the left one first; `*` and its like before `+`; which of 16 and 18.
+    for value in [
+        "- x mod y",
+        "(- x) mod y",
+        "x / y * y + x rem y",
+        "x - x mod y / 2",
+        "x * y / (x - y)",
+        "(x + 1) / y + (y + 1) rem x",
+    ] {
+        add("integer", &integers, &format!("q <= {value};"));
+    }
+    add("integer", &integers, &test("x / y > x mod y"));
     for operator in ["=", "/=", "<", "<=", ">", ">="] {
         add("integer", &integers, &test(&format!("x {operator} y")));
     }
