@@ -46,7 +46,9 @@
  *    17  many rows: a length that is not the count's due                  0
  *    14  input or output row of a wrong length; wrong input value         0; its index
  *    15  place or slot of the state                                       0
- *    16  result of +, - or sign outside integer                           its line
+ *    16  result of +, -, *, / or sign outside integer                     its line
+ *    18  zero divisor of /, mod or rem                                    its line
+ * 16 and 18 are one stage: the operator that is reached first is told.
  * Places of 1 to 9 are byte offsets of the text. Every place and every count is at most 65535 and is told as it is.
  *
  * Stack: rabtishu_compile, rabtishu_direct_fresh and rabtishu_direct keep their arrays on the stack of the caller's thread, about 245,000 bytes; every
@@ -71,8 +73,8 @@ void rabtishu_open(const uint8_t *image, size_t n, uint32_t answer[3]);
 /* The fresh state of an image: place 512 and the initial values. Refusals 11 to 13; the count is 0. */
 void rabtishu_fresh(const uint8_t *image, size_t n, int32_t state[49], uint32_t answer[3]);
 
-/* One cycle on an image: the state advances, and the output row gets all outputs. Refusals 11 to 16; the count is the number of lines performed, the
- * wait that the cycle ends on included. The image is checked in every call. */
+/* One cycle on an image: the state advances, and the output row gets all outputs. Refusals 11 to 16 and 18; the count is the number of lines performed,
+ * the wait that the cycle ends on included. The image is checked in every call. */
 void rabtishu_cycle(const uint8_t *image, size_t n, int32_t state[49], const int32_t *inputs, size_t ni, int32_t *outputs, size_t no,
                     uint32_t answer[3]);
 
@@ -81,7 +83,7 @@ void rabtishu_cycle(const uint8_t *image, size_t n, int32_t state[49], const int
  * Refusals of the call are 11 to 13, then 17 unless ni is count times the data inputs, no is count times the outputs and na is 3 times count, as exact
  * products, however large count is. A refused call writes nothing but answer, also where count is 0. The count in answer[2] is 0.
  * In a call that is taken each row has three numbers in its own part of answers: the refusal's number or 0, its place or 0, the lines performed or 0.
- * Refusals of a row are 14 (its values only, the place being the index in its own row), 15 and 16; the rows behind it follow all the same.
+ * Refusals of a row are 14 (its values only, the place being the index in its own row), 15, 16 and 18; the rows behind it follow all the same.
  * A count of 0 with lengths 0 is taken and writes nothing but answer. Memory as for the others: inputs, outputs and answers are aligned for their types,
  * may be NULL where their length is 0, and neither outputs nor answers overlap anything else. */
 void rabtishu_cycles(const uint8_t *image, size_t n, int32_t state[49], size_t count, const int32_t *inputs, size_t ni, int32_t *outputs, size_t no,
@@ -90,7 +92,7 @@ void rabtishu_cycles(const uint8_t *image, size_t n, int32_t state[49], size_t c
 /* The fresh state of a text, without an image. Refusals 1 to 9; the count is 0. */
 void rabtishu_direct_fresh(const uint8_t *text, size_t n, int32_t state[49], uint32_t answer[3]);
 
-/* One cycle from a text, without an image; the text is read in every call. Refusals 1 to 9 and 14 to 16; the count is as for rabtishu_cycle. */
+/* One cycle from a text, without an image; the text is read in every call. Refusals 1 to 9, 14 to 16 and 18; the count is as for rabtishu_cycle. */
 void rabtishu_direct(const uint8_t *text, size_t n, int32_t state[49], const int32_t *inputs, size_t ni, int32_t *outputs, size_t no,
                      uint32_t answer[3]);
 

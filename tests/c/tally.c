@@ -1,5 +1,5 @@
 /* Document 01's tally through the C interface: compiled, opened, run by table and by text, its rows in one call, and calls that are refused; then every
- * function with NULL and length 0 in the place of each slice that may be empty. Prints what `expected` holds. */
+ * function with NULL and length 0 in the place of each slice that may be empty; then a process that divides. Prints what `expected` holds. */
 #include "rabtishu.h"
 
 #include <stdio.h>
@@ -16,6 +16,16 @@ static const char tally[] =
 static const char bare[] =
     "entity bare is port (clk : in std_logic); end bare;\n"
     "architecture a of bare is begin process begin wait until clk = '1'; end process; end a;\n";
+
+/* A process that divides: the mean of a sum of seconds, what is left over, and the minutes and seconds of the mean. */
+static const char mean[] =
+    "entity mean is port (clk : in std_logic; sum, count : in integer; minutes, seconds, over : out integer := 0); end mean;\n"
+    "architecture a of mean is begin process variable m : integer := 0; begin\n"
+    "m := sum / count; minutes <= m / 60; seconds <= m rem 60; over <= sum mod count; m := m * 60;\n"
+    "wait until clk = '1'; end process; end a;\n";
+
+/* Refused are a count of 0, the least integer by -1, and a mean that is no integer times 60. */
+static const int32_t means[] = {1000, 3, -1000, 3, 5, 0, INT32_MIN, -1, 1000, -3, INT32_MAX, 2, 59, 60};
 
 static const int32_t rows[] = {7, 7, 1, -5, INT32_MIN, 20};
 
@@ -225,6 +235,47 @@ static void with_empty_rows(void)
     printf("place %d\n", state[0]);
 }
 
+/* The row of a process that divides, by the table where an image is given, else from the text. */
+static void divided(int k, const uint8_t *image, size_t n, int32_t state[49])
+{
+    int32_t outputs[3] = {99, 99, 99};
+    uint32_t answer[3];
+    if (image)
+        rabtishu_cycle(image, n, state, means + 2 * k, 2, outputs, 3, answer);
+    else
+        rabtishu_direct((const uint8_t *)mean, sizeof mean - 1, state, means + 2 * k, 2, outputs, 3, answer);
+    printf("%d by %d: %u %u %u", means[2 * k], means[2 * k + 1], answer[0], answer[1], answer[2]);
+    printf(" minutes %d seconds %d over %d", outputs[0], outputs[1], outputs[2]);
+    printf(" place %d variable %d\n", state[0], state[17]);
+}
+
+/* Seven rows that divide, by table, by text and in one call: 16 and 18 with the line of their operator, and nothing else written. */
+static void division(void)
+{
+    uint8_t image[256];
+    int32_t state[49], outputs[21];
+    uint32_t answer[3], answers[21];
+    rabtishu_compile((const uint8_t *)mean, sizeof mean - 1, image, sizeof image, answer);
+    told("mean", answer);
+    const size_t size = answer[2];
+    rabtishu_fresh(image, size, state, answer);
+    for (int k = 0; k < 7; k++)
+        divided(k, image, size, state);
+    rabtishu_direct_fresh((const uint8_t *)mean, sizeof mean - 1, state, answer);
+    for (int k = 0; k < 7; k++)
+        divided(k, NULL, 0, state);
+    rabtishu_fresh(image, size, state, answer);
+    for (int k = 0; k < 21; k++)
+        outputs[k] = 99;
+    rabtishu_cycles(image, size, state, 7, means, 14, outputs, 21, answers, 21, answer);
+    told("mean, seven rows", answer);
+    for (int k = 0; k < 7; k++) {
+        printf("%d: %d %d %d ", k, outputs[3 * k], outputs[3 * k + 1], outputs[3 * k + 2]);
+        told("answer", answers + 3 * k);
+    }
+    printf("place %d variable %d\n", state[0], state[17]);
+}
+
 int main(void)
 {
     uint8_t image[256];
@@ -273,5 +324,6 @@ int main(void)
     without_bytes();
     without_room(image, 134);
     with_empty_rows();
+    division();
     return 0;
 }
