@@ -4,7 +4,7 @@
 use reference::batches::{check, everything, fresh, widths, Batch, NUMBER, WORD};
 use reference::board::{boards, REFERENCE};
 use reference::compare::compiled;
-use reference::frozen::{batches, check_batch, texts};
+use reference::frozen::{batches, check_batch, request_texts, texts};
 use reference::generate::random::{rounds, seed, Random};
 use reference::generate::{batches as random_batches, rows, vectors};
 use reference::loader::open;
@@ -86,7 +86,7 @@ fn every_row_list_of_the_vectors() {
 #[test]
 fn every_row_list_of_the_frozen_texts() {
     let mut random = Random::new(seed());
-    for case in texts() {
+    for case in texts().into_iter().chain(request_texts()) {
         let Ok(image) = case.image else { continue };
         let list: Vec<Vec<i32>> = case.steps.into_iter().map(|step| step.inputs).collect();
         from_all_states(&image, &list, &mut random);

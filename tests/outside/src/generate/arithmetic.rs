@@ -69,11 +69,13 @@ impl Tree {
             return Tree::Leaf(leaf);
         }
         let part = |random: &mut Random| Box::new(Tree::random(depth - 1, random));
-        match random.below(10) {
-            0..=1 => Tree::Sign(part(random)),
-            2..=3 => Tree::Between(*random.pick(&["+", "-"]), part(random), part(random)),
-            _ => Tree::Between(*random.pick(&OPERATORS), part(random), part(random)),
-        }
+        let operators: &[&'static str] = match random.below(10) {
+            0..=1 => return Tree::Sign(part(random)),
+            2..=3 => &["+", "-"],
+            _ => &OPERATORS,
+        };
+        let operator = *random.pick(operators);
+        Tree::Between(operator, part(random), part(random))
     }
 
     /// With parentheses around every part that holds an operator.
