@@ -18,7 +18,7 @@ mod proved {
     use reference::board::{Board, REFERENCE};
     use reference::compare::compiled;
     use reference::generate::random::{Random, SEED};
-    use reference::generate::rows::{gcd, small};
+    use reference::generate::rows::{gcd, headways, small};
     use reference::loops::{self, Loop};
     use reference::proved::PLAIN;
     use std::hint::black_box;
@@ -235,6 +235,7 @@ mod proved {
     pub fn main() {
         let tally = include_bytes!("../../../../examples/tally/process.vhd");
         let gcd_text = include_bytes!("../../../../examples/gcd/process.vhd");
+        let headway = include_bytes!("../../../../examples/headway/process.vhd");
         let many = many_statements();
         println!(
             "{:<44} {:>6}   {:>13} {:>13}",
@@ -253,9 +254,11 @@ mod proved {
         let tally_rows = of(small(400, &mut random), 1, 1);
         let gcd_rows = of(gcd(400, &mut random), 3, 2);
         let many_rows = of(small(40, &mut random), 1, 1);
+        let headway_rows = of(headways(400, &mut random), 4, 5);
         cycles("tally", tally, &tally_rows, 40);
         cycles("gcd", gcd_text, &gcd_rows, 20);
         cycles("512 lines", &many, &many_rows, 20);
+        cycles("headway", headway, &headway_rows, 20);
         println!("many rows; the bar against single calls, in the place of Rust, is 0.75 each");
         in_one_call("tally", tally, &tally_rows, 40);
         in_one_call("gcd", gcd_text, &gcd_rows, 20);

@@ -44,6 +44,22 @@ pub fn small(count: usize, random: &mut Random) -> Vec<i32> {
         .collect()
 }
 
+/// Rows for headway, end to end, none of them refused: half of them with a train, at any second of
+/// the day.
+pub fn headways(count: usize, random: &mut Random) -> Vec<i32> {
+    let row = |_| {
+        let passed = random.below(2) as i32;
+        let now = random.below(86_400) as i32;
+        [
+            passed,
+            now,
+            random.between(4, 30) as i32,
+            random.below(60) as i32,
+        ]
+    };
+    (0..count).flat_map(row).collect()
+}
+
 /// Rows for GCD, end to end: multiples of two neighbours of the Fibonacci numbers, on which its
 /// differences come to 0 after some waits; now and then no start.
 pub fn gcd(count: usize, random: &mut Random) -> Vec<i32> {
