@@ -127,12 +127,12 @@ module _ (codes : List ℕ) (args : List ℤ) (rows : List ℕ) where
           let s = (rw h at (f (p .one) (g .way) (p .single) (p .held) (g .count))) .is in
           record { is = (s .0, (s .1 .0, g .same ∙ (p .same i (run (g .way) o v) ∙ ap (λ (R : Result). then R (λ τ. startRest (p .rest) next i τ)) (s .1 .1)))) }
 
-      pub going-refused : (x : ℕ) → Going j n o v → j < e → next ≡ getD rows (6 * j + 5) 0 → Answered → r ≡ Refused x → Stands whole (Refused x) o′ v′
+      pub going-refused : (m x : ℕ) → Going j n o v → j < e → next ≡ getD rows (6 * j + 5) 0 → Answered → r ≡ Refused m x → Stands whole (Refused m x) o′ v′
       unfolding then
-      going-refused x g l q f h =
+      going-refused m x g l q f h =
           let p : Front (g .block) j next e = rw q (front (g .block) j e (g .held) l) in
           let s = (rw h at (f (p .one) (g .way) (p .single) (p .held) (g .count))) .is in
-          record { is = (s .0, g .same ∙ (p .same i (run (g .way) o v) ∙ ap (λ (R : Result). then R (λ τ. startRest (p .rest) next i τ)) (s .1))) }
+          record { is = g .same ∙ (p .same i (run (g .way) o v) ∙ ap (λ (R : Result). then R (λ τ. startRest (p .rest) next i τ)) s) }
 
   -- what the loop over the statements of the rows first .. e keeps: o₀ and v₀ are outputs and variables at first
   pub record Keeps (i : List ℤ) (first e count : ℕ) (o₀ v₀ : List ℤ) (j n : ℕ) (o v : List ℤ) : Type 0 where

@@ -39,7 +39,7 @@ module _ (codes : List ℕ) (args : List ℤ) (rows : List ℕ) (i : List ℤ) w
   abbrev pub EffectSays : ℕ → ℕ → List ℕ → Result → Effect → List ℤ → List ℤ → Type 0
   EffectSays j next w R Waits o v = (R ≡ reached j (run (w ++ (j ∷ [])) o v))
   EffectSays j next w R (Performed a b) o v = Inner j next w R a b o v
-  EffectSays j next w R Refuses o v = (q : ℕ) × (R ≡ refused q j)
+  EffectSays j next w R (Refuses q) o v = (R ≡ refused q j)
 
   -- the effect by the row r says what R is
   abbrev By : ℕ → ℕ → List ℕ → Result → List ℤ → List ℤ → Row → Type 0
@@ -67,7 +67,7 @@ module _ (codes : List ℕ) (args : List ℤ) (rows : List ℕ) (i : List ℤ) w
         go : (r : Out ℤ) → j < next
             → EffectSays j next w (acted (bind r (λ z. fine (record { outputs = set o k z; variables = v }))) j (run w o v)) (effectOf 1 r j (j + 1 + 0) (j + 1 + 0)) (storedOf 1 1 k r o) (storedOf 2 1 k r v)
         go (fine z) l = alone (passed (run (w ++ (j ∷ [])) (set o k z) v)) (set o k z) v l refl
-        go (fault q) l = (q, refl)
+        go (fault q) l = refl
 
     variable-says : (k : ℕ) (e : Expr) → HeldIn codes args rows (act (variable k e)) j next → By j next w (start (act (variable k e)) j i (run w o v)) o v (rowIn rows j)
     unfolding Short size start acted perform bind
@@ -82,7 +82,7 @@ module _ (codes : List ℕ) (args : List ℤ) (rows : List ℕ) (i : List ℤ) w
         go : (r : Out ℤ) → j < next
             → EffectSays j next w (acted (bind r (λ z. fine (record { outputs = o; variables = set v k z }))) j (run w o v)) (effectOf 2 r j (j + 1 + 0) (j + 1 + 0)) (storedOf 1 2 k r o) (storedOf 2 2 k r v)
         go (fine z) l = alone (passed (run (w ++ (j ∷ [])) o (set v k z))) o (set v k z) l refl
-        go (fault q) l = (q, refl)
+        go (fault q) l = refl
 
     null-says : HeldIn codes args rows (act null) j next → By j next w (start (act null) j i (run w o v)) o v (rowIn rows j)
     unfolding size start acted perform
@@ -146,7 +146,7 @@ module _ (codes : List ℕ) (args : List ℤ) (rows : List ℕ) (i : List ℤ) w
             → EffectSays j next w (tested (bind r (λ z. fine (isOne z))) j (run w o v) (λ τ. start a (suc j) i τ) passed)
             (effectOf 3 r j (j + 1 + size a) (j + 1 + size a)) (storedOf 1 3 0 r o) (storedOf 2 3 0 r v)
         go (fine z) p q = chosen (λ τ. start a (suc j) i τ) passed (j + 1 + size a) (j + 1 + size a) (isOne z) p q
-        go (fault q) p p′ = (q, refl)
+        go (fault q) p p′ = refl
 
     while-says : (e : Expr) (a : Stmt) → Block a → HeldIn codes args rows (while e a) j next → By j next w (start (while e a) j i (run w o v)) o v (rowIn rows j)
     unfolding Short size start holds bind tested
@@ -166,7 +166,7 @@ module _ (codes : List ℕ) (args : List ℤ) (rows : List ℕ) (i : List ℤ) w
             → EffectSays j next w (tested (bind r (λ z. fine (isOne z))) j (run w o v) (λ τ. start a (suc j) i τ) passed)
             (effectOf 5 r j (j + 1 + size a) (j + 1 + size a)) (storedOf 1 5 0 r o) (storedOf 2 5 0 r v)
         go (fine z) p q = chosen (λ τ. start a (suc j) i τ) passed (j + 1 + size a) (j + 1 + size a) (isOne z) p q
-        go (fault q) p p′ = (q, refl)
+        go (fault q) p p′ = refl
 
     -- the second part of an if
     second-part : (b : Stmt) (m a c : ℕ) (R : Result) → At codes args rows b a m → Short b → Block b → c ≡ a + size b → j < a → c ≤ next
@@ -201,7 +201,7 @@ module _ (codes : List ℕ) (args : List ℤ) (rows : List ℕ) (i : List ℤ) w
             → EffectSays j next w (tested (bind r (λ z. fine (isOne z))) j (run w o v) (λ τ. start a (suc j) i τ) (λ τ. start b (suc j + size a) i τ))
             (effectOf 3 r j (j + 1 + size a) (j + 1 + (size a + size b))) (storedOf 1 3 0 r o) (storedOf 2 3 0 r v)
         go (fine z) p q = chosen (λ τ. start a (suc j) i τ) (λ τ. start b (suc j + size a) i τ) (j + 1 + size a) (j + 1 + (size a + size b)) (isOne z) p q
-        go (fault q) p p′ = (q, refl)
+        go (fault q) p p′ = refl
 
     -- every statement that the arrays hold
     pub effect-says : {f : Stmt} → Single f → HeldIn codes args rows f j next → By j next w (start f j i (run w o v)) o v (rowIn rows j)

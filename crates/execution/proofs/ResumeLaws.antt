@@ -327,6 +327,6 @@ module _ (codes : List ℕ) (args : List ℤ) (rows : List ℕ) (i : List ℤ) (
   unfolding then
   on-reached p n s h = let t = (rw h at s) .is in rw (t .1 .1) (record { is = (t .0, (t .1 .0, refl)) })
 
-  pub on-refused : (x : ℕ) → Stands R r o v → r ≡ Refused x → Stands Next (Refused x) o v
+  pub on-refused : (m x : ℕ) → Stands R r o v → r ≡ Refused m x → Stands Next (Refused m x) o v
   unfolding then
-  on-refused x s h = let t = (rw h at s) .is in rw (t .1) (record { is = (t .0, refl) })
+  on-refused m x s h = let t = (rw h at s) .is in rw t (record { is = refl })

@@ -71,7 +71,7 @@ module _ (r : Row) (j : ℕ) (E : Out ℤ) (o v : List ℤ) where
       go (fine z) = (refl, (refl, refl))
       go (fault q) = (refl, (refl, refl))
 
-  pub fault-comes : (k q : ℕ) (e : Checked) → k ≡ r .kind → (k ≡ 0 → ⊥) → (k ≡ 4 → ⊥) → e ≡ checkedOf E → e ≡ Refused q → Comes Refuses o v
+  pub fault-comes : (k q : ℕ) (e : Checked) → k ≡ r .kind → (k ≡ 0 → ⊥) → (k ≡ 4 → ⊥) → e ≡ checkedOf E → e ≡ Refused q → Comes (Refuses q) o v
   fault-comes k q e a h g b d = let z = fault-told E e q b d in rw (z, ← a, ne-eqb k 0 h, ne-eqb k 4 g) (refl, (refl, refl))
 
   pub branch-comes : (k x n : ℕ) (z : ℤ) (e : Checked) (b : Effect) → k ≡ r .kind → k ≡ 3 → e ≡ checkedOf E → e ≡ Value z → x ≡ r .other → n ≡ r .end
@@ -118,8 +118,9 @@ module _ (codes : List ℕ) (args : List ℤ) (rows : List ℕ) (i : List ℤ) (
       → Stands (start f at i (run w o v)) (Reached at (count + 1)) o′ v′
   waits-stand w d e s h n = record { is = (w ++ (at ∷ []), (way-length w at count n, rw e at (says w d s h))) }
 
-  pub refuses-stand : {f : Stmt} (w : List ℕ) → Done → m ≡ Refuses → Single f → HeldIn codes args rows f at next → Stands (start f at i (run w o v)) (RefusedAt at) o′ v′
-  refuses-stand w d e s h = record { is = rw e at (says w d s h) }
+  pub refuses-stand : {f : Stmt} (w : List ℕ) (q : ℕ) → Done → m ≡ Refuses q → Single f → HeldIn codes args rows f at next
+      → Stands (start f at i (run w o v)) (RefusedAt q at) o′ v′
+  refuses-stand w q d e s h = record { is = rw e at (says w d s h) }
 
   module _ (a b : ℕ) (r : Progress) (o″ v″ : List ℤ) where
     pub enters-stand : {f : Stmt} (w : List ℕ) → Done → m ≡ Performed a b

@@ -20,7 +20,7 @@ branchOf false j other end = Performed other end
 
 -- what follows the value of a statement of kind k: 3 an if, 5 a while, else an assignment
 abbrev pub valuedOf : ℕ → Out ℤ → ℕ → ℕ → ℕ → Effect
-valuedOf k (fault q) j other end = Refuses
+valuedOf k (fault q) j other end = Refuses q
 valuedOf k (fine z) j other end = cond (eqb k 3) (branchOf (isOne z) j other end) (cond (eqb k 5) (branchOf (isOne z) j other end) (Performed (j + 1) (j + 1)))
 
 -- 0 is a wait and 4 is null

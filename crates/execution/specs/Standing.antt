@@ -17,13 +17,13 @@ run w o v = record { way = w; memory = record { outputs = o; variables = v } }
 abbrev pub counted : Progress → ℕ
 counted (Passed n) = n
 counted (Reached p n) = n
-counted (Refused x) = 0
+counted (Refused q x) = 0
 
 -- the result that an answer tells, the count being the length of the way; o and v are outputs and variables as they are left
 abbrev pub standsFor : Result → Progress → List ℤ → List ℤ → Type 0
 standsFor R (Passed n) o v = (w : List ℕ) × ((length w ≡ n) × (R ≡ passed (run w o v)))
 standsFor R (Reached p n) o v = (w : List ℕ) × ((length w ≡ n) × (R ≡ reached p (run w o v)))
-standsFor R (Refused x) o v = (q : ℕ) × (R ≡ refused q x)
+standsFor R (Refused q x) o v = (R ≡ refused q x)
 
 -- an answer r with outputs o and variables v stands for the result R
 pub record Stands (R : Result) (r : Progress) (o v : List ℤ) : Type 0 where

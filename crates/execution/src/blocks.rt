@@ -79,7 +79,7 @@ fn perform(
     let to = entry(rows, 6 * at + 3);
     let e = evaluate(codes, args, from, to, inputs, variables);
     match e {
-        Checked::Refused(_) => Effect::Refuses,
+        Checked::Refused(q) => Effect::Refuses(q),
         Checked::Value(v) => {
             if k == 3 {
                 return branch(at, entry(rows, 6 * at + 4), entry(rows, 6 * at + 5), v);
@@ -128,7 +128,7 @@ fn statement(
     let m = perform(codes, args, rows, at, inputs, outputs, variables);
     match m {
         Effect::Waits => Progress::Reached(at, count + 1),
-        Effect::Refuses => Progress::Refused(at),
+        Effect::Refuses(q) => Progress::Refused(q, at),
         Effect::Performed(a, b) => {
             let right = nested(at, a, b, next);
             if right {
@@ -185,8 +185,8 @@ pub(crate) fn start(
             Progress::Reached(p, k) => {
                 return Progress::Reached(p, k);
             }
-            Progress::Refused(x) => {
-                return Progress::Refused(x);
+            Progress::Refused(q, x) => {
+                return Progress::Refused(q, x);
             }
         }
     }
@@ -214,7 +214,7 @@ pub(crate) fn go_on(
     match r {
         Progress::Passed(n) => start(codes, args, rows, from, end, inputs, outputs, variables, n),
         Progress::Reached(p, n) => Progress::Reached(p, n),
-        Progress::Refused(x) => Progress::Refused(x),
+        Progress::Refused(q, x) => Progress::Refused(q, x),
     }
 }
 

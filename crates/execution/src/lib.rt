@@ -3,16 +3,17 @@ pub mod blocks;
 pub mod cycles;
 
 // What a statement does itself: a wait is reached; it is performed, and the statements from .. to inside it follow, none where the two are equal;
-// or its operator is refused.
+// or an operator of it is refused by that number.
 enum Effect {
     Waits,
     Performed(usize, usize),
-    Refuses,
+    Refuses(u8),
 }
 
-// A statement is passed; a wait is reached; or an operator of the statement with that number is refused. The last number is the length of the way.
+// A statement is passed; a wait is reached; or an operator is refused, by which number and in which statement. The last number of the first two is
+// the length of the way.
 pub enum Progress {
     Passed(usize),
     Reached(usize, usize),
-    Refused(usize),
+    Refused(u8, usize),
 }

@@ -170,7 +170,7 @@ start-same-length-8 t c = search needs
 start-returns-4 : (t : ℕ) → start-lts.Need-returns-4 (start-calls t) (start-at t) start.Post start-Inv-loop start-μ-loop
 start-returns-4 t c = (
   omega arith,
-  (λ q w h l. going-refused (c .before .before .before .before .before .before .before .before .before .before .before .before .before .before .before .args .codes .now) (c .before .before .before .before .before .before .before .before .before .before .before .before .before .before .before .args .args .now) (c .before .before .before .before .before .before .before .before .before .before .before .before .before .before .before .args .rows .now) (c .before .before .before .before .before .before .before .before .before .before .before .before .before .before .before .args .inputs .now) (c .before .before .before .before .before .before .before .before .before .before .before .before .before .before .before .args .end) (startRest q (c .before .before .before .before .before .before .before .before .before .before .before .before .before .before .before .args .first) (c .before .before .before .before .before .before .before .before .before .before .before .before .before .before .before .args .inputs .now) (run w (c .before .before .before .before .before .before .before .before .before .before .before .before .before .before .before .args .outputs .now) (c .before .before .before .before .before .before .before .before .before .before .before .before .before .before .before .args .variables .now))) (c .before .before .before .before .before .before .before .before .before .before .before .before .loop .at) (c .before .before .before .before .before .before .before .before .before .before .before .before .loop .n) (c .before .before .before .before .before .before .before .before .before .before .entry .result) (c .before .before .before .before .before .before .before .before .before .before .before .before .loop .outputs) (c .before .before .before .before .before .before .before .before .before .before .before .before .loop .variables) _ _ (c .before .before .before .before .before .statement .result) (c .before .r3 .given .0 .0) (c .before .before .before .before .before .before .before .before .before .before .before .before .loop .inv .going q w h l) (c .before .before .before .before .before .before .before .before .before .before .before .loop-test .taken) (c .before .before .before .before .before .before .before .before .before .before .entry .ensures .0) (c .before .before .before .before .before .statement .ensures .1) (c .before .r3 .given .1)),
+  (λ q w h l. going-refused (c .before .before .before .before .before .before .before .before .before .before .before .before .before .before .before .args .codes .now) (c .before .before .before .before .before .before .before .before .before .before .before .before .before .before .before .args .args .now) (c .before .before .before .before .before .before .before .before .before .before .before .before .before .before .before .args .rows .now) (c .before .before .before .before .before .before .before .before .before .before .before .before .before .before .before .args .inputs .now) (c .before .before .before .before .before .before .before .before .before .before .before .before .before .before .before .args .end) (startRest q (c .before .before .before .before .before .before .before .before .before .before .before .before .before .before .before .args .first) (c .before .before .before .before .before .before .before .before .before .before .before .before .before .before .before .args .inputs .now) (run w (c .before .before .before .before .before .before .before .before .before .before .before .before .before .before .before .args .outputs .now) (c .before .before .before .before .before .before .before .before .before .before .before .before .before .before .before .args .variables .now))) (c .before .before .before .before .before .before .before .before .before .before .before .before .loop .at) (c .before .before .before .before .before .before .before .before .before .before .before .before .loop .n) (c .before .before .before .before .before .before .before .before .before .before .entry .result) (c .before .before .before .before .before .before .before .before .before .before .before .before .loop .outputs) (c .before .before .before .before .before .before .before .before .before .before .before .before .loop .variables) _ _ (c .before .before .before .before .before .statement .result) (c .before .r3 .given .0 .0) (c .before .r3 .given .0 .1 .0) (c .before .before .before .before .before .before .before .before .before .before .before .before .loop .inv .going q w h l) (c .before .before .before .before .before .before .before .before .before .before .before .loop-test .taken) (c .before .before .before .before .before .before .before .before .before .before .entry .ensures .0) (c .before .before .before .before .before .statement .ensures .1) (c .before .r3 .given .1)),
 )
 
 start-same-length-9 : (t : ℕ) → start-lts.Need-same-length-9 (start-calls t) (start-at t) start.Post start-Inv-loop start-μ-loop
@@ -192,14 +192,14 @@ statement-perform-requires t c κs = let b = c .before .before .before .before .
 statement-enum-told : (t : ℕ) → statement-lts.Need-enum-told (statement-calls t) (statement-at t) statement′.Post
 statement-enum-told t c = search needs
 
-statement-add-t19 : (t : ℕ) → statement-lts.Need-add-t19 (statement-calls t) (statement-at t) statement′.Post
-statement-add-t19 t c = let b = c .before .before .before .before .before .before .before .before .before .pre .1 in omega arith
-
-statement-enum-told-2 : (t : ℕ) → statement-lts.Need-enum-told-2 (statement-calls t) (statement-at t) statement′.Post
-statement-enum-told-2 t c = search needs
+statement-add-t20 : (t : ℕ) → statement-lts.Need-add-t20 (statement-calls t) (statement-at t) statement′.Post
+statement-add-t20 t c = let b = c .before .before .before .before .before .before .before .before .before .pre .1 in omega arith
 
 statement-enum-known-m : (t : ℕ) → statement-lts.Need-enum-known-m (statement-calls t) (statement-at t) statement′.Post
 statement-enum-known-m t c = search needs
+
+statement-enum-known-m-2 : (t : ℕ) → statement-lts.Need-enum-known-m-2 (statement-calls t) (statement-at t) statement′.Post
+statement-enum-known-m-2 t c = search needs
 
 statement-nested-requires : (t : ℕ) → statement-lts.Need-nested-requires (statement-calls t) (statement-at t) statement′.Post
 statement-nested-requires t c κs = search needs
@@ -209,7 +209,7 @@ statement-add-start t c = let b = c .before .before .before .before .before .bef
 
 statement-start-requires : (t : ℕ) → statement-lts.Need-start-requires (statement-calls t) (statement-at t) statement′.Post
 statement-start-requires t c κs =
-    let f = nested-true (c .before .before .before .nested .result) (c .before .before .before .before .before .before .before .before .before .before .before .before .before .before .args .at) (c .before .before .before .before .before .m .given .0 .0) (c .before .before .before .before .before .m .given .0 .1 .0) (c .before .before .before .before .before .before .before .before .before .before .before .before .before .before .args .next) (c .before .before .before .nested .ensures) (c .before .before .if1 .taken) in
+    let f = nested-true (c .before .before .before .nested .result) (c .before .before .before .before .before .before .before .before .before .before .before .before .before .before .args .at) (c .before .before .before .before .before .m2 .given .0 .0) (c .before .before .before .before .before .m2 .given .0 .1 .0) (c .before .before .before .before .before .before .before .before .before .before .before .before .before .before .args .next) (c .before .before .before .nested .ensures) (c .before .before .if1 .taken) in
     let b = c .before .before .before .before .before .before .before .before .before .before .before .before .before .before .pre .1 in
     let t0 = c .before .before .before .before .before .before .before .before .before .before .before .before .before .before .pre .0 in
     (omega arith, record { order = omega arith; few = omega arith; room = omega arith })
@@ -222,15 +222,15 @@ statement-same-length-2 t c = search needs
 
 statement-returns : (t : ℕ) → statement-lts.Need-returns (statement-calls t) (statement-at t) statement′.Post
 statement-returns t c =
-    let f = nested-true (c .before .before .before .before .before .before .nested .result) (c .before .before .before .before .before .before .before .before .before .before .before .before .before .before .before .before .before .args .at) (c .before .before .before .before .before .before .before .before .m .given .0 .0) (c .before .before .before .before .before .before .before .before .m .given .0 .1 .0) (c .before .before .before .before .before .before .before .before .before .before .before .before .before .before .before .before .before .args .next) (c .before .before .before .before .before .before .nested .ensures) (c .before .before .before .before .before .if1 .taken) in
+    let f = nested-true (c .before .before .before .before .before .before .nested .result) (c .before .before .before .before .before .before .before .before .before .before .before .before .before .before .before .before .before .args .at) (c .before .before .before .before .before .before .before .before .m2 .given .0 .0) (c .before .before .before .before .before .before .before .before .m2 .given .0 .1 .0) (c .before .before .before .before .before .before .before .before .before .before .before .before .before .before .before .before .before .args .next) (c .before .before .before .before .before .before .nested .ensures) (c .before .before .before .before .before .if1 .taken) in
     let b = c .before .before .before .before .before .before .before .before .before .before .before .before .before .before .before .before .before .pre .1 in
     let u = c .before .before .start .ensures .0 in (
       omega arith,
-      (λ f w s h l. enters-stand (c .before .before .before .before .before .before .before .before .before .before .before .before .before .before .before .before .before .args .codes .now) (c .before .before .before .before .before .before .before .before .before .before .before .before .before .before .before .before .before .args .args .now) (c .before .before .before .before .before .before .before .before .before .before .before .before .before .before .before .before .before .args .rows .now) (c .before .before .before .before .before .before .before .before .before .before .before .before .before .before .before .before .before .args .inputs .now) (c .before .before .before .before .before .before .before .before .before .before .before .before .before .before .before .before .before .args .at) (c .before .before .before .before .before .before .before .before .before .before .before .before .before .before .before .before .before .args .next) (c .before .before .before .before .before .before .before .before .before .before .before .before .before .before .before .before .before .args .count) (c .before .before .before .before .before .before .before .before .before .before .before .before .before .before .before .before .before .args .outputs .now) (c .before .before .before .before .before .before .before .before .before .before .before .before .before .before .before .before .before .args .variables .now) _ _ (c .before .before .before .before .before .before .before .before .before .before .before .before .perform .result) (c .before .before .before .before .before .before .before .before .m .given .0 .0) (c .before .before .before .before .before .before .before .before .m .given .0 .1 .0) (c .before .before .start .result) _ _ w (c .before .before .before .before .before .before .before .before .before .before .before .before .perform .ensures) (c .before .before .before .before .before .before .before .before .m .given .1) (c .before .before .start .ensures .1) s h l),
+      (λ f w s h l. enters-stand (c .before .before .before .before .before .before .before .before .before .before .before .before .before .before .before .before .before .args .codes .now) (c .before .before .before .before .before .before .before .before .before .before .before .before .before .before .before .before .before .args .args .now) (c .before .before .before .before .before .before .before .before .before .before .before .before .before .before .before .before .before .args .rows .now) (c .before .before .before .before .before .before .before .before .before .before .before .before .before .before .before .before .before .args .inputs .now) (c .before .before .before .before .before .before .before .before .before .before .before .before .before .before .before .before .before .args .at) (c .before .before .before .before .before .before .before .before .before .before .before .before .before .before .before .before .before .args .next) (c .before .before .before .before .before .before .before .before .before .before .before .before .before .before .before .before .before .args .count) (c .before .before .before .before .before .before .before .before .before .before .before .before .before .before .before .before .before .args .outputs .now) (c .before .before .before .before .before .before .before .before .before .before .before .before .before .before .before .before .before .args .variables .now) _ _ (c .before .before .before .before .before .before .before .before .before .before .before .before .perform .result) (c .before .before .before .before .before .before .before .before .m2 .given .0 .0) (c .before .before .before .before .before .before .before .before .m2 .given .0 .1 .0) (c .before .before .start .result) _ _ w (c .before .before .before .before .before .before .before .before .before .before .before .before .perform .ensures) (c .before .before .before .before .before .before .before .before .m2 .given .1) (c .before .before .start .ensures .1) s h l),
     )
 
-statement-add-t26 : (t : ℕ) → statement-lts.Need-add-t26 (statement-calls t) (statement-at t) statement′.Post
-statement-add-t26 t c = let b = c .before .before .before .before .before .before .before .before .before .before .before .before .pre .1 in omega arith
+statement-add-t27 : (t : ℕ) → statement-lts.Need-add-t27 (statement-calls t) (statement-at t) statement′.Post
+statement-add-t27 t c = let b = c .before .before .before .before .before .before .before .before .before .before .before .before .pre .1 in omega arith
 
 statement-same-length-3 : (t : ℕ) → statement-lts.Need-same-length-3 (statement-calls t) (statement-at t) statement′.Post
 statement-same-length-3 t c = search needs
@@ -254,7 +254,7 @@ statement-same-length-6 t c = search needs
 statement-returns-3 : (t : ℕ) → statement-lts.Need-returns-3 (statement-calls t) (statement-at t) statement′.Post
 statement-returns-3 t c = (
   omega arith,
-  (λ f w s h l. refuses-stand (c .before .before .before .before .before .before .before .before .before .args .codes .now) (c .before .before .before .before .before .before .before .before .before .args .args .now) (c .before .before .before .before .before .before .before .before .before .args .rows .now) (c .before .before .before .before .before .before .before .before .before .args .inputs .now) (c .before .before .before .before .before .before .before .before .before .args .at) (c .before .before .before .before .before .before .before .before .before .args .next) (c .before .before .before .before .before .before .before .before .before .args .count) (c .before .before .before .before .before .before .before .before .before .args .outputs .now) (c .before .before .before .before .before .before .before .before .before .args .variables .now) _ _ (c .before .before .before .before .perform .result) w (c .before .before .before .before .perform .ensures) (c .enum-told2 .given .1) s h),
+  (λ f w s h l. refuses-stand (c .before .before .before .before .before .before .before .before .before .before .args .codes .now) (c .before .before .before .before .before .before .before .before .before .before .args .args .now) (c .before .before .before .before .before .before .before .before .before .before .args .rows .now) (c .before .before .before .before .before .before .before .before .before .before .args .inputs .now) (c .before .before .before .before .before .before .before .before .before .before .args .at) (c .before .before .before .before .before .before .before .before .before .before .args .next) (c .before .before .before .before .before .before .before .before .before .before .args .count) (c .before .before .before .before .before .before .before .before .before .before .args .outputs .now) (c .before .before .before .before .before .before .before .before .before .before .args .variables .now) _ _ (c .before .before .before .before .before .perform .result) w (c .before .m .given .0 .0) (c .before .before .before .before .before .perform .ensures) (c .before .m .given .1) s h),
 )
 
 statement-same-length-7 : (t : ℕ) → statement-lts.Need-same-length-7 (statement-calls t) (statement-at t) statement′.Post
@@ -267,7 +267,7 @@ statement-returns-4 : (t : ℕ) → statement-lts.Need-returns-4 (statement-call
 statement-returns-4 t c =
     let b = c .before .before .before .before .before .before .before .before .before .before .before .before .pre .1 in (
       omega arith,
-      (λ f w s h l. absurd (never-outside (c .before .before .before .before .before .before .before .before .before .before .before .before .args .codes .now) (c .before .before .before .before .before .before .before .before .before .before .before .before .args .args .now) (c .before .before .before .before .before .before .before .before .before .before .before .before .args .rows .now) (c .before .before .before .before .before .before .before .before .before .before .before .before .args .inputs .now) (c .before .before .before .before .before .before .before .before .before .before .before .before .args .at) (c .before .before .before .before .before .before .before .before .before .before .before .before .args .next) (c .before .before .before .before .before .before .before .before .before .before .before .before .args .count) (c .before .before .before .before .before .before .before .before .before .before .before .before .args .outputs .now) (c .before .before .before .before .before .before .before .before .before .before .before .before .args .variables .now) _ _ (c .before .before .before .before .before .before .before .perform .result) w (c .before .before .before .m .given .0 .0) (c .before .before .before .m .given .0 .1 .0) (c .before .nested .result) (c .before .before .before .before .before .before .before .perform .ensures) (c .before .before .before .m .given .1) (c .before .nested .ensures) (c .if1 .left) s h)),
+      (λ f w s h l. absurd (never-outside (c .before .before .before .before .before .before .before .before .before .before .before .before .args .codes .now) (c .before .before .before .before .before .before .before .before .before .before .before .before .args .args .now) (c .before .before .before .before .before .before .before .before .before .before .before .before .args .rows .now) (c .before .before .before .before .before .before .before .before .before .before .before .before .args .inputs .now) (c .before .before .before .before .before .before .before .before .before .before .before .before .args .at) (c .before .before .before .before .before .before .before .before .before .before .before .before .args .next) (c .before .before .before .before .before .before .before .before .before .before .before .before .args .count) (c .before .before .before .before .before .before .before .before .before .before .before .before .args .outputs .now) (c .before .before .before .before .before .before .before .before .before .before .before .before .args .variables .now) _ _ (c .before .before .before .before .before .before .before .perform .result) w (c .before .before .before .m2 .given .0 .0) (c .before .before .before .m2 .given .0 .1 .0) (c .before .nested .result) (c .before .before .before .before .before .before .before .perform .ensures) (c .before .before .before .m2 .given .1) (c .before .nested .ensures) (c .if1 .left) s h)),
     )
 
 pub +start+statement-spec : {M : Type 1} → statement M
@@ -306,16 +306,16 @@ pub +start+statement-spec : {M : Type 1} → statement M
     statement′.Post
     (statement-perform-requires t)
     (statement-enum-told t)
-    (statement-add-t19 t)
-    (statement-enum-told-2 t)
+    (statement-add-t20 t)
     (statement-enum-known-m t)
+    (statement-enum-known-m-2 t)
     (statement-nested-requires t)
     (statement-add-start t)
     (statement-start-requires t)
     (statement-same-length t)
     (statement-same-length-2 t)
     (statement-returns t)
-    (statement-add-t26 t)
+    (statement-add-t27 t)
     (statement-same-length-3 t)
     (statement-same-length-4 t)
     (statement-returns-2 t)

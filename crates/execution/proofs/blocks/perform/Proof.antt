@@ -24,11 +24,11 @@ returns c =
     let E = valueIn (s .codes .now) (s .args .now) (r .from) (r .to) (s .inputs .now) (s .variables .now) in
     wait-comes r (s .at) E (s .outputs .now) (s .variables .now) (c .before .entry .result) (c .before .entry .ensures .0) (c .if1 .taken)
 
-add-t16 : tie.Need-add-t16
-add-t16 c = search needs
-
 add-t17 : tie.Need-add-t17
 add-t17 c = search needs
+
+add-t18 : tie.Need-add-t18
+add-t18 c = search needs
 
 returns-2 : tie.Need-returns-2
 returns-2 c =
@@ -58,11 +58,11 @@ entry-requires-3 c κs = search needs
 evaluate-requires : tie.Need-evaluate-requires
 evaluate-requires c κs = search needs
 
-enum-told : tie.Need-enum-told
-enum-told c = search needs
-
 enum-known-e : tie.Need-enum-known-e
 enum-known-e c = search needs
+
+enum-known-e-2 : tie.Need-enum-known-e-2
+enum-known-e-2 c = search needs
 
 mul-entry-4 : tie.Need-mul-entry-4
 mul-entry-4 c = search needs
@@ -94,9 +94,9 @@ returns-3 c =
     let r = rowIn (s .rows .now) (s .at) in
     let E = valueIn (s .codes .now) (s .args .now) (r .from) (r .to) (s .inputs .now) (s .variables .now) in
     let q : c .before .before .before .before .before .before .before .evaluate .result ≡ checkedOf E = rw (c .before .before .before .before .before .before .before .before .before .before .entry2 .ensures .0, c .before .before .before .before .before .before .before .before .before .entry3 .ensures .0) at (c .before .before .before .before .before .before .before .evaluate .ensures .0) in
-    let fit : SFits w32 (c .before .before .before .before .before .e .given .0 .0) = search needs in
-    branch-comes r (s .at) E (s .outputs .now) (s .variables .now) (c .before .before .before .before .before .before .before .before .before .before .before .before .before .entry .result) (c .before .before .entry4 .result) (c .before .entry5 .result) (c .before .before .before .before .before .e .given .0 .0) (c .before .before .before .before .before .before .before .evaluate .result) (c .branch .result)
-    (c .before .before .before .before .before .before .before .before .before .before .before .before .before .entry .ensures .0) (c .before .before .before .if3 .taken) q (c .before .before .before .before .before .e .given .1) (c .before .before .entry4 .ensures .0) (c .before .entry5 .ensures .0) (rw (toZ-ofZ fit) at (c .branch .ensures))
+    let fit : SFits w32 (c .before .before .before .before .before .e2 .given .0 .0) = search needs in
+    branch-comes r (s .at) E (s .outputs .now) (s .variables .now) (c .before .before .before .before .before .before .before .before .before .before .before .before .before .entry .result) (c .before .before .entry4 .result) (c .before .entry5 .result) (c .before .before .before .before .before .e2 .given .0 .0) (c .before .before .before .before .before .before .before .evaluate .result) (c .branch .result)
+    (c .before .before .before .before .before .before .before .before .before .before .before .before .before .entry .ensures .0) (c .before .before .before .if3 .taken) q (c .before .before .before .before .before .e2 .given .1) (c .before .before .entry4 .ensures .0) (c .before .entry5 .ensures .0) (rw (toZ-ofZ fit) at (c .branch .ensures))
 
 mul-entry-6 : tie.Need-mul-entry-6
 mul-entry-6 c = search needs
@@ -128,9 +128,9 @@ returns-4 c =
     let r = rowIn (s .rows .now) (s .at) in
     let E = valueIn (s .codes .now) (s .args .now) (r .from) (r .to) (s .inputs .now) (s .variables .now) in
     let q : c .before .before .before .before .before .before .before .before .evaluate .result ≡ checkedOf E = rw (c .before .before .before .before .before .before .before .before .before .before .before .entry2 .ensures .0, c .before .before .before .before .before .before .before .before .before .before .entry3 .ensures .0) at (c .before .before .before .before .before .before .before .before .evaluate .ensures .0) in
-    let fit : SFits w32 (c .before .before .before .before .before .before .e .given .0 .0) = search needs in
-    loop-comes r (s .at) E (s .outputs .now) (s .variables .now) (c .before .before .before .before .before .before .before .before .before .before .before .before .before .before .entry .result) (c .before .before .entry6 .result) (c .before .entry7 .result) (c .before .before .before .before .before .before .e .given .0 .0) (c .before .before .before .before .before .before .before .before .evaluate .result) (c .branch2 .result)
-    (c .before .before .before .before .before .before .before .before .before .before .before .before .before .before .entry .ensures .0) (c .before .before .before .if4 .taken) q (c .before .before .before .before .before .before .e .given .1) (c .before .before .entry6 .ensures .0) (c .before .entry7 .ensures .0) (rw (toZ-ofZ fit) at (c .branch2 .ensures))
+    let fit : SFits w32 (c .before .before .before .before .before .before .e2 .given .0 .0) = search needs in
+    loop-comes r (s .at) E (s .outputs .now) (s .variables .now) (c .before .before .before .before .before .before .before .before .before .before .before .before .before .before .entry .result) (c .before .before .entry6 .result) (c .before .entry7 .result) (c .before .before .before .before .before .before .e2 .given .0 .0) (c .before .before .before .before .before .before .before .before .evaluate .result) (c .branch2 .result)
+    (c .before .before .before .before .before .before .before .before .before .before .before .before .before .before .entry .ensures .0) (c .before .before .before .if4 .taken) q (c .before .before .before .before .before .before .e2 .given .1) (c .before .before .entry6 .ensures .0) (c .before .entry7 .ensures .0) (rw (toZ-ofZ fit) at (c .branch2 .ensures))
 
 mul-entry-8 : tie.Need-mul-entry-8
 mul-entry-8 c = search needs
@@ -147,22 +147,22 @@ store-requires c κs = search needs
 store-requires-2 : tie.Need-store-requires-2
 store-requires-2 c κs = search needs
 
-add-t35 : tie.Need-add-t35
-add-t35 c = search needs
-
 add-t36 : tie.Need-add-t36
 add-t36 c = search needs
+
+add-t37 : tie.Need-add-t37
+add-t37 c = search needs
 
 same-length-3 : tie.Need-same-length-3
 same-length-3 c = search needs
 
 returns-5 : tie.Need-returns-5
 returns-5 c =
-    let s = c .before .before .before .before .before .before .before .before .before .before .before .args in
+    let s = c .before .before .before .before .before .before .before .before .before .before .before .before .args in
     let r = rowIn (s .rows .now) (s .at) in
     let E = valueIn (s .codes .now) (s .args .now) (r .from) (r .to) (s .inputs .now) (s .variables .now) in
-    let q : c .before .before .evaluate .result ≡ checkedOf E = rw (c .before .before .before .before .before .entry2 .ensures .0, c .before .before .before .before .entry3 .ensures .0) at (c .before .before .evaluate .ensures .0) in
-    fault-comes r (s .at) E (s .outputs .now) (s .variables .now) (c .before .before .before .before .before .before .before .before .entry .result) (c .enum-told .given .0 .0) (c .before .before .evaluate .result) (c .before .before .before .before .before .before .before .before .entry .ensures .0) (c .before .before .before .before .before .before .before .if1 .left) (c .before .before .before .before .before .before .if2 .left) q (c .enum-told .given .1)
+    let q : c .before .before .before .evaluate .result ≡ checkedOf E = rw (c .before .before .before .before .before .before .entry2 .ensures .0, c .before .before .before .before .before .entry3 .ensures .0) at (c .before .before .before .evaluate .ensures .0) in
+    fault-comes r (s .at) E (s .outputs .now) (s .variables .now) (c .before .before .before .before .before .before .before .before .before .entry .result) (c .before .e .given .0 .0) (c .before .before .before .evaluate .result) (c .before .before .before .before .before .before .before .before .before .entry .ensures .0) (c .before .before .before .before .before .before .before .before .if1 .left) (c .before .before .before .before .before .before .before .if2 .left) q (c .before .e .given .1)
 
 same-length-4 : tie.Need-same-length-4
 same-length-4 c = search needs
@@ -176,9 +176,9 @@ returns-6 c =
     let r = rowIn (s .rows .now) (s .at) in
     let E = valueIn (s .codes .now) (s .args .now) (r .from) (r .to) (s .inputs .now) (s .variables .now) in
     let q : c .before .before .before .before .before .before .before .before .before .before .before .before .evaluate .result ≡ checkedOf E = rw (c .before .before .before .before .before .before .before .before .before .before .before .before .before .before .before .entry2 .ensures .0, c .before .before .before .before .before .before .before .before .before .before .before .before .before .before .entry3 .ensures .0) at (c .before .before .before .before .before .before .before .before .before .before .before .before .evaluate .ensures .0) in
-    let fit : SFits w32 (c .before .before .before .before .before .before .before .before .before .before .e .given .0 .0) = search needs in
-    store-comes r (s .at) E (s .outputs .now) (s .variables .now) (c .before .before .before .before .before .before .before .before .before .before .before .before .before .before .before .before .before .before .entry .result) (c .before .before .before .before .before .before .entry8 .result) (c .before .before .before .before .before .before .before .before .before .before .e .given .0 .0) (c .before .before .before .before .before .before .before .before .before .before .before .before .evaluate .result) _ _
-    (c .before .before .before .before .before .before .before .before .before .before .before .before .before .before .before .before .before .before .entry .ensures .0) (c .before .before .before .before .before .before .before .before .before .before .before .before .before .before .before .before .before .if1 .left) (c .before .before .before .before .before .before .before .before .before .before .before .before .before .before .before .before .if2 .left) (c .before .before .before .before .before .before .before .before .if3 .left) (c .before .before .before .before .before .before .before .if4 .left) q (c .before .before .before .before .before .before .before .before .before .before .e .given .1) (c .before .before .before .before .before .before .entry8 .ensures .0) (rw (toZ-ofZ fit) at (c .before .before .before .before .store .ensures)) (rw (toZ-ofZ fit) at (c .before .store2 .ensures))
+    let fit : SFits w32 (c .before .before .before .before .before .before .before .before .before .before .e2 .given .0 .0) = search needs in
+    store-comes r (s .at) E (s .outputs .now) (s .variables .now) (c .before .before .before .before .before .before .before .before .before .before .before .before .before .before .before .before .before .before .entry .result) (c .before .before .before .before .before .before .entry8 .result) (c .before .before .before .before .before .before .before .before .before .before .e2 .given .0 .0) (c .before .before .before .before .before .before .before .before .before .before .before .before .evaluate .result) _ _
+    (c .before .before .before .before .before .before .before .before .before .before .before .before .before .before .before .before .before .before .entry .ensures .0) (c .before .before .before .before .before .before .before .before .before .before .before .before .before .before .before .before .before .if1 .left) (c .before .before .before .before .before .before .before .before .before .before .before .before .before .before .before .before .if2 .left) (c .before .before .before .before .before .before .before .before .if3 .left) (c .before .before .before .before .before .before .before .if4 .left) q (c .before .before .before .before .before .before .before .before .before .before .e2 .given .1) (c .before .before .before .before .before .before .entry8 .ensures .0) (rw (toZ-ofZ fit) at (c .before .before .before .before .store .ensures)) (rw (toZ-ofZ fit) at (c .before .store2 .ensures))
 
 pub perform-spec : {M : Type 1} → statement M
 perform-spec =
@@ -187,8 +187,8 @@ perform-spec =
     mul-entry
     entry-requires
     returns
-    add-t16
     add-t17
+    add-t18
     returns-2
     mul-entry-2
     add-entry
@@ -197,8 +197,8 @@ perform-spec =
     add-entry-2
     entry-requires-3
     evaluate-requires
-    enum-told
     enum-known-e
+    enum-known-e-2
     mul-entry-4
     add-entry-3
     entry-requires-4
@@ -222,8 +222,8 @@ perform-spec =
     entry-requires-8
     store-requires
     store-requires-2
-    add-t35
     add-t36
+    add-t37
     same-length-3
     returns-5
     same-length-4
