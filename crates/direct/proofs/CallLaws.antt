@@ -14,7 +14,8 @@ use lib.IntN.{ℤ, pos}
 use lib.Dec.{eqb, ltb, leb}
 use Rattle.answers.specs.declared.State.{State}
 use Rattle.answers.specs.declared.Cycled.the-variants.{Performed, NotPerformed}
-use Rattle.answers.specs.declared.Refusal.the-variants.{BadRow, BadState, OutOfRange}
+use Rattle.answers.specs.declared.Refusal.{Refusal}
+use Rattle.answers.specs.declared.Refusal.the-variants.{BadRow, BadState}
 use Rattle.design.specs.Types.{Ty, ExprTy, boolean}
 use Rattle.design.specs.Expression.{Expr, items, nth, plainly, typeOf}
 use Rattle.design.specs.Statement.{output, variable, null, Stmt, act, wait, if-then, if-else, while, seq, size, has}
@@ -45,9 +46,11 @@ use Rattle.execution.specs.declared.Progress.the-variants.{Passed, Reached, Ref
 use Rattle.direct.specs.declared.RowCheck.{RowCheck}
 use Rattle.direct.specs.declared.RowCheck.the-variants.{Right, WrongAt}
 use Rattle.answers.specs.declared.Advanced.{Advanced}
-use Rattle.answers.specs.Answers.{done, refusal, cycleTold}
+use Rattle.answers.specs.Answers.{done, refusal, cycleTold, operatorRefusal}
+use Rattle.answers.proofs.Refusals.{operator-told}
 use Rattle.execution.proofs.ResumeLaws.{not-below, not-above}
 use Rattle.direct.proofs.CheckLaws.{wrong-values, slots-types}
+use Rattle.direct.proofs.Numbers.{cycle-number}
 
 -- THE DESIGN
 
@@ -249,11 +252,18 @@ module _ (p : Process) (s : State) (f : fitsText p s ≡ true) where
           row = q ∙ made-row o′ a;
         })
 
-    pub refused-advances : (x : ℕ) (o′ v′ : List ℤ) → Stands Cycle (Refused x) o′ v′ → (a : Advanced) → a ≡ record { state = s; answer = NotPerformed (OutOfRange x) }
+    pub refused-advances : (m x : ℕ) (o′ v′ : List ℤ) → Stands Cycle (Refused m x) o′ v′
+        → (a : Advanced) → a ≡ record { state = s; answer = NotPerformed (operatorRefusal m x) }
         → Advances (cycled p (keptOf p s) (callOf i o)) a o
     unfolding keptOf concluded
-    refused-advances x o′ v′ t A e =
-        rw (t .is .1) (record { answer = ap (λ (y : Advanced). cycleTold (y .answer)) e; state = ap (λ (y : Advanced). y .state) e ∙ sym (kept-laid p s f); row = refl })
+    refused-advances m x o′ v′ t A e =
+        let u = cycle-number i m x (p .body) (placeFor (s .place)) (run [] (take (length (p .outputs)) (s .outputs)) (take (length (p .variables)) (s .variables))) (t .is) in
+        rw (t .is)
+        (record {
+          answer = ap (λ (y : Advanced). cycleTold (y .answer)) e ∙ operator-told m x u;
+          state = ap (λ (y : Advanced). y .state) e ∙ sym (kept-laid p s f);
+          row = refl;
+        })
 
 -- THE CYCLE ON COPIES OF THE SLOTS IN USE
 
@@ -311,8 +321,10 @@ module _ (p : Process) (s : State) (f : fitsText p s ≡ true) (w : WellFormed p
       (u .0 ∙ ap (λ (y : State). record { state = y; answer = Performed k }) (back z))
       (u .1 ∙ ap (λ (y : List ℤ). take (length o) y) (b ∙ ap (λ (j : ℕ). o′ ++ drop j (s .outputs)) oc))
 
-  pub run-refused : (r : Progress) (x : ℕ) (a : Advanced) → Stands Ran r o′ v′ → r ≡ Refused x → a ≡ record { state = s; answer = NotPerformed (OutOfRange x) } → Advances (cycled p (keptOf p s) (callOf i o)) a o
-  run-refused r x a t e q = refused-advances p s f w i o room x o′ v′ (rw (ran, e) at t) a q
+  pub run-refused : (r : Progress) (m x : ℕ) (y : Refusal) (a : Advanced) → Stands Ran r o′ v′ → r ≡ Refused m x
+      → y ≡ operatorRefusal m x → a ≡ record { state = s; answer = NotPerformed y } → Advances (cycled p (keptOf p s) (callOf i o)) a o
+  run-refused r m x y a t e g q =
+      refused-advances p s f w i o room m x o′ v′ (rw (ran, e) at t) a (q ∙ ap (λ (z : Refusal). record { state = s; answer = NotPerformed z }) g)
 
 -- CALLS
 module _ (p : Process) (s : State) (i o : List ℤ) where

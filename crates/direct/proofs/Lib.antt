@@ -1,3 +1,4 @@
 pub mod CheckLaws
+mod Numbers
 pub mod CallLaws
 pub mod TallyArrays

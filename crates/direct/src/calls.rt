@@ -21,6 +21,7 @@ use answers::Advanced;
 use answers::Cycled;
 use answers::Refusal;
 use answers::State;
+use answers::operator_refusal;
 use answers::refused;
 use execution::Progress;
 use execution::cycles::cycle;
@@ -105,7 +106,7 @@ fn run(
     match r {
         Progress::Passed(n) => performed(s, 512, n, outputs, variables, row),
         Progress::Reached(p, n) => performed(s, p, n, outputs, variables, row),
-        Progress::Refused(x) => refused(s, Refusal::OutOfRange(x)),
+        Progress::Refused(q, x) => refused(s, operator_refusal(q, x)),
     }
 }
 

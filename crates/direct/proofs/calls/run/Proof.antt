@@ -59,6 +59,9 @@ performed-requires-2 c κs = search needs
 enum-known-r-3 : tie.Need-enum-known-r-3
 enum-known-r-3 c = search needs
 
+operator-refusal-requires : tie.Need-operator-refusal-requires
+operator-refusal-requires c κs = search needs
+
 refused-requires-3 : tie.Need-refused-requires-3
 refused-requires-3 c κs = search needs
 
@@ -82,9 +85,14 @@ returns-4 c =
 
 returns-5 : tie.Need-returns-5
 returns-5 c =
+    let s = c .before .before .before .before .before .before .before .before .before .before .before .before .before .before .before .before .before .args in
     λ p d oc vc room f.
-    run-refused p (c .before .before .before .before .before .before .before .before .before .before .before .before .before .before .before .before .args .s) f (d .well-formed) (c .before .before .before .before .before .before .before .before .before .before .before .before .before .before .before .before .args .inputs .now) (c .before .before .before .before .before .before .before .before .before .before .before .before .before .before .before .before .args .row .now) room (c .before .before .before .before .before .before .before .before .before .before .before .before .before .before .before .before .args .output-count) (c .before .before .before .before .before .before .before .before .before .before .before .before .before .before .before .before .args .variable-count) oc vc _ _ (c .before .before .before .before .before .before .cycle .result) (c .before .before .r3 .given .0 .0) (c .refused3 .result)
-    (c .before .before .before .before .before .before .cycle .ensures (p .body) (d .body) (d .block) (let b = d .well-formed .statements in let e = d .body .end in omega arith) (parts p (c .before .before .before .before .before .before .before .before .before .before .before .before .before .before .before .before .args .s) f .0)) (c .before .before .r3 .given .1) (c .refused3 .ensures)
+    run-refused p (s .s) f (d .well-formed) (s .inputs .now) (s .row .now) room (s .output-count) (s .variable-count) oc vc _ _
+    (c .before .before .before .before .before .before .before .cycle .result) (c .before .before .before .r3 .given .0 .0)
+    (c .before .before .before .r3 .given .0 .1 .0) (c .before .operator-refusal .result) (c .refused3 .result)
+    (c .before .before .before .before .before .before .before .cycle .ensures (p .body) (d .body) (d .block)
+    (let b = d .well-formed .statements in let e = d .body .end in omega arith) (parts p (s .s) f .0))
+    (c .before .before .before .r3 .given .1) (c .before .operator-refusal .ensures) (c .refused3 .ensures)
 
 pub run-spec : {M : Type 1} → statement M
 run-spec =
@@ -107,6 +115,7 @@ run-spec =
     enum-known-r-2
     performed-requires-2
     enum-known-r-3
+    operator-refusal-requires
     refused-requires-3
     same-length
     returns-3
