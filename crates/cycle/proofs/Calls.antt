@@ -1,5 +1,5 @@
 -- What the code's steps come to is the format's call: the state is the layout of a memory, the lines followed from it are the table's cycle, and a row on a
--- good table is performed or refused by 16 where rows and state are right. Assumes nothing.
+-- good table is performed or refused by an operator's number where rows and state are right. Assumes nothing.
 use Prim.Native.Nat.{ℕ, _≤_, _<_}
 use native.Mathlib.Omega.{arith}
 use mathlib.Core.Path.{_≡_, refl, sym, ap, subst, _∙_}
@@ -10,7 +10,8 @@ use lib.ListN.{length, drop-of-length-le}
 use lib.IntN.{ℤ}
 use Rattle.answers.specs.declared.State.{State}
 use Rattle.answers.specs.declared.Cycled.the-variants.{Performed, NotPerformed}
-use Rattle.answers.specs.declared.Refusal.the-variants.{BadRow, BadState, OutOfRange}
+use Rattle.answers.specs.declared.Refusal.{Refusal}
+use Rattle.answers.specs.declared.Refusal.the-variants.{BadRow, BadState}
 use Rattle.semantics.specs.Equations.{Memory}
 use Rattle.semantics.proofs.Basic.{none-some, and-left}
 use Rattle.format.specs.Walk.{tableCycle}
@@ -32,7 +33,8 @@ use Rattle.table.specs.declared.RowCheck.{RowCheck}
 use Rattle.table.specs.declared.RowCheck.the-variants.{Right, WrongAt}
 use Rattle.table.specs.Answers.{checkOf}
 use Rattle.answers.specs.declared.Advanced.{Advanced}
-use Rattle.answers.specs.Answers.{done, refusal, cycleTold}
+use Rattle.answers.specs.Answers.{done, refusal, refusedBy, cycleTold, operatorRefusal}
+use Rattle.answers.proofs.Refusals.{operator-told}
 use Rattle.cycle.specs.Ran.{Checked, went, ranFor}
 use Rattle.cycle.specs.Moves.{rowAfter, Moves}
 use Rattle.semantics.specs.Advances.{Advances, cycleAnswer}
@@ -73,9 +75,9 @@ module _ (s l c : List ℕ) (t : Table) (h : Checked s l c t) (x : State) (i o :
           → (p < 65536) × ((a : Advanced) → a ≡ record { state = record { place = p; outputs = o′; variables = v′ }; answer = Performed n } → Moves (rowOf t x i o) a)
       on r q (row-refused k m) = none-some k (sym right ∙ row-exactly (t .signature) i (length o) k .1 m)
       on r q (state-refused m g) = absurd (g good)
-      on r q (operator-refused y m g b z) =
-          let w : ranFor t l c (x .place) i (x .outputs) (x .variables) .answer ≡ Stopped 16 y = rw z at state-shows in
-          let f : Reached p n ≡ Stopped 16 y = ap (λ (u : Went). u .answer) e ∙ w in
+      on r q (operator-refused number y is m g b z) =
+          let w : ranFor t l c (x .place) i (x .outputs) (x .variables) .answer ≡ Stopped number y = rw z at state-shows in
+          let f : Reached p n ≡ Stopped number y = ap (λ (u : Went). u .answer) e ∙ w in
           absurd (let d : _≡_ {A = ℕ} 0 1 = cc in omega arith)
       on r q (performs p′ τ m g z w y gs lo) =
           let u : ranFor t l c (x .place) i (x .outputs) (x .variables) ≡ record { answer = Reached p′ (length (τ .way)); outputs = pad 16 (τ .memory .outputs); variables = pad 32 (τ .memory .variables) } = rw z at state-shows in
@@ -93,20 +95,22 @@ module _ (s l c : List ℕ) (t : Table) (h : Checked s l c t) (x : State) (i o :
             }),
           )
 
-  -- an operator was refused
-  pub stopped-moves : (z y : ℕ) (o′ v′ : List ℤ) → went (Stopped z y) o′ v′ ≡ ranFor t l c (x .place) i (x .outputs) (x .variables)
-      → (a : Advanced) → a ≡ record { state = x; answer = NotPerformed (OutOfRange y) } → Moves (rowOf t x i o) a
-  stopped-moves z y o′ v′ e a ea = on (rowOf t x i o) refl (row-outcome t (h .held .good) x i o)
+  -- an operator was refused: by its number, at its line
+  pub stopped-moves : (z y : ℕ) (d : Refusal) (o′ v′ : List ℤ) → went (Stopped z y) o′ v′ ≡ ranFor t l c (x .place) i (x .outputs) (x .variables)
+      → d ≡ operatorRefusal z y → (a : Advanced) → a ≡ record { state = x; answer = NotPerformed d } → Moves (rowOf t x i o) a
+  stopped-moves z y d o′ v′ e ed a ea = on (rowOf t x i o) refl (row-outcome t (h .held .good) x i o)
     where
       on : (r : Called) → rowOf t x i o ≡ r → Outcome t x i o r → Moves (rowOf t x i o) a
       on r q (row-refused k m) = none-some k (sym right ∙ row-exactly (t .signature) i (length o) k .1 m)
       on r q (state-refused m g) = absurd (g good)
-      on r q (operator-refused y′ m g b u) =
-          let w : ranFor t l c (x .place) i (x .outputs) (x .variables) .answer ≡ Stopped 16 y′ = rw u at state-shows in
-          let f : Stopped z y ≡ Stopped 16 y′ = ap (λ (k : Went). k .answer) e ∙ w in
+      on r q (operator-refused number y′ is m g b u) =
+          let w : ranFor t l c (x .place) i (x .outputs) (x .variables) .answer ≡ Stopped number y′ = rw u at state-shows in
+          let f : Stopped z y ≡ Stopped number y′ = ap (λ (k : Went). k .answer) e ∙ w in
+          let ze : z ≡ number = cc in
           let ye : y ≡ y′ = cc in
+          let de : d ≡ operatorRefusal number y′ = rw (← ze, ← ye) ed in
           subst (λ (k : Called). Moves k a) (sym q) (record {
-            answer = ap (λ (k : Advanced). cycleTold (k .answer)) ea ∙ ap (refusal 16) ye;
+            answer = ap (λ (k : Advanced). cycleTold (k .answer)) ea ∙ (ap (λ (k : Refusal). refusedBy k) de ∙ operator-told number y′ is);
             state = ap (λ (k : Advanced). k .state) ea;
           })
       on r q (performs p τ m g u w d gs lo) =
@@ -120,9 +124,9 @@ module _ (s l c : List ℕ) (t : Table) (h : Checked s l c t) (x : State) (i o :
       on : {A : Type 0} (r : Called) → Outcome t x i o r → A
       on r (row-refused k m) = none-some k (sym right ∙ row-exactly (t .signature) i (length o) k .1 m)
       on r (state-refused m g) = absurd (g good)
-      on r (operator-refused y m g b u) =
-          let w : ranFor t l c (x .place) i (x .outputs) (x .variables) .answer ≡ Stopped 16 y = rw u at state-shows in
-          let f : Spent ≡ Stopped 16 y = ap (λ (k : Went). k .answer) e ∙ w in
+      on r (operator-refused number y is m g b u) =
+          let w : ranFor t l c (x .place) i (x .outputs) (x .variables) .answer ≡ Stopped number y = rw u at state-shows in
+          let f : Spent ≡ Stopped number y = ap (λ (k : Went). k .answer) e ∙ w in
           absurd (let d : _≡_ {A = ℕ} 0 1 = cc in omega arith)
       on r (performs p τ m g u w d gs lo) =
           let f = ap (λ (k : Went). k .answer) (e ∙ (rw u at state-shows)) in
@@ -170,7 +174,7 @@ module _ (t : Table) (x : State) (i o : List ℤ) where
       on : (c : Called) → Outcome t x i o c → rowAfter (cycleAnswer (c .answer)) (c .state .outputs) o ≡ c .row
       on c (row-refused k m) = refl
       on c (state-refused m w) = refl
-      on c (operator-refused y m w b z) = refl
+      on c (operator-refused number y is m w b z) = refl
       on c (performs p τ m w z v y gs lo) =
           let few : length o ≤ 16 = omega (arith, row-right (t .signature) i (length o) right .1, g .signature .outputs) in
           let n : length (pad 16 (τ .memory .outputs)) ≡ 16 = pad-length 16 (τ .memory .outputs) in

@@ -20,6 +20,7 @@ use answers::Cycled;
 use answers::Refusal;
 use answers::State;
 use answers::is_performed;
+use answers::operator_refusal;
 use answers::refused;
 use lines::Followed;
 use table::RowCheck;
@@ -102,9 +103,9 @@ fn run(signature: &[u8], lines: &[u8], code: &[u8], inputs: &[i32], s: State) ->
     );
     match f {
         Followed::Reached(p, n) => performed(s, p, n, outputs, variables),
-        Followed::Stopped(_, x) => {
+        Followed::Stopped(q, x) => {
             let at = x as usize;
-            refused(s, Refusal::OutOfRange(at))
+            refused(s, operator_refusal(q, at))
         }
         Followed::Spent => refused(s, Refusal::BadState),
     }

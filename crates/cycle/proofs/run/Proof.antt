@@ -25,6 +25,9 @@ enum-known-f-2 c = search needs
 cast-at : tie.Need-cast-at
 cast-at c = search needs
 
+operator-refusal-requires : tie.Need-operator-refusal-requires
+operator-refusal-requires c κs = search needs
+
 refused-requires : tie.Need-refused-requires
 refused-requires c κs = search needs
 
@@ -43,9 +46,9 @@ returns c t o h right ok =
 
 returns-2 : tie.Need-returns-2
 returns-2 c t o h right ok =
-    let a = c .before .before .before .before .before .before .before .before .before .before .before .before .before .before .args in
-    let e = rw (c .before .before .f2 .given .1) at (c .before .before .before .before .before .before .follow-from .ensures t h (place-right (a .signature .now) (a .lines .now) (a .code .now) t h (a .s) (a .inputs .now) o right ok)) in
-    stopped-moves (a .signature .now) (a .lines .now) (a .code .now) t h (a .s) (a .inputs .now) o right ok _ _ _ _ e _ (c .refused .ensures)
+    let a = c .before .before .before .before .before .before .before .before .before .before .before .before .before .before .before .args in
+    let e = rw (c .before .before .before .f2 .given .1) at (c .before .before .before .before .before .before .before .follow-from .ensures t h (place-right (a .signature .now) (a .lines .now) (a .code .now) t h (a .s) (a .inputs .now) o right ok)) in
+    stopped-moves (a .signature .now) (a .lines .now) (a .code .now) t h (a .s) (a .inputs .now) o right ok _ _ _ _ _ e (c .before .operator-refusal .ensures) _ (c .refused .ensures)
 
 returns-3 : tie.Need-returns-3
 returns-3 c t o h right ok =
@@ -64,6 +67,7 @@ run-spec =
     performed-requires
     enum-known-f-2
     cast-at
+    operator-refusal-requires
     refused-requires
     enum-told
     refused-requires-2
