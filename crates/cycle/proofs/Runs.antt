@@ -68,7 +68,7 @@ module _ (s l c : List ℕ) (t : Table) (h : Checked s l c t) (p : ℕ) (ok : pl
       let w : vs ≡ typeBytes (types (t .signature .variables)) = ev ∙ types-first k kinds n ek in
       rw (f .0, f .1 .0, f .1 .1, ex, z, ei, w) refl
 
-  -- What the code leaves is the table's cycle: the wait reached, the length of the way, outputs and variables with 0 behind them; or 16 and its line.
+  -- What the code leaves is the table's cycle: the wait reached, the length of the way, outputs and variables with 0 behind them; or an operator's number and its line.
   pub cycle-ran : Values (t .signature .inputs) i → (m : Memory) → Typed (t .signature) m
       → Shows (tableCycle (t .lines) (t .reaches) p i (record { way = []; memory = m })) (ranFor t l c p i (pad 16 (m .outputs)) (pad 32 (m .variables)))
   unfolding ranFor tableCycle

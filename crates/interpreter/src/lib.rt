@@ -56,7 +56,7 @@ fn run_design(
     )
 }
 
-// One call on any text: refusals 1 to 9, then 14, 15, 16, or the cycle performed. A refused one hands back the state, and the row is as it was.
+// One call on any text: refusals 1 to 9, then 14, 15, 16 or 18, or the cycle performed. A refused one hands back the state, and the row is as it was.
 pub fn run(text: &[u8], s: State, inputs: &[i32], row: &mut [i32]) -> Advanced
     ensures { λ a. ⌜ (cycleTold (a .answer) ≡ cycleAnswer (directOf (now (text .entry)) s (callOf (now (inputs .entry)) (now (row .entry))) .answer))
         × (a .state ≡ directOf (now (text .entry)) s (callOf (now (inputs .entry)) (now (row .entry))) .state)

@@ -117,7 +117,7 @@ count-bound b bytes s i o = on (openOf b) refl
     bounded : (t : Table) (c : Called) → Outcome t s i o c → countOf (cycleAnswer (c .answer)) ≤ reach (t .reaches) (from (t .lines) (s .place)) + 1
     bounded t c (row-refused k m) = omega arith
     bounded t c (state-refused m g) = omega arith
-    bounded t c (operator-refused x m g h q) = omega arith
+    bounded t c (operator-refused number x is m g h q) = omega arith
     bounded t c (performs p τ m g q w y gs lo) = let z = y .short in omega arith
 
     on : (z : Opened) → openOf b ≡ z → countOf (cycleAnswer (unlessClosed z s o (λ t. rowOf t s i o) .answer)) ≤ reachFrom z (s .place) + 1

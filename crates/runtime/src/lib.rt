@@ -54,7 +54,7 @@ pub fn cycle_opened(
     )
 }
 
-// One cycle on an image: 11, 12, 13, then 14, 15, 16, or the cycle performed. A refused one hands back the state, and the row is as it was.
+// One cycle on an image: 11, 12, 13, then 14, 15, 16 or 18, or the cycle performed. A refused one hands back the state, and the row is as it was.
 pub fn cycle(image: &[u8], s: State, inputs: &[i32], row: &mut [i32]) -> Advanced
     ensures { λ a. ⌜ (cycleTold (a .answer) ≡ cycleAnswer (cycleOf (now (image .entry)) s (now (inputs .entry)) (now (row .entry)) .answer))
         × (a .state ≡ cycleOf (now (image .entry)) s (now (inputs .entry)) (now (row .entry)) .state)
