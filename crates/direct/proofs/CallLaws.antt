@@ -50,7 +50,7 @@ use Rattle.answers.specs.Answers.{done, refusal, cycleTold, operatorRefusal}
 use Rattle.answers.proofs.Refusals.{operator-told}
 use Rattle.execution.proofs.ResumeLaws.{not-below, not-above}
 use Rattle.direct.proofs.CheckLaws.{wrong-values, slots-types}
-use Rattle.direct.proofs.Numbers.{cycle-number}
+use Rattle.semantics.proofs.Numbers.{cycle-number}
 
 -- THE DESIGN
 

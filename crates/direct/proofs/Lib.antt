@@ -1,4 +1,3 @@
 pub mod CheckLaws
-mod Numbers
 pub mod CallLaws
 pub mod TallyArrays

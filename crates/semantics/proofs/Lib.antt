@@ -14,6 +14,7 @@ pub mod Parametric
 pub mod Exact
 pub mod Automaton
 pub mod Refusal
+pub mod Numbers
 pub mod Distinct
 pub mod Way
 pub mod Ends

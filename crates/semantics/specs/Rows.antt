@@ -61,7 +61,7 @@ unfoldable pub concluded : Result → Kept → Outcome × Kept
 concluded (passed σ) k = (performed (σ .memory .outputs) (σ .way), record { place = beginning; memory = σ .memory })
 -- "The wait reached becomes the place and ends the cycle; the output row gets all outputs, what the cycle assigned included."
 concluded (reached p σ) k = (performed (σ .memory .outputs) (σ .way), record { place = at p; memory = σ .memory })
--- "A refused operator (16) refuses the row ..; all that is kept is then as before the row." The number q is 16 or 18: see `fault-number`.
+-- "A refused operator (16) refuses the row ..; all that is kept is then as before the row." The number q is 16 or 18: see `cycle-number`.
 concluded (refused q n) k = (operator-refused q n, k)
 
 -- "A row that meets 14 is refused. Otherwise the data inputs (all but the clock) hold it", and a cycle follows
