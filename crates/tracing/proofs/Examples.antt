@@ -1,4 +1,5 @@
--- The trace of tally as document 01 prints it (P1), byte for byte, computed from the text and the rows; a refused text; rows that are not readable.
+-- The trace of tally as document 01 prints it (P1), byte for byte, computed from the text and the rows; a refused text; rows that are not readable; a row
+-- with a zero divisor.
 -- Assumes nothing.
 use mathlib.Core.Path.{_≡_, refl}
 use mathlib.Core.List.{List}
@@ -9,6 +10,7 @@ use Rattle.design.specs.Statement as Statement
 use Rattle.language.specs.Bytes.{bytes}
 use Rattle.language.proofs.Computing.{computed}
 use Rattle.language.proofs.ExamplesReadings.{tallyText}
+use Rattle.semantics.specs.Division as Division
 use Rattle.semantics.specs.Evaluation as Evaluation
 use Rattle.semantics.specs.Equations as Equations
 use Rattle.semantics.specs.Rows as Rows
@@ -20,7 +22,7 @@ use Rattle.tracing.specs.Trace.{traceOf}
 
 -- opens all that a trace computes by
 unfoldable opened : List ℕ → List ℕ → List ℕ
-unfolding computed Types.inRange Types.inType Expression.bind Expression.fold Statement.size Statement.has Evaluation.unaryResult Evaluation.binaryResult Evaluation.asInteger Evaluation.applyUnary Evaluation.applyBinary Evaluation.leafValue Evaluation.evaluate Equations.perform Equations.holds Equations.log Equations.then Equations.acted Equations.tested Equations.pick Equations.start Equations.resume Equations.enter Equations.cycle Rows.atFirst Rows.wrongValue Rows.rowRefusal Rows.concluded Rows.judged Rows.row R.split R.digits R.magnitude R.decimalOf R.all R.decimals Printing.decimalBy Printing.integers Printing.performedLine Printing.refusedLine Printing.refusedText Header.digits Header.nameBytes Header.labelled Header.headerOf Trace.rowsTraced Trace.rowValues Trace.traceOf
+unfolding computed Types.inRange Types.inType Expression.bind Expression.fold Statement.size Statement.has Evaluation.unaryResult Evaluation.binaryResult Evaluation.asInteger Division.byNonzero Evaluation.applyUnary Evaluation.applyBinary Evaluation.leafValue Evaluation.evaluate Equations.perform Equations.holds Equations.log Equations.then Equations.acted Equations.tested Equations.pick Equations.start Equations.resume Equations.enter Equations.cycle Rows.atFirst Rows.wrongValue Rows.rowRefusal Rows.concluded Rows.judged Rows.row R.split R.digits R.magnitude R.decimalOf R.all R.decimals Printing.decimalBy Printing.integers Printing.performedLine Printing.refusedLine Printing.refusedText Header.digits Header.nameBytes Header.labelled Header.headerOf Trace.rowsTraced Trace.rowValues Trace.traceOf
 opened text rows = traceOf text rows
 
 -- P1
@@ -34,6 +36,12 @@ pub unreadable : traceOf tallyText (bytes "007\n\n7  1\n+7\n7\r\n-2147483649\n21
     ≡ bytes "cycle wait lines total\n0 2 3 0\n1 refused 14\n2 refused 14\n3 refused 14\n4 refused 14\n5 refused 14\n6 refused 14\n7 refused 14\n8 refused 14\n9 refused 14\n10 refused 14\n11 refused 14\n12 2 3 0\n"
 unfolding opened
 unreadable = refl
+
+-- "18, a zero divisor": the row is refused by that number, and the next one goes on from the state before it
+pub zero-divisor : traceOf (bytes "entity e is port(clk:in std_logic;d:in integer;q:out integer:=0);end e;architecture a of e is begin process begin q<=10/d;wait until clk='1';end process;end a;") (bytes "5\n0\n-3\n")
+    ≡ bytes "cycle wait lines q\n0 1 2 2\n1 refused 18\n2 1 2 -3\n"
+unfolding opened
+zero-divisor = refl
 
 -- no rows: the header alone
 pub no-rows : traceOf tallyText (bytes "") ≡ bytes "cycle wait lines total\n"

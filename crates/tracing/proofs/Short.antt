@@ -99,7 +99,7 @@ row-long b h s c way = go (cycleOf b s (c .inputs) (c .outputs)) (demand1 [] [] 
     on : (r : Called) {t : _} → O.Outcome t s (c .inputs) (c .outputs) r → r .answer ≡ performed way → length (r .row) ≡ length (c .outputs)
     on _ (O.row-refused k m) e = not e
     on _ (O.state-refused m g) e = not e
-    on _ (O.operator-refused x m g l q) e = not e
+    on _ (O.operator-refused number x is m g l q) e = not e
     on _ (O.performs p τ m g q w y n l) e = l
 
     go : (r : Called) → P.Runs b s c r → r .answer ≡ performed way → length (r .row) ≡ length (c .outputs)

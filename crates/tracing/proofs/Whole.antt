@@ -59,7 +59,7 @@ seen-line : (n : ℕ) (r : Outcome × Kept) (c : Call) → shown n (seen r c) �
 unfolding stateFor
 seen-line n (performed outputs way, k) c = refl
 seen-line n (row-refused place, k) c = refl
-seen-line n (operator-refused line, k) c = refl
+seen-line n (operator-refused q line, k) c = refl
 
 -- what the equations are fed: a row and its room
 fed-row : (m : ℕ) (v : List ℤ) → fed (record { inputs = v; outputs = replicate m (pos 0) }) ≡ record { inputs = v; room = m }

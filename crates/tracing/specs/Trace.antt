@@ -18,7 +18,7 @@ use Rattle.labels.specs.Header.{headerOf}
 abbrev pub lineFor : ℕ → Outcome × Kept → List ℕ
 lineFor n (performed outputs way, k) = performedLine n (number (k .place)) (length way) outputs
 lineFor n (row-refused place, k) = refusedLine n 14
-lineFor n (operator-refused line, k) = refusedLine n 16
+lineFor n (operator-refused q line, k) = refusedLine n q
 
 -- the line of a row and what is kept after it; "A row that is unreadable or has a decimal outside integer counts as 14."
 abbrev pub rowTraced : Process → Kept → ℕ → Option (List ℤ) → List ℕ × Kept
