@@ -1,8 +1,7 @@
 -- The trace of tally as document 01 prints it (P1), byte for byte, computed from the text and the rows; a refused text; rows that are not readable; a row
--- with a zero divisor.
--- Assumes nothing.
+-- with a zero divisor. Assumes nothing.
 use mathlib.Core.Path.{_≡_, refl}
-use mathlib.Core.List.{List}
+use mathlib.Core.List.{List, _++_}
 use Prim.Native.Nat.{ℕ}
 use Rattle.design.specs.Types as Types
 use Rattle.design.specs.Expression as Expression
@@ -37,9 +36,14 @@ pub unreadable : traceOf tallyText (bytes "007\n\n7  1\n+7\n7\r\n-2147483649\n21
 unfolding opened
 unreadable = refl
 
--- "18, a zero divisor": the row is refused by that number, and the next one goes on from the state before it
-pub zero-divisor : traceOf (bytes "entity e is port(clk:in std_logic;d:in integer;q:out integer:=0);end e;architecture a of e is begin process begin q<=10/d;wait until clk='1';end process;end a;") (bytes "5\n0\n-3\n")
-    ≡ bytes "cycle wait lines q\n0 1 2 2\n1 refused 18\n2 1 2 -3\n"
+-- a process that divides
+abbrev dividing : List ℕ
+dividing =
+    bytes "entity e is port(clk:in std_logic;d:in integer;q:out integer:=0);end e;" ++
+    bytes "architecture a of e is begin process begin q<=10/d;wait until clk='1';end process;end a;"
+
+-- "18, a zero divisor": the row prints that number, and the next one goes on from the state before it
+pub zero-divisor : traceOf dividing (bytes "5\n0\n-3\n") ≡ bytes "cycle wait lines q\n0 1 2 2\n1 refused 18\n2 1 2 -3\n"
 unfolding opened
 zero-divisor = refl
 
