@@ -1,6 +1,6 @@
 -- `signed::modulus` meets its contract: the divisor 0 and the least integer by -1 are told first, every other quotient fits. Assumes nothing.
 use mathlib.Core.Path.{_≡_, sym, ap, _∙_}
-use mathlib.Core.Bool.{true, false, _&&_}
+use mathlib.Core.Bool.{false, _&&_}
 use lib.IntN.{pos, negsuc}
 use lib.Signed.{quotZ}
 use borrow.Author.Needs.{needs}

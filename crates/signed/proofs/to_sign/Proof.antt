@@ -1,8 +1,7 @@
 -- `signed::to_sign` meets its contract: its tests are those of the definition, and integers of unlike signs have a sum. Assumes nothing.
 use mathlib.Core.Path.{_≡_, sym, _∙_}
-use mathlib.Core.Bool.{true, false, Bool·beq}
+use mathlib.Core.Bool.{false, Bool·beq}
 use lib.IntN.{pos, _+ℤ_}
-use lib.Signed.{ltZ}
 use borrow.Author.Needs.{needs}
 use mir.Facts.{toZ-ofZ}
 use mir.Syntax.{w32}
