@@ -1,5 +1,5 @@
--- "Both operands are always evaluated, left first": over any algebra the first refusal, from left to right, is the operator's. Today every refusal of an
--- operator is 16 at its statement, so the order shows only where an algebra has several numbers, as here. Assumes nothing.
+-- "Both operands are always evaluated, left first": over any algebra the first refusal, from left to right, is the operator's. It shows where
+-- operators are refused by several numbers, as by 16 and 18. Assumes nothing.
 use mathlib.Core.Path.{_≡_, refl}
 use Prim.Native.Nat.{ℕ}
 use lib.IntN.{pos}

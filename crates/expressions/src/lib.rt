@@ -70,6 +70,30 @@ fn parenthesised(
     expect(kinds, long, n, b, 6)
 }
 
+// A literal or a name; what has no kind, the end of the text, is refused.
+fn leaf(
+    kinds: &[u8; 16384],
+    long: &[u8; 16384],
+    n: usize,
+    q: Pos,
+    codes: &mut [u8; 16384],
+    tokens: &mut [u16; 16384],
+) -> Pos
+    requires { ⌜ Asks n q × (kindIn (now kinds) n (q .at) ≤ 4) ⌝ }
+    ensures { λ r. ⌜ ((parens : ℕ) → parens ≤ 16 → ReadsOver primaryPart postfix (now (kinds .entry)) (now (long .entry)) n q parens (arrays (now (codes .entry)) (now (tokens .entry))) r (arrays (now (codes .exit)) (now (tokens .exit)))) ⌝ }
+{
+    if q.fault != 0 {
+        return q;
+    }
+    let at = q.at;
+    let kind = kind_at(kinds, n, at);
+    if kind == 0 {
+        return refused(q, 3);
+    }
+    let a = item(long, q);
+    put(codes, tokens, a, leaf_code(kind), at)
+}
+
 // A literal, a name or an expression in parentheses.
 fn primary(
     kinds: &[u8; 16384],
@@ -91,17 +115,13 @@ fn primary(
     if kind == 5 {
         return parenthesised(kinds, long, n, q, parens, codes, tokens);
     }
-    if kind == 0 {
-        return refused(q, 3);
-    }
     if kind > 4 {
         return refused(q, 3);
     }
-    let a = item(long, q);
-    put(codes, tokens, a, leaf_code(kind), at)
+    leaf(kinds, long, n, q, codes, tokens)
 }
 
-// A primary, perhaps behind `not`.
+// A primary, perhaps behind `not`. Most are leaves, which are read at once.
 fn factor(
     kinds: &[u8; 16384],
     long: &[u8; 16384],
@@ -115,7 +135,11 @@ fn factor(
     ensures { λ r. ⌜ ReadsOver factorPart postfix (now (kinds .entry)) (now (long .entry)) n q parens (arrays (now (codes .entry)) (now (tokens .entry))) r (arrays (now (codes .exit)) (now (tokens .exit))) ⌝ }
 {
     let at = q.at;
-    if kind_at(kinds, n, at) != 22 {
+    let kind = kind_at(kinds, n, at);
+    if kind < 5 {
+        return leaf(kinds, long, n, q, codes, tokens);
+    }
+    if kind != 22 {
         return primary(kinds, long, n, q, parens, codes, tokens);
     }
     let a = item(long, q);

@@ -128,7 +128,7 @@ fold-values i v (binary o t a b) =
     ∙ bind-cong (fold (values i v) a) _ _ (λ x.
     ap (λ z. bind z (λ y. applyBinary o boolean x y)) (fold-values i v b) ∙ bind-cong (fold (values i v) b) _ _ (λ y. binary-any o t x y))
 
--- The value of the code bytes on a stack is the value of the expression, refusal 16 included.
+-- The value of the code bytes on a stack is the value of the expression, its refusal included.
 pub value-code : (e : Expr) (i v : List ℤ) → Codable (post e) → runCode (untyped (values i v)) (code e) ≡ evaluate e i v
 unfolding evaluate
 value-code e i v h = run-code (untyped (values i v)) e h ∙ fold-values i v e
@@ -327,7 +327,7 @@ module _ (is vs : List Ty) where
       → runCode (typed is vs A) s ≡ bind (fold A e) (λ x. fine (t, x))
   run-decoded A s t e h d = let b = decode-back s t e h d in ap (runCode (typed is vs A)) (b .0) ∙ run-typed is vs A e t (b .1)
 
-  -- .. and for its value, refusal 16 included.
+  -- .. and for its value, its refusal included.
   pub value-decoded : (s : List ℕ) (t : ExprTy) (e : Expr) (i v : List ℤ) → Bytes s → decode is vs s ≡ some (t, e)
       → runCode (untyped (values i v)) s ≡ evaluate e i v
   value-decoded s t e i v h d =

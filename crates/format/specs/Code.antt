@@ -27,7 +27,7 @@ abbrev pub unaryByte : Unary → ℕ
 unaryByte sign = 16
 unaryByte invert = 17
 
--- "18 +, 19 -, 20 =, 21 /=, 22 <, 23 <=, 24 >, 25 >=, 26 and, 27 or, 28 xor"
+-- "18 +, 19 -, 20 =, 21 /=, 22 <, 23 <=, 24 >, 25 >=, 26 and, 27 or, 28 xor"; "Codes are 29 to 32 in the order named": * / mod rem
 abbrev pub binaryByte : Binary → ℕ
 binaryByte plus = 18
 binaryByte minus = 19
@@ -105,7 +105,7 @@ abbrev pub readName : (ℕ → Leaf) → List ℕ → Taken
 readName f [] = none
 readName f (a ∷ s) = some (push (f a), s)
 
--- "16 sign, 17 not, 18 +, .. 28 xor"
+-- "16 sign, 17 not, 18 +, .. 28 xor", 29 * .. 32 rem
 abbrev pub operator : ℕ → Option Operation
 operator k =
     cond (eqb k 16) (some (apply1 sign)) (cond (eqb k 17) (some (apply1 invert))

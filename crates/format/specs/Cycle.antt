@@ -21,7 +21,7 @@ use Rattle.format.specs.State.{stateOk, memoryOf}
 unfoldable pub rowPlace : Signature → List ℤ → ℕ → Option ℕ
 rowPlace σ i n = cond (eqb (length i) (length (σ .inputs)) && eqb n (length (σ .outputs))) (wrongValue (σ .inputs) i 0) (some 0)
 
--- "The wait reached becomes the place ..; the output row gets all outputs"; 16 at its line. That a cycle of an opened image is never passed is
+-- "The wait reached becomes the place ..; the output row gets all outputs"; 16 or 18 at its line. That a cycle of an opened image is never passed is
 -- `image-outcome` of the crate `images`.
 abbrev pub ended : Result → State → List ℤ → Called
 ended (passed τ) s o = record { answer = performed (τ .way); state = stateFor 512 (τ .memory); row = τ .memory .outputs }

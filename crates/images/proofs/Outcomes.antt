@@ -1,4 +1,4 @@
--- Every row on an image that opens is performed or refused by 14, 15 or 16, and its state is accepted again: by cases in the order of the refusals,
+-- Every row on an image that opens is performed or refused by 14, 15, 16 or 18, and its state is accepted again: by cases in the order of the refusals,
 -- over the walk of ranked lines. Assumes nothing.
 use Prim.Native.Nat.{ℕ, suc, _<_}
 use mathlib.Core.Path.{_≡_, refl, sym, ap, _∙_}

@@ -49,7 +49,7 @@ row-place : (σ : Signature) → GoodSignature σ → (i : List ℤ) (n k : ℕ)
 unfolding Meets14 Wrong
 row-place σ g i n k m = ⊎-elim (λ h. omega (arith, h .1)) (λ h. omega (arith, g .inputs, nth-below (σ .inputs) k (h .1 .0) (h .1 .2))) m
 
--- A ROW ON A GOOD TABLE: 14, 15 at 0, 16 at a line, or a way of lines
+-- A ROW ON A GOOD TABLE: 14, 15 at 0, 16 or 18 at a line, or a way of lines
 module _ (t : Table) (g : GoodTable t) (s : State) (i o : List ℤ) where
   pub outcome-place : (r : Called) → Outcome t s i o r → (q k : ℕ) → r .answer ≡ not-performed q k → k ≤ 512
   outcome-place _ (row-refused x m) q k e = let h = row-place (t .signature) (g .signature) i (length o) x m in let z : x ≡ k = cc in omega arith

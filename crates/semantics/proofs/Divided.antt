@@ -2,7 +2,7 @@
 use Prim.Native.Nat.{ℕ, zero, suc, _+_, _*_, _-_, _/_, _%_, _≤_, _<_}
 use mathlib.Core.Path.{_≡_, refl, sym, ap, _∙_}
 use mathlib.Core.Logic.{_⊎_, inl, inr, _↔_}
-use mathlib.Core.Bool.{Bool, true, false, cond, _&&_, _||_}
+use mathlib.Core.Bool.{Bool, true, false, cond, _&&_}
 use native.Mathlib.Omega.{arith}
 use native.Mathlib.Nat.{div-add-mod', div-le-self, div-lt-self, mod-lt, zero-mul}
 use lib.IntN.{ℤ, pos, negsuc, negℤ, _+ℤ_, _-ℤ_, _*ℤ_, subℕ, natAbs, predℤ, negℤ-+ℤ, *ℤ-comm, predℤ-*ℤ, +ℤ-comm, +ℤ-assoc, -ℤ-+ℤ-cancel}
@@ -10,7 +10,7 @@ use lib.Signed.{mag, quotZ, remZ, mag-rem}
 use lib.Dec.{eqb, ltb, leb}
 use borrow.Author.Tests.{eqb-true, eqb-false, ltb-true, ltb-false, leb-true, le-leb}
 use Rattle.design.specs.Types.{eqZ, inRange}
-use Rattle.semantics.specs.Division.{negative, alike, toSign, modZ, Divided}
+use Rattle.semantics.specs.Division.{negative, alike, modZ, Divided}
 use Rattle.semantics.proofs.Basic.{false-true, eqZ-true}
 
 neg-pos : (n b : ℕ) → negℤ (pos n) *ℤ pos b ≡ negℤ (pos (n * b))
@@ -168,7 +168,7 @@ mag-below zero m h = omega arith
 mag-below (suc n) m h = omega arith
 
 -- a quotient is no larger than what is divided, but where the divisor is -1
-mag-quot : (x y : ℤ) (n : ℕ) → mag x ≤ n → (x ≡ negsuc n → y ≡ negsuc 0 → ⊥) → mag (quotZ x y) ≤ n
+pub mag-quot : (x y : ℤ) (n : ℕ) → mag x ≤ n → (x ≡ negsuc n → y ≡ negsuc 0 → ⊥) → mag (quotZ x y) ≤ n
 mag-quot (pos a) (pos b) n h e = omega (arith, div-le-self a b)
 mag-quot (pos a) (negsuc b) n h e = mag-below (a / suc b) n (omega (arith, div-le-self a (suc b)))
 mag-quot (negsuc a) (pos b) n h e = mag-below (suc a / b) n (omega (arith, div-le-self (suc a) b))

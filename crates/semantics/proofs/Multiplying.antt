@@ -1,14 +1,13 @@
 -- The multiplying operators give what IEEE 1076's sentences say: these hold of the quotient, the remainder and the modulus of `Division`, and of no others.
 -- Assumes nothing.
 use mathlib.Core.Path.{_≡_, refl, sym, ap, _∙_}
-use mathlib.Core.Logic.{_↔_}
 use mathlib.Core.Bool.{Bool, true, false}
 use native.Mathlib.Omega.{arith}
-use lib.IntN.{ℤ, pos, negsuc, natAbs}
+use lib.IntN.{ℤ, pos, natAbs}
 use lib.Signed.{quotZ, remZ}
-use Rattle.design.specs.Types.{integer, plain, eqZ, inRange}
-use Rattle.design.specs.Expression.{Out, fine}
-use Rattle.semantics.specs.Division.{modZ, byNonzero, Divided}
+use Rattle.design.specs.Types.{eqZ, inRange}
+use Rattle.design.specs.Expression.{fine}
+use Rattle.semantics.specs.Division.{modZ, Divided}
 use Rattle.semantics.specs.Evaluation.{asInteger, binaryResult, applyBinary}
 use Rattle.semantics.specs.Multiplying.{Multiplying}
 use Rattle.semantics.proofs.Basic.{eqZ-true}

@@ -10,10 +10,10 @@ use lib.IntN.{ℤ}
 use Rattle.design.specs.Expression.{Expr, Out, fine, fault, bind}
 use Rattle.design.specs.Statement.{Act, output, variable, null, Stmt, act, wait, if-then, if-else, while, seq, size, has}
 use Rattle.semantics.specs.Equations.{Memory, Run, Result, passed, reached, refused, perform, holds, log, then, acted, tested, pick, start, resume, Place, beginning, at, enter, cycle}
-use Rattle.semantics.specs.Faults.{OperatorNumber, Faults}
+use Rattle.semantics.specs.Faults.{Faults}
 use Rattle.semantics.specs.Refusal.{ActFaults, StartFaults, ResumeFaults, EnterFaults, CycleFaults}
 use Rattle.semantics.proofs.Basic.{fault-injective}
-use Rattle.semantics.proofs.Faults.{fault-faults, faults-fault, faults-number}
+use Rattle.semantics.proofs.Faults.{fault-faults, faults-fault}
 
 passed-refused : {P : Type 0} (σ : Run) (q n : ℕ) → passed σ ≡ refused q n → P
 passed-refused σ q n e = absurd (let z : _≡_ {A = ℕ} 0 1 = cc in omega arith)

@@ -7,7 +7,7 @@ use Prim.Native.Nat.{_<_}
 use lib.IntN.{ℤ, pos, negsuc, _+ℤ_, _*ℤ_, natAbs}
 use lib.Signed.{remZ}
 use Rattle.design.specs.Types.{eqZ}
-use Rattle.design.specs.Expression.{Out, fine, fault}
+use Rattle.design.specs.Expression.{Out, fault}
 
 -- below zero
 abbrev pub negative : ℤ → Bool

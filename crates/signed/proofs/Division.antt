@@ -1,10 +1,10 @@
 -- Laws of products and quotients of integers: which fit, and what comes of the two divisions that are told before the machine divides. By cases on the
 -- signs. Assumes nothing.
-use mathlib.Core.Path.{_≡_, refl, _∙_}
+use mathlib.Core.Path.{_≡_, refl, sym, _∙_}
 use mathlib.Core.Bool.{Bool, true, false, cond, _&&_, Bool·beq}
-use Prim.Native.Nat.{ℕ, zero, suc, _*_, _-_, _/_, _≤_, _<_}
+use Prim.Native.Nat.{ℕ, zero, suc, _*_, _-_, _≤_, _<_}
 use native.Mathlib.Omega.{arith}
-use native.Mathlib.Nat.{div-le-self, div-lt-self, mul-le-mul}
+use native.Mathlib.Nat.{mul-le-mul}
 use lib.IntN.{ℤ, pos, negsuc, negℤ, _+ℤ_, _*ℤ_, subℕ}
 use lib.Signed.{mag, ltZ, quotZ, remZ, mag-rem}
 use lib.Dec.{eqb, ltb}
@@ -15,10 +15,11 @@ use Rattle.design.specs.Types.{eqZ, inRange}
 use Rattle.design.specs.Expression.{Out, fine}
 use Rattle.semantics.specs.Division.{negative, alike, toSign, modZ, byNonzero}
 use Rattle.semantics.specs.Evaluation.{asInteger}
-use Rattle.semantics.proofs.Basic.{and-left, and-right}
+use Rattle.semantics.proofs.Basic.{false-true, eqZ-true, and-left, and-right}
+use Rattle.semantics.proofs.Divided.{mag-quot}
 use Rattle.signed.specs.Signed.{checkedOf}
 use Rattle.signed.specs.declared.Checked.the-variants.{Value, Refused}
-use Rattle.signed.proofs.Range.{eqZ-eq, equal-bits}
+use Rattle.signed.proofs.Range.{equal-bits}
 
 -- PRODUCTS
 mag-below : (n m : ℕ) → n ≤ m → mag (negℤ (pos n)) ≤ m
@@ -45,10 +46,6 @@ pub by-zero : (y : ℤ) (o : Out ℤ) → eqZ y (pos 0) ≡ true → Refused 18 
 unfolding byNonzero
 by-zero y o e = rw e
 
-pub by-other : (y : ℤ) (o : Out ℤ) → eqZ y (pos 0) ≡ false → byNonzero y o ≡ o
-unfolding byNonzero
-by-other y o e = rw e
-
 -- a number that is not 0 has bits that are not 0
 pub bits-above : {y : ℤ} → SFits w32 y → eqZ y (pos 0) ≡ false → 0 < ofZ w32 y
 bits-above {y} f e =
@@ -62,7 +59,7 @@ least-is : (x y : ℤ) → (eqZ x (negsuc 2147483647) && eqZ y (negsuc 0)) ≡ t
 least-is x y e =
     let p = eqZ x (negsuc 2147483647) in
     let q = eqZ y (negsuc 0) in
-    (eqZ-eq x (negsuc 2147483647) (and-left p q e), eqZ-eq y (negsuc 0) (and-right p q e))
+    (eqZ-true x (negsuc 2147483647) (and-left p q e), eqZ-true y (negsuc 0) (and-right p q e))
 
 -- their quotient is no integer, their remainder and modulus are 0
 pub least-quotient : (x y : ℤ) → (eqZ x (negsuc 2147483647) && eqZ y (negsuc 0)) ≡ true → Refused 16 ≡ checkedOf (byNonzero y (asInteger (quotZ x y)))
@@ -77,23 +74,11 @@ pub least-modulus : (x y : ℤ) → (eqZ x (negsuc 2147483647) && eqZ y (negsuc 
 unfolding byNonzero
 least-modulus x y e = let h = least-is x y e in rw (h .0, h .1)
 
-mag-less : (n m : ℕ) → n ≤ suc m → mag (negℤ (pos n)) ≤ m
-mag-less zero m h = omega arith
-mag-less (suc n) m h = omega arith
-
 -- every other quotient fits
 pub quot-fits : (x y : ℤ) → SFits w32 x → (eqZ x (negsuc 2147483647) && eqZ y (negsuc 0)) ≡ false → SFits w32 (quotZ x y)
-quot-fits (pos a) (pos b) f e = record { sfits = omega (arith, f .sfits, div-le-self a b) }
-quot-fits (pos a) (negsuc b) f e = record { sfits = omega (arith, f .sfits, mag-below (a / suc b) a (div-le-self a (suc b))) }
-quot-fits (negsuc a) (pos b) f e = record { sfits = omega (arith, f .sfits, mag-less (suc a / b) a (div-le-self (suc a) b)) }
-quot-fits (negsuc a) (negsuc zero) f e = record { sfits = go (eqb a 2147483647) refl }
-  where
-    go : (b : Bool) → eqb a 2147483647 ≡ b → suc a / 1 < 2147483648
-    go true z = absurd (let w : true ≡ false = (rw z at e) in let u : _≡_ {A = ℕ} 0 1 = cc in omega arith)
-    go false z = let n = eqb-false a 2147483647 z in omega (arith, f .sfits)
-quot-fits (negsuc a) (negsuc (suc b)) f e =
-    let h : suc a / suc (suc b) < suc a = div-lt-self (omega arith) (omega arith) in
-    record { sfits = omega (arith, f .sfits, h) }
+quot-fits x y f e =
+    let other : (x ≡ negsuc 2147483647 → y ≡ negsuc 0 → ⊥) = λ p q. false-true (sym e ∙ rw (p, q)) in
+    record { sfits = omega (arith, mag-quot x y 2147483647 (omega (arith, f .sfits)) other) }
 
 -- a remainder is no larger than what is divided
 pub rem-fits : (x y : ℤ) → SFits w32 x → SFits w32 (remZ x y)

@@ -90,12 +90,6 @@ eqZ-other (pos a) (negsuc b) f = refl
 eqZ-other (negsuc a) (pos b) f = refl
 eqZ-other (negsuc a) (negsuc b) f = ne-eqb a b (λ e. f (ap negsuc e))
 
-pub eqZ-eq : (x y : ℤ) → eqZ x y ≡ true → x ≡ y
-eqZ-eq (pos a) (pos b) e = ap pos (eqb-true a b e)
-eqZ-eq (pos a) (negsuc b) e = absurd (let z : _≡_ {A = ℕ} 0 1 = cc in omega arith)
-eqZ-eq (negsuc a) (pos b) e = absurd (let z : _≡_ {A = ℕ} 0 1 = cc in omega arith)
-eqZ-eq (negsuc a) (negsuc b) e = ap negsuc (eqb-true a b e)
-
 pub bits-same : {x y : ℤ} → SFits w32 x → SFits w32 y → ofZ w32 x ≡ ofZ w32 y → x ≡ y
 bits-same p q e = sym (toZ-ofZ p) ∙ ap (toZ w32) e ∙ toZ-ofZ q
 

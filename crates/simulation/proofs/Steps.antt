@@ -1,4 +1,4 @@
--- A line performed, by cases: it is a wait, an operator is refused by 16, or a follower comes next. What holds in each case holds of the line.
+-- A line performed, by cases: it is a wait, an operator is refused by its number, or a follower comes next. What holds in each case holds of the line.
 -- Assumes nothing.
 use Prim.Native.Nat.{ℕ, _<_}
 use native.Mathlib.Omega.{arith}

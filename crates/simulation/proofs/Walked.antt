@@ -1,4 +1,4 @@
--- A cycle over ranked lines ends at a wait or is refused by 16, with no line twice: along its way the reach falls. By induction on the count of
+-- A cycle over ranked lines ends at a wait or an operator is refused, with no line twice: along its way the reach falls. By induction on the count of
 -- lines. Assumes nothing.
 use Prim.Native.Nat.{ℕ, zero, suc, _+_, _≤_, _<_}
 use native.Mathlib.Omega.{arith}

@@ -6,7 +6,7 @@ use mathlib.Core.Path.{refl, sym, _∙_, subst}
 use mathlib.Core.Logic.{inl, inr}
 use native.Mathlib.Omega.{arith}
 use borrow.Author.Needs.{needs}
-use lib.Dec.{lit<, lit≤}
+use lib.Dec.{lit<}
 use Rattle.grammar.specs.Grammar.{primary as primaryPart, factor as factorPart, term as termPart, simple as simplePart, relation as relationPart}
 use Rattle.grammar.specs.Tree.{number}
 use Rattle.cursor.specs.Tokens.{noToken, kindIn, flagIn}
@@ -17,7 +17,7 @@ use Rattle.expressions.specs.Tests.{isAdding}
 use Rattle.expressions.specs.Readers.{sum, product as productTail, operatorOf, TurnOver}
 use Rattle.expressions.proofs.Codes.{code-below, code-scaling}
 use Rattle.expressions.proofs.Behind.{first-moves, operand-asks, put-room, behind-over}
-use Rattle.expressions.proofs.Primaries.{stay-moves, reads-stays, primary-refused, primary-leaf, parens-full, parens-read}
+use Rattle.expressions.proofs.Primaries.{reads-stays, primary-refused, parens-full, parens-read}
 use Rattle.expressions.proofs.Sums.{asks-after, adding-bounds, loop-falls, Chained, chained-none, chained-again, chained-falls, factor-plain, factor-not, signed-plain, signed-sign, list-turn, joined-turn, turn-none, turn-then, more-terms-true, more-factors-true, goes-on-true, sum-read, product-read, relation-plain, relation-compared, expression-plain, expression-chain}
 use borrow.Fn.Kinds.{In}
 use borrow.Fn.PlainCycle.{Measures, is, falls, and}
@@ -59,7 +59,7 @@ use Rattle.cursor.proofs.item.Reads as item-reads
 use Rattle.cursor.proofs.kind_at.Reads as kind-at-reads
 use Rattle.cursor.proofs.refused.Reads as refused-reads
 use Rattle.expressions.proofs.joins.Reads as joins-reads
-use Rattle.expressions.proofs.leaf_code.Reads as leaf-code-reads
+use Rattle.expressions.proofs.leaf.Reads as leaf-reads
 use Rattle.expressions.proofs.more_factors.Reads as more-factors-reads
 use Rattle.expressions.proofs.more_terms.Reads as more-terms-reads
 use Rattle.expressions.proofs.put.Reads as put-reads
@@ -169,7 +169,7 @@ abbrev expression-calls : ℕ → expression-lts.Claims
 expression-calls t = (relation-below t, relation.Post, kind-at-reads.Asked, kind-at-reads.Learnt, joins-reads.Asked, joins-reads.Learnt, joined-below t, joined.Post)
 
 abbrev factor-calls : ℕ → factor-lts.Claims
-factor-calls t = (kind-at-reads.Asked, kind-at-reads.Learnt, primary-below t, primary.Post, item-reads.Asked, item-reads.Learnt, put-reads.Asked, put-reads.Learnt)
+factor-calls t = (kind-at-reads.Asked, kind-at-reads.Learnt, leaf-reads.Asked, leaf-reads.Learnt, primary-below t, primary.Post, item-reads.Asked, item-reads.Learnt, put-reads.Asked, put-reads.Learnt)
 
 abbrev joined-calls : ℕ → joined-lts.Claims
 joined-calls t = (kind-at-reads.Asked, kind-at-reads.Learnt, item-reads.Asked, item-reads.Learnt, relation-below t, relation.Post, put-reads.Asked, put-reads.Learnt)
@@ -178,7 +178,7 @@ abbrev parenthesised-calls : ℕ → parenthesised-lts.Claims
 parenthesised-calls t = (refused-reads.Asked, refused-reads.Learnt, expression-below t, expression.Post, expect-reads.Asked, expect-reads.Learnt)
 
 abbrev primary-calls : ℕ → primary-lts.Claims
-primary-calls t = (kind-at-reads.Asked, kind-at-reads.Learnt, parenthesised-below t, parenthesised.Post, refused-reads.Asked, refused-reads.Learnt, item-reads.Asked, item-reads.Learnt, leaf-code-reads.Asked, leaf-code-reads.Learnt, put-reads.Asked, put-reads.Learnt)
+primary-calls t = (kind-at-reads.Asked, kind-at-reads.Learnt, parenthesised-below t, parenthesised.Post, refused-reads.Asked, refused-reads.Learnt, leaf-reads.Asked, leaf-reads.Learnt)
 
 abbrev product-calls : ℕ → product-lts.Claims
 product-calls t = (factor-below t, factor.Post, more-factors-reads.Asked, more-factors-reads.Learnt, scaled-below t, scaled.Post)
@@ -237,20 +237,26 @@ expression-loop-again t c = let s = c .before .before .before .before .before .b
 expression-returns-3 : (t : ℕ) → expression-lts.Need-returns-3 (expression-calls t) (expression-at t) expression.Post expression-Inv-loop expression-μ-loop
 expression-returns-3 t c = expression-chain (c .before .before .before .before .before .kind-at .result) (c .before .before .before .before .if1 .left) (c .before .before .before .if2 .left) (c .before .before .before .before .before .before .relation .ensures) (sym (c .before .before .before .before .before .kind-at .ensures)) (c .before .before .loop .inv .turns) (sym (c .before .joins .ensures) ∙ c .if3 .left)
 
+factor-leaf-requires : (t : ℕ) → factor-lts.Need-leaf-requires (factor-calls t) (factor-at t) factor.Post
+factor-leaf-requires t c κs = (c .before .before .before .before .pre .1 .1, (let e = c .before .before .before .kind-at .ensures in let f = c .before .before .if1 .taken in omega arith))
+
 factor-returns : (t : ℕ) → factor-lts.Need-returns (factor-calls t) (factor-at t) factor.Post
-factor-returns t c = factor-plain (λ z. c .before .before .before .if1 .taken (c .before .before .before .before .kind-at .ensures ∙ z)) (c .primary .ensures)
-
-factor-item-requires : (t : ℕ) → factor-lts.Need-item-requires (factor-calls t) (factor-at t) factor.Post
-factor-item-requires t c κs = let s = c .before .before .args in let i = (kind-inside (s .kinds .now) (s .n) (s .q .at) 22 (sym (c .before .kind-at .ensures) ∙ c .if1 .left) (lit< tt)) in omega arith
-
-factor-primary-requires-2 : (t : ℕ) → factor-lts.Need-primary-requires-2 (factor-calls t) (factor-at t) factor.Post
-factor-primary-requires-2 t c κs = let s = c .before .before .before .before .before .args in let i = (kind-inside (s .kinds .now) (s .n) (s .q .at) 22 (sym (c .before .before .before .before .kind-at .ensures) ∙ c .before .before .before .if1 .left) (lit< tt)) in let a = operand-asks (s .n) (s .q) (c .before .before .item .result) (s .q) (s .q) (flagIn (s .long .now) (s .q .at)) (c .before .before .before .before .before .pre .1 .1) i (c .before .before .item .ensures) in let m = first-moves (s .n) (s .q) (c .before .before .item .result) (s .q) (s .q) (flagIn (s .long .now) (s .q .at)) (c .before .before .before .before .before .pre .1 .1) i (c .before .before .item .ensures) in omega arith
-
-factor-put-requires : (t : ℕ) → factor-lts.Need-put-requires (factor-calls t) (factor-at t) factor.Post
-factor-put-requires t c κs = let s = c .before .before .before .before .before .before .before .before .args in let i = (kind-inside (s .kinds .now) (s .n) (s .q .at) 22 (sym (c .before .before .before .before .before .before .before .kind-at .ensures) ∙ c .before .before .before .before .before .before .if1 .left) (lit< tt)) in (put-room (s .n) (s .q) (c .before .before .before .before .before .item .result) (c .before .before .primary2 .result) (s .q) (flagIn (s .long .now) (s .q .at)) (c .before .before .before .before .before .before .before .before .pre .1 .1) i (c .before .before .before .before .before .item .ensures) (c .before .before .primary2 .ensures .moves), omega arith)
+factor-returns t c = factor-plain (λ z. let e = c .before .before .before .before .kind-at .ensures in let f = c .before .before .before .if1 .taken in omega arith) (c .leaf .ensures (c .before .before .before .before .before .args .parens) (c .before .before .before .before .before .pre .1 .0))
 
 factor-returns-2 : (t : ℕ) → factor-lts.Need-returns-2 (factor-calls t) (factor-at t) factor.Post
-factor-returns-2 t c = let e = sym (c .before .before .before .before .before .before .before .before .kind-at .ensures) ∙ c .before .before .before .before .before .before .before .if1 .left in factor-not e (behind-over primaryPart postfix 22 (lit< tt) (c .before .before .before .before .before .before .before .before .before .pre .1 .1) (c .before .before .before .before .before .before .before .before .before .pre .1 .0) e (c .before .before .before .before .before .before .item .ensures) (c .before .before .before .primary2 .ensures) (c .put .ensures))
+factor-returns-2 t c = factor-plain (λ z. c .before .before .before .if2 .taken (c .before .before .before .before .before .kind-at .ensures ∙ z)) (c .primary .ensures)
+
+factor-item-requires : (t : ℕ) → factor-lts.Need-item-requires (factor-calls t) (factor-at t) factor.Post
+factor-item-requires t c κs = let s = c .before .before .before .args in let i = (kind-inside (s .kinds .now) (s .n) (s .q .at) 22 (sym (c .before .before .kind-at .ensures) ∙ c .if2 .left) (lit< tt)) in omega arith
+
+factor-primary-requires-2 : (t : ℕ) → factor-lts.Need-primary-requires-2 (factor-calls t) (factor-at t) factor.Post
+factor-primary-requires-2 t c κs = let s = c .before .before .before .before .before .before .args in let i = (kind-inside (s .kinds .now) (s .n) (s .q .at) 22 (sym (c .before .before .before .before .before .kind-at .ensures) ∙ c .before .before .before .if2 .left) (lit< tt)) in let a = operand-asks (s .n) (s .q) (c .before .before .item .result) (s .q) (s .q) (flagIn (s .long .now) (s .q .at)) (c .before .before .before .before .before .before .pre .1 .1) i (c .before .before .item .ensures) in let m = first-moves (s .n) (s .q) (c .before .before .item .result) (s .q) (s .q) (flagIn (s .long .now) (s .q .at)) (c .before .before .before .before .before .before .pre .1 .1) i (c .before .before .item .ensures) in omega arith
+
+factor-put-requires : (t : ℕ) → factor-lts.Need-put-requires (factor-calls t) (factor-at t) factor.Post
+factor-put-requires t c κs = let s = c .before .before .before .before .before .before .before .before .before .args in let i = (kind-inside (s .kinds .now) (s .n) (s .q .at) 22 (sym (c .before .before .before .before .before .before .before .before .kind-at .ensures) ∙ c .before .before .before .before .before .before .if2 .left) (lit< tt)) in (put-room (s .n) (s .q) (c .before .before .before .before .before .item .result) (c .before .before .primary2 .result) (s .q) (flagIn (s .long .now) (s .q .at)) (c .before .before .before .before .before .before .before .before .before .pre .1 .1) i (c .before .before .before .before .before .item .ensures) (c .before .before .primary2 .ensures .moves), omega arith)
+
+factor-returns-3 : (t : ℕ) → factor-lts.Need-returns-3 (factor-calls t) (factor-at t) factor.Post
+factor-returns-3 t c = let e = sym (c .before .before .before .before .before .before .before .before .before .kind-at .ensures) ∙ c .before .before .before .before .before .before .before .if2 .left in factor-not e (behind-over primaryPart postfix 22 (lit< tt) (c .before .before .before .before .before .before .before .before .before .before .pre .1 .1) (c .before .before .before .before .before .before .before .before .before .before .pre .1 .0) e (c .before .before .before .before .before .before .item .ensures) (c .before .before .before .primary2 .ensures) (c .put .ensures))
 
 joined-item-requires : (t : ℕ) → joined-lts.Need-item-requires (joined-calls t) (joined-at t) joined.Post
 joined-item-requires t c κs = let s = c .before .args in let w = c .before .pre .1 .2 in let i = (kind-inside (s .kinds .now) (s .n) (s .q .at) (kindIn (s .kinds .now) (s .n) (s .q .at)) refl (omega arith)) in omega arith
@@ -292,19 +298,13 @@ primary-returns-2 : (t : ℕ) → primary-lts.Need-returns-2 (primary-calls t) (
 primary-returns-2 t c = c .parenthesised .ensures
 
 primary-returns-3 : (t : ℕ) → primary-lts.Need-returns-3 (primary-calls t) (primary-at t) primary.Post
-primary-returns-3 t c = rw (c .refused .ensures) (primary-refused (c .before .before .before .before .before .before .pre .1 .1) (c .before .before .before .before .before .before .pre .1 .0) (c .before .before .before .before .if1 .left) _ (inl (sym (c .before .before .before .kind-at .ensures) ∙ c .before .if3 .taken)))
+primary-returns-3 t c = rw (c .refused .ensures) (primary-refused (c .before .before .before .before .before .before .pre .1 .1) (c .before .before .before .before .before .before .pre .1 .0) (c .before .before .before .before .if1 .left) _ (inr (let e = c .before .before .before .kind-at .ensures in let f = c .before .before .if2 .left in let g = c .before .if3 .taken in omega arith)))
+
+primary-leaf-requires : (t : ℕ) → primary-lts.Need-leaf-requires (primary-calls t) (primary-at t) primary.Post
+primary-leaf-requires t c κs = (c .before .before .before .before .before .before .before .pre .1 .1, (let e = c .before .before .before .before .kind-at .ensures in let f = c .before .before .if3 .left in omega arith))
 
 primary-returns-4 : (t : ℕ) → primary-lts.Need-returns-4 (primary-calls t) (primary-at t) primary.Post
-primary-returns-4 t c = rw (c .refused2 .ensures) (primary-refused (c .before .before .before .before .before .before .before .pre .1 .1) (c .before .before .before .before .before .before .before .pre .1 .0) (c .before .before .before .before .before .if1 .left) _ (inr (let e = c .before .before .before .before .kind-at .ensures in let f = c .before .before .before .if2 .left in omega arith)))
-
-primary-item-requires : (t : ℕ) → primary-lts.Need-item-requires (primary-calls t) (primary-at t) primary.Post
-primary-item-requires t c κs = let s = c .before .before .before .before .before .before .args in let i = (kind-inside (s .kinds .now) (s .n) (s .q .at) (c .before .before .before .kind-at .result) (sym (c .before .before .before .kind-at .ensures)) (let f = c .before .if3 .left in omega arith)) in omega arith
-
-primary-put-requires : (t : ℕ) → primary-lts.Need-put-requires (primary-calls t) (primary-at t) primary.Post
-primary-put-requires t c κs = let s = c .before .before .before .before .before .before .before .before .before .before .args in let i = (kind-inside (s .kinds .now) (s .n) (s .q .at) (c .before .before .before .before .before .before .before .kind-at .result) (sym (c .before .before .before .before .before .before .before .kind-at .ensures)) (let f = c .before .before .before .before .before .if3 .left in omega arith)) in (put-room (s .n) (s .q) (c .before .before .before .item .result) (c .before .before .before .item .result) (s .q) (flagIn (s .long .now) (s .q .at)) (c .before .before .before .before .before .before .before .before .before .before .pre .1 .1) i (c .before .before .before .item .ensures) (stay-moves (s .n) (c .before .before .before .item .result) (operand-asks (s .n) (s .q) (c .before .before .before .item .result) (s .q) (s .q) (flagIn (s .long .now) (s .q .at)) (c .before .before .before .before .before .before .before .before .before .before .pre .1 .1) i (c .before .before .before .item .ensures))), omega arith)
-
-primary-returns-5 : (t : ℕ) → primary-lts.Need-returns-5 (primary-calls t) (primary-at t) primary.Post
-primary-returns-5 t c = primary-leaf (c .before .before .before .before .before .before .before .before .before .before .before .pre .1 .1) (c .before .before .before .before .before .before .before .before .before .before .before .pre .1 .0) (c .before .before .before .before .before .before .before .before .before .if1 .left) (c .before .before .before .before .before .before .before .before .kind-at .result) (let f = c .before .before .before .before .before .before .if3 .left in omega arith) (c .before .before .before .before .before .if4 .left) (sym (c .before .before .before .before .before .before .before .before .kind-at .ensures)) _ _ (c .before .before .before .before .item .ensures) (rw (c .before .leaf-code .ensures) at (c .put .ensures))
+primary-returns-4 t c = c .leaf .ensures (c .before .before .before .before .before .before .before .before .args .parens) (c .before .before .before .before .before .before .before .before .pre .1 .0)
 
 product-loop-holds : (t : ℕ) → product-lts.Need-loop-holds (product-calls t) (product-at t) product.Post product-Inv-loop product-μ-loop
 product-loop-holds t c = turn-none productTail _ (asks-after (c .before .before .before .pre .1 .1) (c .factor .ensures .moves))
@@ -403,10 +403,10 @@ pub +expression+factor+joined+parenthesised+primary+product+relation+scaled+sign
 +expression+factor+joined+parenthesised+primary+product+relation+scaled+signed+simple+term-spec =
     close μ-expression μ-factor μ-joined μ-parenthesised μ-primary μ-product μ-relation μ-scaled μ-signed μ-simple μ-term
     (λ t. expression-lts.spec (expression-calls t) (expression-at t) expression.Post expression-Inv-loop expression-μ-loop (λ c κs. omega arith) (λ c κs. omega arith) (expression-returns t) (expression-returns-2 t) (expression-loop-holds t) (λ c κs. omega arith) (expression-joined-requires t) (expression-loop-less t) (expression-loop-again t) (expression-returns-3 t))
-    (λ t. factor-lts.spec (factor-calls t) (factor-at t) factor.Post (λ c κs. omega arith) (λ c κs. omega arith) (factor-returns t) (factor-item-requires t) (factor-primary-requires-2 t) (factor-put-requires t) (factor-returns-2 t))
+    (λ t. factor-lts.spec (factor-calls t) (factor-at t) factor.Post (λ c κs. omega arith) (factor-leaf-requires t) (factor-returns t) (λ c κs. omega arith) (factor-returns-2 t) (factor-item-requires t) (factor-primary-requires-2 t) (factor-put-requires t) (factor-returns-3 t))
     (λ t. joined-lts.spec (joined-calls t) (joined-at t) joined.Post (λ c κs. omega arith) (joined-item-requires t) (joined-relation-requires t) (joined-add-put t) (joined-put-requires t) (joined-returns t))
     (λ t. parenthesised-lts.spec (parenthesised-calls t) (parenthesised-at t) parenthesised.Post (λ c κs. search needs) (parenthesised-returns t) (parenthesised-add-expression t) (λ c. omega arith) (parenthesised-expression-requires t) (parenthesised-expect-requires t) (parenthesised-returns-2 t))
-    (λ t. primary-lts.spec (primary-calls t) (primary-at t) primary.Post (primary-returns t) (λ c κs. omega arith) (primary-parenthesised-requires t) (primary-returns-2 t) (λ c κs. search needs) (primary-returns-3 t) (λ c κs. search needs) (primary-returns-4 t) (primary-item-requires t) (λ c κs. search needs) (primary-put-requires t) (primary-returns-5 t))
+    (λ t. primary-lts.spec (primary-calls t) (primary-at t) primary.Post (primary-returns t) (λ c κs. omega arith) (primary-parenthesised-requires t) (primary-returns-2 t) (λ c κs. search needs) (primary-returns-3 t) (primary-leaf-requires t) (primary-returns-4 t))
     (λ t. product-lts.spec (product-calls t) (product-at t) product.Post product-Inv-loop product-μ-loop (λ c κs. omega arith) (product-loop-holds t) (λ c κs. omega arith) (product-scaled-requires t) (product-loop-less t) (product-loop-again t) (product-returns t))
     (λ t. relation-lts.spec (relation-calls t) (relation-at t) relation.Post (λ c κs. omega arith) (λ c κs. omega arith) (relation-returns t) (relation-returns-2 t) (relation-item-requires t) (relation-simple-requires-2 t) (λ c. omega arith) (relation-put-requires t) (relation-returns-3 t))
     (λ t. scaled-lts.spec (scaled-calls t) (scaled-at t) scaled.Post (λ c κs. omega arith) (scaled-item-requires t) (scaled-factor-requires t) (scaled-sub-put t) (scaled-put-requires t) (scaled-returns t))

@@ -10,7 +10,8 @@ use mir.Val.{SFits}
 use Rattle.design.specs.Types.{eqZ}
 use Rattle.signed.specs.Signed.{checkedOf}
 use Rattle.signed.proofs.Range.{integer-inside}
-use Rattle.signed.proofs.Division.{bits-above, quot-fits, by-zero, by-other, least-quotient}
+use Rattle.semantics.proofs.Faults.{by-other}
+use Rattle.signed.proofs.Division.{bits-above, quot-fits, by-zero, least-quotient}
 use Rattle.signed.proofs.divide.Statement.{statement}
 use Rattle.signed.proofs.divide.Tie as tie
 

@@ -10,7 +10,8 @@ use mir.Val.{SFits}
 use Rattle.design.specs.Types.{eqZ}
 use Rattle.signed.specs.Signed.{checkedOf}
 use Rattle.signed.specs.declared.Checked.the-variants.{Value}
-use Rattle.signed.proofs.Division.{bits-above, quot-fits, rem-fits, by-zero, by-other, least-modulus}
+use Rattle.semantics.proofs.Faults.{by-other}
+use Rattle.signed.proofs.Division.{bits-above, quot-fits, rem-fits, by-zero, least-modulus}
 use Rattle.signed.proofs.modulus.Statement.{statement}
 use Rattle.signed.proofs.modulus.Tie as tie
 

@@ -9,7 +9,8 @@ use mir.Syntax.{w32}
 use mir.Val.{SFits}
 use Rattle.design.specs.Types.{eqZ}
 use Rattle.signed.specs.Signed.{checkedOf}
-use Rattle.signed.proofs.Division.{bits-above, quot-fits, rem-fits, by-zero, by-other, least-remainder}
+use Rattle.semantics.proofs.Faults.{by-other}
+use Rattle.signed.proofs.Division.{bits-above, quot-fits, rem-fits, by-zero, least-remainder}
 use Rattle.signed.proofs.remainder.Statement.{statement}
 use Rattle.signed.proofs.remainder.Tie as tie
 
