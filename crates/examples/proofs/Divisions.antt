@@ -1,10 +1,10 @@
 -- Document 02's values of slip 2, and those at the edges, as one table of claims on whole texts: table, direct run and equations alike. Each is computed from the
 -- text's bytes. Assumes nothing.
-use mathlib.Core.Path.{refl}
+use mathlib.Core.Path.{_≡_, refl}
 use mathlib.Core.List.{List, [], _∷_, _++_}
 use Prim.Native.Nat.{ℕ}
 use Prim.Native.String.{String}
-use lib.ListN.{replicate}
+use lib.ListN.{replicate, drop}
 use lib.IntN.{ℤ, pos, negsuc}
 use Rattle.grammar.specs.Limits.{Each}
 use Rattle.language.specs.Bytes.{bytes}
@@ -50,3 +50,13 @@ pub divisions-hold : Each Says divisions
 unfolding all-computed imageOf tableTrace directTrace equationTrace
 divisions-hold =
     ((refl, refl, refl), ((refl, refl, refl), ((refl, refl, refl), ((refl, refl, refl), ((refl, refl, refl), ((refl, refl, refl), ((refl, refl, refl), ((refl, refl, refl), ((refl, refl, refl), ((refl, refl, refl), ((refl, refl, refl), ((refl, refl, refl), ((refl, refl, refl), ((refl, refl, refl), ((refl, refl, refl), ((refl, refl, refl), ((refl, refl, refl), ((refl, refl, refl), ((refl, refl, refl), ((refl, refl, refl), ((refl, refl, refl), ((refl, refl, refl), ((refl, refl, refl), ((refl, refl, refl), ((refl, refl, refl), ((refl, refl), tt))))))))))))))))))))))))))
+
+-- "Codes are 29 to 32 in the order named", each behind its operands; the sign, 16, behind the whole first term
+pub codes : drop 72 (imageOf (gives "1 * 2 / 3 mod 4 rem 5"))
+    ≡ 1 ∷ 1 ∷ 0 ∷ 0 ∷ 0 ∷ 1 ∷ 2 ∷ 0 ∷ 0 ∷ 0 ∷ 29 ∷ 1 ∷ 3 ∷ 0 ∷ 0 ∷ 0 ∷ 30 ∷ 1 ∷ 4 ∷ 0 ∷ 0 ∷ 0 ∷ 31 ∷ 1 ∷ 5 ∷ 0 ∷ 0 ∷ 0 ∷ 32 ∷ []
+unfolding all-computed imageOf
+codes = refl
+
+pub sign-last : drop 72 (imageOf (gives "-7 mod 3")) ≡ 1 ∷ 7 ∷ 0 ∷ 0 ∷ 0 ∷ 1 ∷ 3 ∷ 0 ∷ 0 ∷ 0 ∷ 31 ∷ 16 ∷ []
+unfolding all-computed imageOf
+sign-last = refl
