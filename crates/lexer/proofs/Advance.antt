@@ -7,20 +7,19 @@ use native.Mathlib.Omega.{arith}
 use lib.Dec.{eqb}
 use lib.ListN.{length, getD, take, drop, drop-of-length-le, length-append, length-drop}
 use lib.Seq.{drop-cons, drop-drop}
-use borrow.Author.Tests.{ne-eqb}
+use borrow.Author.Tests.{eqb-true, ne-eqb}
 use Rattle.grammar.specs.Token.{Token}
 use Rattle.language.specs.Lexing.{Meaning}
 use Rattle.language.specs.Lexer.{Start, lexeme, unknown, startOf, tokens, _▸_, onStart, lexFrom, onToken, tokenFrom}
 use Rattle.language.specs.Lexer as L
 use Rattle.language.proofs.Lexing.{Here, gap, token, bad, none, starts}
 use Rattle.language.proofs.LexExact.{gap-something, token-something, piece-some}
-use Rattle.language.specs.Bytes.{kindCode, elem}
+use Rattle.language.specs.Bytes.{blank, byteKind, kindCode, is}
 use Rattle.scanner.specs.declared.pieces.Piece.{Piece}
 use Rattle.scanner.specs.declared.pieces.Piece.the-variants as P
 use Rattle.scanner.specs.Places.{part}
 use Rattle.scanner.specs.Pieces.{placed, pieceFrom, pieceAt}
 use Rattle.lexer.specs.Tokens.{foundFrom}
-use Rattle.scanner.proofs.ByteKinds.{blank-is}
 use Rattle.scanner.proofs.PieceLaws.{piece-blank}
 
 -- a piece has a byte, and is no longer than the text
@@ -164,5 +163,8 @@ module _ (text : List ℕ) (i : ℕ) (r : Piece) (h : i < length text) (e : r �
   stopped f = subst (Advance text i) (sym e ∙ f) (advance text i h)
 
 -- a blank is a gap of one byte
-pub blank-gapped : (text : List ℕ) (i : ℕ) → i < length text → elem (getD text i 0) (32 ∷ 9 ∷ 10 ∷ 13 ∷ []) ≡ true → Gapped text i (i + 1)
-blank-gapped text i h e = gapped text i (P.Gap (i + 1)) h (piece-blank text i 3 h (ap kindCode (sym (blank-is (getD text i 0) e))) refl) (i + 1) refl
+pub blank-gapped : (text : List ℕ) (i : ℕ) → i < length text → is blank (getD text i 0) ≡ true → Gapped text i (i + 1)
+unfolding is
+blank-gapped text i h e =
+    let k = eqb-true (kindCode blank) (kindCode (byteKind (getD text i 0))) e in
+    gapped text i (P.Gap (i + 1)) h (piece-blank text i (kindCode blank) h k refl) (i + 1) refl

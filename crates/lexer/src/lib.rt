@@ -11,6 +11,7 @@ pub mod parts;
 
 use answers::Refusal;
 use scanner::bytes;
+use scanner::kinds;
 use scanner::pieces;
 use scanner::pieces::Piece;
 
@@ -34,13 +35,14 @@ pub fn lex(
     if text.len() > 16384 {
         return Lexed::NotLexed(Refusal::TextTooLong);
     }
+    let table = kinds::table();
     let mut i = 0;
     let mut n = 0;
     while i < text.len() {
-        if bytes::is_blank(text[i]) {
+        if bytes::is_blank(&table, text[i]) {
             i += 1;
         } else {
-            match pieces::piece_at(text, i) {
+            match pieces::piece_at(&table, text, i) {
                 Piece::Gap(end) => {
                     i = end;
                 }
@@ -79,12 +81,13 @@ fn between<'a>(text: &'a [u8], start: usize, end: usize) -> &'a [u8]
 pub fn token_at<'a>(text: &'a [u8], place: usize) -> &'a [u8]
     ensures { λ r. ⌜ now r ≡ tokenAt (now (text .entry)) place ⌝ }
 {
+    let table = kinds::table();
     let mut i = 0;
     while i < text.len() {
         if place < i {
             return empty(text);
         }
-        match pieces::piece_at(text, i) {
+        match pieces::piece_at(&table, text, i) {
             Piece::Gap(end) => {
                 i = end;
             }

@@ -1,3 +1,4 @@
+pub mod Entries
 pub mod ByteKinds
 pub mod RunLaws
 pub mod WordLaws

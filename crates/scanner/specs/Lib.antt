@@ -1,3 +1,4 @@
+pub mod Kinds
 pub mod Places
 pub mod Reserved
 pub mod Fixed

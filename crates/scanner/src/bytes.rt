@@ -1,24 +1,47 @@
-// Bytes of a text: their kinds, and lower case.
+// Bytes of a text: their kinds, asked of the table that is lent, and lower case.
 ghost use mathlib.Core.Path.{_≡_};
-ghost use mathlib.Core.Bool.{_||_};
-ghost use mathlib.Core.List.{[], _∷_};
 ghost use lib.ListN.{getD};
-ghost use Rattle.language.specs.Bytes.{bytes, between, elem, byteKind, kindCode, inWord, isDigit, isUnder, lower};
+ghost use Rattle.language.specs.Bytes.{between, blank, byteKind, kindCode, is, inWord, isDigit, isUnder, lower};
+ghost use Rattle.scanner.specs.Kinds.{Kinds};
+use crate::kinds;
 
-// The kinds by number, in the order of the definition; a byte of any other kind stands only in a comment.
-pub(crate) const LETTER: u8 = 0;
+// The kind of a byte, by the table.
+pub(crate) fn kind_of(table: &[u8; 256], b: u8) -> u8
+    requires { ⌜ Kinds (now table) ⌝ }
+    ensures { λ r. ⌜ r ≡ kindCode (byteKind b) ⌝ }
+{
+    table[b as usize]
+}
 
-pub(crate) const DIGIT: u8 = 1;
+// "letters, digits and underscores": the first three kinds.
+pub(crate) fn in_word(table: &[u8; 256], b: u8) -> bool
+    requires { ⌜ Kinds (now table) ⌝ }
+    ensures { λ r. ⌜ r ≡ inWord b ⌝ }
+{
+    kind_of(table, b) <= kinds::UNDERSCORE
+}
 
-pub(crate) const UNDERSCORE: u8 = 2;
+pub(crate) fn is_digit(table: &[u8; 256], b: u8) -> bool
+    requires { ⌜ Kinds (now table) ⌝ }
+    ensures { λ r. ⌜ r ≡ isDigit b ⌝ }
+{
+    kind_of(table, b) == kinds::DIGIT
+}
 
-pub(crate) const BLANK: u8 = 3;
+pub(crate) fn is_underscore(table: &[u8; 256], b: u8) -> bool
+    requires { ⌜ Kinds (now table) ⌝ }
+    ensures { λ r. ⌜ r ≡ isUnder b ⌝ }
+{
+    kind_of(table, b) == kinds::UNDERSCORE
+}
 
-pub(crate) const QUOTE: u8 = 4;
-
-pub(crate) const MARK: u8 = 5;
-
-pub(crate) const NONE: u8 = 6;
+// Asked in the lexer's loop, which passes blanks itself.
+pub fn is_blank(table: &[u8; 256], b: u8) -> bool
+    requires { ⌜ Kinds (now table) ⌝ }
+    ensures { λ r. ⌜ r ≡ is blank b ⌝ }
+{
+    kind_of(table, b) == kinds::BLANK
+}
 
 fn is_between(low: u8, high: u8, b: u8) -> bool
     ensures { λ r. ⌜ r ≡ between low high b ⌝ }
@@ -29,108 +52,7 @@ fn is_between(low: u8, high: u8, b: u8) -> bool
     b <= high
 }
 
-// An ASCII letter, of either case.
-fn is_letter(b: u8) -> bool
-    ensures { λ r. ⌜ r ≡ (between 97 122 b || between 65 90 b) ⌝ }
-{
-    if is_between(b'a', b'z', b) {
-        return true;
-    }
-    is_between(b'A', b'Z', b)
-}
-
-// "Blanks are space, tab, LF, CR".
-pub fn is_blank(b: u8) -> bool
-    ensures { λ r. ⌜ r ≡ elem b (32 ∷ 9 ∷ 10 ∷ 13 ∷ []) ⌝ }
-{
-    if b == b' ' {
-        return true;
-    }
-    if b == b'\t' {
-        return true;
-    }
-    if b == b'\n' {
-        return true;
-    }
-    if b == b'\r' {
-        return true;
-    }
-    false
-}
-
-// A byte of a mark.
-fn is_mark(b: u8) -> bool
-    ensures { λ r. ⌜ r ≡ elem b (bytes "();:,+-*/=<>") ⌝ }
-{
-    match b {
-        b'(' => true,
-        b')' => true,
-        b';' => true,
-        b':' => true,
-        b',' => true,
-        b'+' => true,
-        b'-' => true,
-        b'*' => true,
-        b'/' => true,
-        b'=' => true,
-        b'<' => true,
-        b'>' => true,
-        _ => false,
-    }
-}
-
-// The kind of a byte, by the tests in the definition's order.
-pub(crate) fn kind_of(b: u8) -> u8
-    ensures { λ r. ⌜ r ≡ kindCode (byteKind b) ⌝ }
-{
-    if is_letter(b) {
-        return LETTER;
-    }
-    if is_between(b'0', b'9', b) {
-        return DIGIT;
-    }
-    if b == b'_' {
-        return UNDERSCORE;
-    }
-    if is_blank(b) {
-        return BLANK;
-    }
-    if b == b'\'' {
-        return QUOTE;
-    }
-    if is_mark(b) {
-        return MARK;
-    }
-    NONE
-}
-
-// "letters, digits and underscores". Told by the byte itself, since it is asked of every byte of a word.
-pub(crate) fn in_word(b: u8) -> bool
-    ensures { λ r. ⌜ r ≡ inWord b ⌝ }
-{
-    if is_letter(b) {
-        return true;
-    }
-    if is_between(b'0', b'9', b) {
-        return true;
-    }
-    b == b'_'
-}
-
-pub(crate) fn is_digit(b: u8) -> bool
-    ensures { λ r. ⌜ r ≡ isDigit b ⌝ }
-{
-    kind_of(b) == DIGIT
-}
-
-// Told by the byte itself, as in_word is.
-pub(crate) fn is_underscore(b: u8) -> bool
-    ensures { λ r. ⌜ r ≡ isUnder b ⌝ }
-{
-    b == b'_'
-}
-
-// A capital as its small letter.
+// A capital as its small letter. No kind: the table does not tell it.
 pub fn lower_case(b: u8) -> u8
     ensures { λ r. ⌜ r ≡ lower b ⌝ }
 {

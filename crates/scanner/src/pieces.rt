@@ -5,8 +5,10 @@ ghost use lib.ListN.{length, getD, drop};
 ghost use Rattle.language.specs.Bytes.{mark, inWord, isDigit};
 ghost use Rattle.language.specs.Words.{isDashes};
 ghost use Rattle.language.specs.Lexer.{run, wordStart, numberStart, startFrom};
+ghost use Rattle.scanner.specs.Kinds.{Kinds};
 ghost use Rattle.scanner.specs.Pieces.{placed, pieceAt};
 use crate::bytes;
+use crate::kinds;
 use crate::marks;
 use crate::runs;
 use crate::token;
@@ -20,22 +22,23 @@ pub enum Piece {
 }
 
 // A word: a malformed one is no token.
-fn word_at(text: &[u8], at: usize) -> Piece
-    requires { ⌜ at ≤ length (now text) ⌝ }
+fn word_at(table: &[u8; 256], text: &[u8], at: usize) -> Piece
+    requires { ⌜ Kinds (now table) × (at ≤ length (now text)) ⌝ }
     ensures { λ r. ⌜ r ≡ placed (wordStart (run inWord (drop at (now (text .entry))))) at ⌝ }
 {
-    let end = runs::word_end(text, at);
-    if !words::well_made(text, at, end) {
+    let end = runs::word_end(table, text, at);
+    if !words::well_made(table, text, at, end) {
         return Piece::Nothing;
     }
     Piece::Token(words::word_kind(text, at, end - at), end)
 }
 
 // A number: digits only.
-fn number_at(text: &[u8], at: usize) -> Piece
+fn number_at(table: &[u8; 256], text: &[u8], at: usize) -> Piece
+    requires { ⌜ Kinds (now table) ⌝ }
     ensures { λ r. ⌜ r ≡ placed (numberStart (run isDigit (drop at (now (text .entry))))) at ⌝ }
 {
-    Piece::Token(token::NUMBER, runs::digits_end(text, at))
+    Piece::Token(token::NUMBER, runs::digits_end(table, text, at))
 }
 
 // "-- opens a comment".
@@ -61,26 +64,27 @@ fn mark_at(text: &[u8], at: usize) -> Piece
 }
 
 // What starts at a place, by the kind of the byte there; past the text's end, nothing.
-pub fn piece_at(text: &[u8], at: usize) -> Piece
+pub fn piece_at(table: &[u8; 256], text: &[u8], at: usize) -> Piece
+    requires { ⌜ Kinds (now table) ⌝ }
     ensures { λ r. ⌜ r ≡ pieceAt (now (text .entry)) at ⌝ }
 {
     if at >= text.len() {
         return Piece::Nothing;
     }
-    let kind = bytes::kind_of(text[at]);
-    if kind == bytes::LETTER {
-        return word_at(text, at);
+    let kind = bytes::kind_of(table, text[at]);
+    if kind == kinds::LETTER {
+        return word_at(table, text, at);
     }
-    if kind == bytes::BLANK {
+    if kind == kinds::BLANK {
         return Piece::Gap(at + 1);
     }
-    if kind == bytes::MARK {
+    if kind == kinds::MARK {
         return mark_at(text, at);
     }
-    if kind == bytes::DIGIT {
-        return number_at(text, at);
+    if kind == kinds::DIGIT {
+        return number_at(table, text, at);
     }
-    if kind == bytes::QUOTE {
+    if kind == kinds::QUOTE {
         return marks::fixed_at(text, at);
     }
     Piece::Nothing

@@ -1,16 +1,18 @@
 // Where the longest run of bytes from a place ends.
 ghost use mathlib.Core.Path.{_≡_};
 ghost use Rattle.language.specs.Bytes.{inWord, isDigit, notLF};
+ghost use Rattle.scanner.specs.Kinds.{Kinds};
 ghost use Rattle.scanner.specs.Places.{runEnd};
 use crate::bytes;
 
 // The end of the letters, digits and underscores.
-pub(crate) fn word_end(text: &[u8], at: usize) -> usize
+pub(crate) fn word_end(table: &[u8; 256], text: &[u8], at: usize) -> usize
+    requires { ⌜ Kinds (now table) ⌝ }
     ensures { λ r. ⌜ r ≡ runEnd inWord (now (text .entry)) at ⌝ }
 {
     let mut i = at;
     while i < text.len() {
-        if !bytes::in_word(text[i]) {
+        if !bytes::in_word(table, text[i]) {
             return i;
         }
         i += 1;
@@ -19,12 +21,13 @@ pub(crate) fn word_end(text: &[u8], at: usize) -> usize
 }
 
 // The end of the digits.
-pub(crate) fn digits_end(text: &[u8], at: usize) -> usize
+pub(crate) fn digits_end(table: &[u8; 256], text: &[u8], at: usize) -> usize
+    requires { ⌜ Kinds (now table) ⌝ }
     ensures { λ r. ⌜ r ≡ runEnd isDigit (now (text .entry)) at ⌝ }
 {
     let mut i = at;
     while i < text.len() {
-        if !bytes::is_digit(text[i]) {
+        if !bytes::is_digit(table, text[i]) {
             return i;
         }
         i += 1;

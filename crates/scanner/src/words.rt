@@ -7,6 +7,7 @@ ghost use lib.ListN.{length, drop};
 ghost use Rattle.language.specs.Bytes.{lower};
 ghost use Rattle.language.specs.Words.{wellMade, reserved};
 ghost use Rattle.language.specs.Lexer.{begins};
+ghost use Rattle.scanner.specs.Kinds.{Kinds};
 ghost use Rattle.scanner.specs.Places.{part};
 ghost use Rattle.scanner.specs.Reserved.{spelledKind, ofSize};
 use crate::bytes;
@@ -22,14 +23,14 @@ fn both(a: bool, b: bool) -> bool
 }
 
 // "no doubled or last underscore", in the bytes from start up to end.
-pub(crate) fn well_made(text: &[u8], start: usize, end: usize) -> bool
-    requires { ⌜ (start ≤ end) × (end ≤ length (now text)) ⌝ }
+pub(crate) fn well_made(table: &[u8; 256], text: &[u8], start: usize, end: usize) -> bool
+    requires { ⌜ Kinds (now table) × (start ≤ end) × (end ≤ length (now text)) ⌝ }
     ensures { λ r. ⌜ r ≡ wellMade false (part (now (text .entry)) start (end - start)) ⌝ }
 {
     let mut after_underscore = false;
     let mut i = start;
     while i < end {
-        let underscore = bytes::is_underscore(text[i]);
+        let underscore = bytes::is_underscore(table, text[i]);
         if both(after_underscore, underscore) {
             return false;
         }

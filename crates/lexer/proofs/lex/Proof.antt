@@ -11,13 +11,16 @@ use Rattle.lexer.proofs.lex.Statement.{statement}
 use Rattle.lexer.proofs.lex.Tie as tie
 
 abbrev Inv-loop : tie.InvT-loop
-Inv-loop text kinds₀ starts₀ sizes₀ i₀ n₀ kinds starts sizes i n = Filled text kinds₀ starts₀ sizes₀ kinds starts sizes i n
+Inv-loop text kinds₀ starts₀ sizes₀ table i₀ n₀ kinds starts sizes i n = Filled text kinds₀ starts₀ sizes₀ kinds starts sizes i n
 
 abbrev μ-loop : tie.MeasureT-loop
-μ-loop text kinds₀ starts₀ sizes₀ i₀ n₀ kinds starts sizes i n = length text - i
+μ-loop text kinds₀ starts₀ sizes₀ table i₀ n₀ kinds starts sizes i n = length text - i
 
 returns : tie.Need-returns Inv-loop μ-loop
 returns c = too-long _ _ _ _ (c .if1 .taken)
+
+table-requires : tie.Need-table-requires Inv-loop μ-loop
+table-requires c κs = search needs
 
 loop-holds : tie.Need-loop-holds Inv-loop μ-loop
 loop-holds c = fill-first _ _ _ _
@@ -35,8 +38,8 @@ loop-less : tie.Need-loop-less Inv-loop μ-loop
 loop-less c = search needs
 
 loop-again : tie.Need-loop-again Inv-loop μ-loop
-loop-again c = fill-gap _ _ _ _ _ _ _ _ _ (c .before .before .before .before .loop .inv) _
-    (blank-gapped _ _ (c .before .before .before .loop-test .taken) (flag (c .before .is-blank .ensures) (c .if2 .taken)))
+loop-again c = fill-gap _ _ _ _ _ _ _ _ _ (c .before .before .before .before .before .loop .inv) _
+    (blank-gapped _ _ (c .before .before .before .before .loop-test .taken) (flag (c .before .is-blank .ensures) (c .if2 .taken)))
 
 piece-at-requires : tie.Need-piece-at-requires Inv-loop μ-loop
 piece-at-requires c κs = search needs
@@ -45,12 +48,12 @@ enum-known-end : tie.Need-enum-known-end Inv-loop μ-loop
 enum-known-end c = search needs
 
 loop-less-2 : tie.Need-loop-less-2 Inv-loop μ-loop
-loop-less-2 c = let g = gapped _ _ _ (c .before .before .before .before .before .before .before .loop-test .taken) (c .before .before .before .piece-at .ensures) _
+loop-less-2 c = let g = gapped _ _ _ (c .before .before .before .before .before .before .before .before .before .loop-test .taken) (c .before .before .before .piece-at .ensures) _
     (c .before .end .given .1) in omega arith
 
 loop-again-2 : tie.Need-loop-again-2 Inv-loop μ-loop
-loop-again-2 c = fill-gap _ _ _ _ _ _ _ _ _ (c .before .before .before .before .before .before .before .before .loop .inv) _
-    (gapped _ _ _ (c .before .before .before .before .before .before .before .loop-test .taken) (c .before .before .before .piece-at .ensures) _ (c .before .end .given .1))
+loop-again-2 c = fill-gap _ _ _ _ _ _ _ _ _ (c .before .before .before .before .before .before .before .before .before .before .loop .inv) _
+    (gapped _ _ _ (c .before .before .before .before .before .before .before .before .before .loop-test .taken) (c .before .before .before .piece-at .ensures) _ (c .before .end .given .1))
 
 enum-known-kind : tie.Need-enum-known-kind Inv-loop μ-loop
 enum-known-kind c = search needs
@@ -68,11 +71,11 @@ element-write-starts : tie.Need-element-write-starts Inv-loop μ-loop
 element-write-starts c = search needs
 
 sub-sizes : tie.Need-sub-sizes Inv-loop μ-loop
-sub-sizes c = let g = tokened _ _ _ (c .before .before .before .before .before .before .before .loop-test .taken) (c .before .before .before .piece-at .ensures) _ _
+sub-sizes c = let g = tokened _ _ _ (c .before .before .before .before .before .before .before .before .before .loop-test .taken) (c .before .before .before .piece-at .ensures) _ _
     (c .before .kind .given .1) in omega arith
 
 cast-sizes : tie.Need-cast-sizes Inv-loop μ-loop
-cast-sizes c = let g = tokened _ _ _ (c .before .before .before .before .before .before .before .loop-test .taken) (c .before .before .before .piece-at .ensures) _ _
+cast-sizes c = let g = tokened _ _ _ (c .before .before .before .before .before .before .before .before .before .loop-test .taken) (c .before .before .before .piece-at .ensures) _ _
     (c .before .kind .given .1) in omega arith
 
 mul-sizes : tie.Need-mul-sizes Inv-loop μ-loop
@@ -85,23 +88,23 @@ add-n : tie.Need-add-n Inv-loop μ-loop
 add-n c = search needs
 
 loop-less-3 : tie.Need-loop-less-3 Inv-loop μ-loop
-loop-less-3 c = let g = tokened _ _ _ (c .before .before .before .before .before .before .before .loop-test .taken) (c .before .before .before .piece-at .ensures) _ _
+loop-less-3 c = let g = tokened _ _ _ (c .before .before .before .before .before .before .before .before .before .loop-test .taken) (c .before .before .before .piece-at .ensures) _ _
     (c .before .kind .given .1) in omega arith
 
 loop-again-3 : tie.Need-loop-again-3 Inv-loop μ-loop
 loop-again-3 c =
-    fill-token _ _ _ _ _ _ _ _ _ (c .before .before .before .before .before .before .before .before .loop .inv) _ _
-    (tokened _ _ _ (c .before .before .before .before .before .before .before .loop-test .taken) (c .before .before .before .piece-at .ensures) _ _ (c .before .kind .given .1))
+    fill-token _ _ _ _ _ _ _ _ _ (c .before .before .before .before .before .before .before .before .before .before .loop .inv) _ _
+    (tokened _ _ _ (c .before .before .before .before .before .before .before .before .before .loop-test .taken) (c .before .before .before .piece-at .ensures) _ _ (c .before .kind .given .1))
 
 enum-told : tie.Need-enum-told Inv-loop μ-loop
 enum-told c = search needs
 
 returns-2 : tie.Need-returns-2 Inv-loop μ-loop
-returns-2 c = fill-stop _ _ _ _ _ _ _ _ _ (c .before .before .before .before .before .before .before .loop .inv) (c .before .before .before .before .before .before .before .before .if1 .left)
-    (stopped _ _ _ (c .before .before .before .before .before .before .loop-test .taken) (c .before .before .piece-at .ensures) (c .enum-told .given .1))
+returns-2 c = fill-stop _ _ _ _ _ _ _ _ _ (c .before .before .before .before .before .before .before .before .before .loop .inv) (c .before .before .before .before .before .before .before .before .before .before .before .if1 .left)
+    (stopped _ _ _ (c .before .before .before .before .before .before .before .before .loop-test .taken) (c .before .before .piece-at .ensures) (c .enum-told .given .1))
 
 returns-3 : tie.Need-returns-3 Inv-loop μ-loop
-returns-3 c = fill-end _ _ _ _ _ _ _ _ _ (c .before .loop .inv) (c .before .before .if1 .left) (c .loop-test .left)
+returns-3 c = fill-end _ _ _ _ _ _ _ _ _ (c .before .loop .inv) (c .before .before .before .if1 .left) (c .loop-test .left)
 
 pub lex-spec : {M : Type 1} → statement M
 lex-spec =
@@ -110,6 +113,7 @@ lex-spec =
     Inv-loop
     μ-loop
     returns
+    table-requires
     loop-holds
     shared-slice-read-is-blank
     is-blank-requires

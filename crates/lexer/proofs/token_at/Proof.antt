@@ -11,10 +11,13 @@ use Rattle.lexer.proofs.token_at.Statement.{statement}
 use Rattle.lexer.proofs.token_at.Tie as tie
 
 abbrev Inv-loop : tie.InvT-loop
-Inv-loop text place i₀ i = (i ≤ length text) × (tokenFrom (drop i text) 0 i place ≡ tokenAt text place)
+Inv-loop text place table i₀ i = (i ≤ length text) × (tokenFrom (drop i text) 0 i place ≡ tokenAt text place)
 
 abbrev μ-loop : tie.MeasureT-loop
-μ-loop text place i₀ i = length text - i
+μ-loop text place table i₀ i = length text - i
+
+table-requires : tie.Need-table-requires Inv-loop μ-loop
+table-requires c κs = search needs
 
 loop-holds : tie.Need-loop-holds Inv-loop μ-loop
 unfolding tokenAt
@@ -33,35 +36,35 @@ enum-known-end : tie.Need-enum-known-end Inv-loop μ-loop
 enum-known-end c = search needs
 
 loop-less : tie.Need-loop-less Inv-loop μ-loop
-loop-less c = let g = gapped _ _ _ (c .before .before .before .before .before .loop-test .taken) (c .before .before .before .piece-at .ensures) _
+loop-less c = let g = gapped _ _ _ (c .before .before .before .before .before .before .loop-test .taken) (c .before .before .before .piece-at .ensures) _
     (c .before .end .given .1) in omega arith
 
 loop-again : tie.Need-loop-again Inv-loop μ-loop
-loop-again c = let g = gapped _ _ _ (c .before .before .before .before .before .loop-test .taken) (c .before .before .before .piece-at .ensures) _
-    (c .before .end .given .1) in (g .within, sym (g .hands _) ∙ c .before .before .before .before .before .before .loop .inv .1)
+loop-again c = let g = gapped _ _ _ (c .before .before .before .before .before .before .loop-test .taken) (c .before .before .before .piece-at .ensures) _
+    (c .before .end .given .1) in (g .within, sym (g .hands _) ∙ c .before .before .before .before .before .before .before .loop .inv .1)
 
 enum-known-end-2 : tie.Need-enum-known-end-2 Inv-loop μ-loop
 enum-known-end-2 c = search needs
 
 between-requires : tie.Need-between-requires Inv-loop μ-loop
 between-requires c κs =
-    let g = tokened _ _ _ (c .before .before .before .before .before .before .loop-test .taken)
+    let g = tokened _ _ _ (c .before .before .before .before .before .before .before .loop-test .taken)
     (c .before .before .before .before .piece-at .ensures) _ _ (c .before .before .end2 .given .1) in
     (omega arith, g .within)
 
 returns-2 : tie.Need-returns-2 Inv-loop μ-loop
-returns-2 c = let g = tokened _ _ _ (c .before .before .before .before .before .before .before .loop-test .taken)
+returns-2 c = let g = tokened _ _ _ (c .before .before .before .before .before .before .before .before .loop-test .taken)
     (c .before .before .before .before .before .piece-at .ensures) _ _ (c .before .before .before .end2 .given .1) in
-    c .between .ensures ∙ (sym (g .hands _ ∙ rw (eq-eqb _ _ (c .before .if2 .taken))) ∙ c .before .before .before .before .before .before .before .before .loop .inv .1)
+    c .between .ensures ∙ (sym (g .hands _ ∙ rw (eq-eqb _ _ (c .before .if2 .taken))) ∙ c .before .before .before .before .before .before .before .before .before .loop .inv .1)
 
 loop-less-2 : tie.Need-loop-less-2 Inv-loop μ-loop
-loop-less-2 c = let g = tokened _ _ _ (c .before .before .before .before .before .before .loop-test .taken)
+loop-less-2 c = let g = tokened _ _ _ (c .before .before .before .before .before .before .before .loop-test .taken)
     (c .before .before .before .before .piece-at .ensures) _ _ (c .before .before .end2 .given .1) in omega arith
 
 loop-again-2 : tie.Need-loop-again-2 Inv-loop μ-loop
-loop-again-2 c = let g = tokened _ _ _ (c .before .before .before .before .before .before .loop-test .taken)
+loop-again-2 c = let g = tokened _ _ _ (c .before .before .before .before .before .before .before .loop-test .taken)
     (c .before .before .before .before .piece-at .ensures) _ _ (c .before .before .end2 .given .1) in
-    (g .within, sym (g .hands _ ∙ rw (ne-eqb _ _ (c .if2 .left))) ∙ c .before .before .before .before .before .before .before .loop .inv .1)
+    (g .within, sym (g .hands _ ∙ rw (ne-eqb _ _ (c .if2 .left))) ∙ c .before .before .before .before .before .before .before .before .loop .inv .1)
 
 enum-told : tie.Need-enum-told Inv-loop μ-loop
 enum-told c = search needs
@@ -70,8 +73,8 @@ empty-requires-2 : tie.Need-empty-requires-2 Inv-loop μ-loop
 empty-requires-2 c κs = search needs
 
 returns-3 : tie.Need-returns-3 Inv-loop μ-loop
-returns-3 c = let g = stopped _ _ _ (c .before .before .before .before .before .loop-test .taken) (c .before .before .before .piece-at .ensures)
-    (c .before .enum-told .given .1) in (c .empty2 .ensures) ∙ (sym (g .hands _) ∙ c .before .before .before .before .before .before .loop .inv .1)
+returns-3 c = let g = stopped _ _ _ (c .before .before .before .before .before .before .loop-test .taken) (c .before .before .before .piece-at .ensures)
+    (c .before .enum-told .given .1) in (c .empty2 .ensures) ∙ (sym (g .hands _) ∙ c .before .before .before .before .before .before .before .loop .inv .1)
 
 empty-requires-3 : tie.Need-empty-requires-3 Inv-loop μ-loop
 empty-requires-3 c κs = search needs
@@ -85,6 +88,7 @@ token-at-spec =
     (tie.spec
     Inv-loop
     μ-loop
+    table-requires
     loop-holds
     empty-requires
     returns

@@ -1,10 +1,15 @@
--- `scanner::bytes::is_underscore` meets its contract: the underscore is one byte. Assumes nothing.
-use Rattle.scanner.proofs.ByteKinds.{under-is}
+-- `scanner::bytes::is_underscore` meets its contract, by the kind's number. Assumes nothing.
+use Rattle.language.specs.Bytes.{underscore}
+use Rattle.scanner.proofs.ByteKinds.{kind-is}
+use borrow.Author.Needs.{needs}
 use Rattle.scanner.proofs.bytes.is_underscore.Statement.{statement}
 use Rattle.scanner.proofs.bytes.is_underscore.Tie as tie
 
+kind-of-requires : tie.Need-kind-of-requires
+kind-of-requires c κs = search needs
+
 returns : tie.Need-returns
-returns c = under-is (c .args .b)
+returns c = kind-is underscore (c .before .args .b) (c .kind-of .result) (c .kind-of .ensures)
 
 pub is-underscore-spec : {M : Type 1} → statement M
-is-underscore-spec = tie.close (tie.spec returns)
+is-underscore-spec = tie.close (tie.spec kind-of-requires returns)

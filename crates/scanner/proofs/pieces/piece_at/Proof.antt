@@ -20,8 +20,8 @@ word-at-requires c κs = search needs
 returns-2 : tie.Need-returns-2
 returns-2 c = (c .word-at .ensures) ∙ piece-word _ _ _ (c .before .before .before .before .if1 .left) (c .before .before .kind-of .ensures) (c .before .if2 .taken)
 
-add-t8 : tie.Need-add-t8
-add-t8 c = search needs
+add-t9 : tie.Need-add-t9
+add-t9 c = search needs
 
 returns-3 : tie.Need-returns-3
 returns-3 c = piece-blank _ _ _ (c .before .before .before .before .if1 .left) (c .before .before .kind-of .ensures) (c .if3 .taken)
@@ -64,7 +64,7 @@ piece-at-spec =
     kind-of-requires
     word-at-requires
     returns-2
-    add-t8
+    add-t9
     returns-3
     mark-at-requires
     returns-4

@@ -13,8 +13,8 @@ word-end-requires : tie.Need-word-end-requires
 word-end-requires c κs = search needs
 
 well-made-requires : tie.Need-well-made-requires
-well-made-requires c κs = let w = run-within inWord (c .before .before .args .text .now) (c .before .before .args .at) (c .before .before .pre) in
-    let e = c .word-end .ensures in (omega arith, omega arith)
+well-made-requires c κs = let w = run-within inWord (c .before .before .args .text .now) (c .before .before .args .at) (c .before .before .pre .1) in
+    let e = c .word-end .ensures in (c .before .before .pre .0, omega arith, omega arith)
 
 returns : tie.Need-returns
 returns c = word-bad _ _ _ (c .before .before .word-end .ensures) (flag (c .before .well-made .ensures) (not-true _ (c .if1 .taken)))
@@ -24,7 +24,7 @@ sub-word-kind c = let e = c .before .before .word-end .ensures in omega arith
 
 word-kind-requires : tie.Need-word-kind-requires
 word-kind-requires c κs = let w = run-within inWord (c .before .before .before .before .args .text .now)
-    (c .before .before .before .before .args .at) (c .before .before .before .before .pre) in let e = c .before .before .word-end .ensures in
+    (c .before .before .before .before .args .at) (c .before .before .before .before .pre .1) in let e = c .before .before .word-end .ensures in
     omega arith
 
 returns-2 : tie.Need-returns-2

@@ -12,11 +12,11 @@ use Rattle.scanner.proofs.words.well_made.Statement.{statement}
 use Rattle.scanner.proofs.words.well_made.Tie as tie
 
 abbrev Inv-loop : tie.InvT-loop
-Inv-loop text start end after-underscore₀ i₀ after-underscore i = (i ≤ end)
+Inv-loop table text start end after-underscore₀ i₀ after-underscore i = (i ≤ end)
     × (wellMade after-underscore (part text i (end - i)) ≡ wellMade false (part text start (end - start)))
 
 abbrev μ-loop : tie.MeasureT-loop
-μ-loop text start end after-underscore₀ i₀ after-underscore i = end - i
+μ-loop table text start end after-underscore₀ i₀ after-underscore i = end - i
 
 loop-holds : tie.Need-loop-holds Inv-loop μ-loop
 loop-holds c = (search needs, refl)
@@ -32,7 +32,7 @@ both-requires c κs = search needs
 
 returns : tie.Need-returns Inv-loop μ-loop
 returns c = sym (made-stop _ _ _ _ _ (c .before .before .before .before .loop-test .taken)
-    (c .before .before .before .before .before .before .before .pre .1) (c .before .before .is-underscore .ensures)
+    (c .before .before .before .before .before .before .before .pre .2) (c .before .before .is-underscore .ensures)
     (flag (c .before .both .ensures) (c .if1 .taken))) ∙ c .before .before .before .before .before .loop .inv .1
 
 add-i : tie.Need-add-i Inv-loop μ-loop
@@ -45,7 +45,7 @@ loop-again : tie.Need-loop-again Inv-loop μ-loop
 loop-again c = (
   search needs,
   made-again _ _ _ _ _ (c .before .before .before .before .loop-test .taken)
-      (c .before .before .before .before .before .before .before .pre .1) (c .before .before .is-underscore .ensures)
+      (c .before .before .before .before .before .before .before .pre .2) (c .before .before .is-underscore .ensures)
       (flag (c .before .both .ensures) (c .if1 .left)) ∙ c .before .before .before .before .before .loop .inv .1,
 )
 

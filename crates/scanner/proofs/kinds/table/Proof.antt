@@ -1,0 +1,14 @@
+-- `scanner::kinds::table` meets its contract: the test of the entries is computed once, over all 256. Assumes nothing.
+use mathlib.Core.Path.{refl}
+use Rattle.language.specs.Bytes.{bytes, between, elem, byteKind}
+use Rattle.scanner.proofs.Entries.{every}
+use Rattle.scanner.proofs.ByteKinds.{right, kinds-by}
+use Rattle.scanner.proofs.kinds.table.Statement.{statement}
+use Rattle.scanner.proofs.kinds.table.Tie as tie
+
+returns : tie.Need-returns
+unfolding every right byteKind between elem bytes
+returns c = kinds-by _ refl refl
+
+pub table-spec : {M : Type 1} → statement M
+table-spec = tie.close (tie.spec returns)
