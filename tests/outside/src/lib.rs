@@ -23,6 +23,7 @@ pub mod division;
 pub mod encoder;
 pub mod frozen;
 pub mod generate;
+pub mod kinds;
 pub mod lexer;
 pub mod limits;
 pub mod loader;
