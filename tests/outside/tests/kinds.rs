@@ -143,11 +143,11 @@ fn found(table: &[Kind], kinds: &[Kind], byte: u8) -> bool {
     others.any(|text| (0..2).any(|at| token_at(&text, at) != (REFERENCE.token_at)(&text, at)))
 }
 
-/// No reader that goes by the table alone needs to tell these apart: what begins with a byte of the
-/// kinds quote, mark and none is looked up among the signs, and only `--` is no sign.
+/// No text tells these apart: quotes and marks are both looked up among the signs, and no sign begins
+/// with a byte of no kind. Only the comment, `--`, asks for a mark.
 fn alike(byte: u8, right: Kind, wrong: Kind) -> bool {
-    let looked_up = [Kind::Quote, Kind::Mark, Kind::None];
-    looked_up.contains(&right) && looked_up[..2].contains(&wrong) && byte != b'-'
+    let signs = [Kind::Quote, Kind::Mark];
+    (signs.contains(&right) || right == Kind::None) && signs.contains(&wrong) && byte != b'-'
 }
 
 #[test]
@@ -173,5 +173,6 @@ fn tables_with_one_wrong_entry() {
             unseen += usize::from(alike);
         }
     }
-    println!("wrong tables: {}, not seen in texts: {unseen}", 256 * 6);
+    // 176 bytes of no kind as a quote or a mark, eleven marks as a quote, the quote as a mark.
+    assert_eq!(unseen, 2 * 176 + 11 + 1);
 }
