@@ -2,6 +2,7 @@
 use mathlib.Core.Bool.{Bool, true, false, cond}
 use Prim.Native.Nat.{ℕ}
 use lib.Dec.{eqb}
+use Rattle.codes.specs.Refusal as F
 use Rattle.answers.specs.declared.Refusal.{Refusal}
 use Rattle.answers.specs.declared.Refusal.the-variants.{TextTooLong, NoToken, NoSentence, LimitPassed, WrongName, WrongType, NoValue, WrongClock, WrongClass, BufferTooShort, BadSections, BadSignature, BadLine, BadRow, BadState, OutOfRange, BadLengths, ZeroDivisor}
 use Rattle.answers.specs.declared.Compiled.{Compiled}
@@ -60,7 +61,7 @@ placeOf (ZeroDivisor p) = p
 
 -- the row of an operator refused on a line: 18 or 16, the two numbers an operator is refused by (`operator-told`)
 abbrev pub operatorRefusal : (number line : ℕ) → Refusal
-operatorRefusal number line = cond (eqb number 18) (ZeroDivisor line) (OutOfRange line)
+operatorRefusal number line = cond (eqb number F.ZERO-DIVISOR) (ZeroDivisor line) (OutOfRange line)
 
 -- an answer in document 01's terms: done, with what is counted or lent; or turned back, by the number and the place of a row of the table
 pub data Told (A : Type 0) : Type 0 where

@@ -4,12 +4,14 @@ pub mod numbers;
 ghost use mathlib.Core.Path.{_≡_};
 ghost use Rattle.answers.specs.Answers.{numberOf, placeOf, operatorRefusal, isPerformed, isFresh};
 ghost use Rattle.answers.specs.declared.Cycled.the-variants.{NotPerformed};
+use codes::limit;
+use codes::refusal;
 
 // "A place (512 for the beginning, else a wait's line), 16 output and 32 variable slots".
 pub struct State {
     pub place: u16,
-    pub outputs: [i32; 16],
-    pub variables: [i32; 32],
+    pub outputs: [i32; limit::OUTPUTS],
+    pub variables: [i32; limit::VARIABLES],
 }
 
 // Why a call was turned back: a variant for each row of the table, in its order, with the refusal's place where that is not always 0.
@@ -89,7 +91,7 @@ pub struct FreshState {
 pub fn operator_refusal(number: u8, line: usize) -> Refusal
     ensures { λ r. ⌜ r ≡ operatorRefusal number line ⌝ }
 {
-    if number == 18 {
+    if number == refusal::ZERO_DIVISOR {
         return Refusal::ZeroDivisor(line);
     }
     Refusal::OutOfRange(line)

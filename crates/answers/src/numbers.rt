@@ -10,9 +10,10 @@ use crate::Cycled;
 use crate::Opened;
 use crate::Refusal;
 use crate::Started;
+use codes::record;
 
 // Turned back: number and place.
-fn refused(r: Refusal) -> [u32; 3]
+fn refused(r: Refusal) -> [u32; record::ANSWER]
     requires { ⌜ placeOf r < 2 ^ 32 ⌝ }
     ensures { λ a. ⌜ a ≡ refusedAs r ⌝ }
 {
@@ -22,7 +23,7 @@ fn refused(r: Refusal) -> [u32; 3]
 }
 
 // Done: so many image bytes or lines.
-fn done(n: usize) -> [u32; 3]
+fn done(n: usize) -> [u32; record::ANSWER]
     requires { ⌜ n < 2 ^ 32 ⌝ }
     ensures { λ a. ⌜ a ≡ doneAs n ⌝ }
 {
@@ -31,7 +32,7 @@ fn done(n: usize) -> [u32; 3]
 }
 
 // The answer of a compile.
-pub fn compiled(c: Compiled) -> [u32; 3]
+pub fn compiled(c: Compiled) -> [u32; record::ANSWER]
     requires { ⌜ Narrow (compiledNumbers c) ⌝ }
     ensures { λ a. ⌜ a ≡ compiledNumbers c ⌝ }
 {
@@ -42,7 +43,7 @@ pub fn compiled(c: Compiled) -> [u32; 3]
 }
 
 // The answer of an image opened.
-pub fn opened(o: Opened) -> [u32; 3]
+pub fn opened(o: Opened) -> [u32; record::ANSWER]
     requires { ⌜ Narrow (openedNumbers o) ⌝ }
     ensures { λ a. ⌜ a ≡ openedNumbers o ⌝ }
 {
@@ -53,7 +54,7 @@ pub fn opened(o: Opened) -> [u32; 3]
 }
 
 // The answer of a fresh state asked for.
-pub fn started(s: Started) -> [u32; 3]
+pub fn started(s: Started) -> [u32; record::ANSWER]
     requires { ⌜ Narrow (startedNumbers s) ⌝ }
     ensures { λ a. ⌜ a ≡ startedNumbers s ⌝ }
 {
@@ -64,7 +65,7 @@ pub fn started(s: Started) -> [u32; 3]
 }
 
 // The answer of a cycle.
-pub fn cycled(c: Cycled) -> [u32; 3]
+pub fn cycled(c: Cycled) -> [u32; record::ANSWER]
     requires { ⌜ Narrow (cycledNumbers c) ⌝ }
     ensures { λ a. ⌜ a ≡ cycledNumbers c ⌝ }
 {
@@ -75,7 +76,7 @@ pub fn cycled(c: Cycled) -> [u32; 3]
 }
 
 // The answer to many rows in one call.
-pub fn batched(b: Batched) -> [u32; 3]
+pub fn batched(b: Batched) -> [u32; record::ANSWER]
     requires { ⌜ Narrow (batchedNumbers b) ⌝ }
     ensures { λ a. ⌜ a ≡ batchedNumbers b ⌝ }
 {

@@ -21,6 +21,8 @@ use answers::Refusal;
 use answers::Sections;
 use answers::State;
 use answers::is_performed;
+use codes::image;
+use codes::record;
 use table::signature::count;
 
 // The call's answer, the state after the last row, and whether a row was performed.
@@ -68,15 +70,15 @@ fn all_due(width: Widths, count: usize, inputs: usize, outputs: usize, answers: 
     if !due(outputs, count, width.outputs) {
         return false;
     }
-    due(answers, count, 3)
+    due(answers, count, record::ANSWER)
 }
 
 // The widths by the counts of a signature section.
 fn widths_in(signature: &[u8]) -> Widths
     ensures { λ r. ⌜ ((σ : Signature) → signatureOf (now (signature .entry)) ≡ some σ → (r .inputs ≡ length (σ .inputs)) × (r .outputs ≡ length (σ .outputs))) ⌝ }
 {
-    let inputs = count(signature, 0);
-    let outputs = count(signature, 1);
+    let inputs = count(signature, image::INPUTS);
+    let outputs = count(signature, image::OUTPUTS);
     Widths { inputs, outputs }
 }
 
@@ -98,13 +100,13 @@ fn either(a: bool, b: bool) -> bool
 }
 
 // Three numbers into their place.
-fn put(part: &mut [u32], numbers: [u32; 3])
+fn put(part: &mut [u32], numbers: [u32; record::ANSWER])
     requires { ⌜ length (now part) ≡ 3 ⌝ }
     ensures { λ _. ⌜ now (part .exit) ≡ numbers ⌝ }
 {
-    part[0] = numbers[0];
-    part[1] = numbers[1];
-    part[2] = numbers[2];
+    part[record::NUMBER] = numbers[record::NUMBER];
+    part[record::AT] = numbers[record::AT];
+    part[record::COUNT] = numbers[record::COUNT];
 }
 
 // One row on an image that was opened before.
@@ -128,7 +130,7 @@ fn row(
     let told = p.answer;
     let input = from + width.inputs;
     let output = to + width.outputs;
-    let answer = told + 3;
+    let answer = told + record::ANSWER;
     let a = runtime::cycle_opened(image, at, s, &inputs[from..input], &mut outputs[to..output]);
     let cycled = a.answer;
     let state = a.state;

@@ -2,7 +2,7 @@
 use mathlib.Core.List.{List, [], _∷_}
 use Prim.Native.Nat.{ℕ}
 use Rattle.answers.specs.declared.State.{State}
-use Rattle.language.specs.Verdict.{Verdict, accepted, refused, verdict}
+use Rattle.language.specs.Verdict.{Verdict, onAccepted, verdict}
 use Rattle.semantics.specs.Rows.{atFirst}
 use Rattle.semantics.specs.Records.{Started, fresh, not-started}
 use Rattle.semantics.specs.Calls.{Called, turnedBack, Call}
@@ -11,8 +11,7 @@ use Rattle.semantics.specs.DirectRow.{directRow}
 
 -- the verdict's refusal, or the row on the process that the text means
 abbrev pub unlessRefused : Verdict → State → Call → Called
-unlessRefused (accepted p) s c = directRow p s c
-unlessRefused (refused n k) s c = turnedBack n k s (c .outputs)
+unlessRefused v s c = onAccepted (λ p. directRow p s c) (λ n k. turnedBack n k s (c .outputs)) v
 
 -- one call on a text: 1 to 9, then the row
 unfoldable pub directOf : List ℕ → State → Call → Called
@@ -20,8 +19,7 @@ directOf text s c = unlessRefused (verdict text) s c
 
 -- the fresh state of a text: the beginning and the initial values
 abbrev pub freshText : Verdict → Started
-freshText (accepted p) = fresh (laid (atFirst p))
-freshText (refused n k) = not-started n k
+freshText v = onAccepted (λ p. fresh (laid (atFirst p))) not-started v
 
 unfoldable pub directFresh : List ℕ → Started
 directFresh text = freshText (verdict text)

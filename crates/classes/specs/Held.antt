@@ -3,6 +3,7 @@ use mathlib.Core.Path.{_≡_}
 use mathlib.Core.List.{List, [], _∷_}
 use Prim.Native.Nat.{ℕ, _+_, _*_}
 use lib.ListN.{length, getD}
+use Rattle.codes.specs.Statement as S
 use Rattle.grammar.specs.Token.{Token}
 use Rattle.cursor.specs.Tokens.{tokenAt}
 use Rattle.statements.specs.Entries.{Entry}
@@ -10,14 +11,14 @@ use Rattle.syntax.specs.Arrays.{TokensIn}
 
 -- number k of row j: 0 kind, 1 index of its token, 4 first of its second part, 5 the one after its last
 abbrev pub numberOf : List ℕ → ℕ → ℕ → ℕ
-numberOf rows j k = getD rows (6 * j + k) 0
+numberOf rows j k = getD rows (S.ROW * j + k) 0
 
 -- row j is this statement's
 pub record RowIs (ts : List Token) (rows : List ℕ) (j : ℕ) (e : Entry) : Type 0 where
   pub kind : numberOf rows j 0 ≡ e .kind
-  pub token : tokenAt ts (numberOf rows j 1) ≡ e .token
-  pub other : numberOf rows j 4 ≡ j + 1 + e .part
-  pub end : numberOf rows j 5 ≡ j + 1 + e .inside
+  pub token : tokenAt ts (numberOf rows j S.TOKEN) ≡ e .token
+  pub other : numberOf rows j S.OTHER ≡ j + 1 + e .part
+  pub end : numberOf rows j S.END ≡ j + 1 + e .inside
 
 -- the rows from j on are these statements'
 abbrev pub RowsAre : List Token → List ℕ → ℕ → List Entry → Type 0

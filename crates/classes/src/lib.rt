@@ -1,15 +1,27 @@
 // Classes of statements and refusal 9: the lowest place of a while with a classed body that is not C or, if none, of `process` where its body is not C.
-// A block is a loop over its statements; statements in statements are a cycle of calls, the rows left falling. A class is a number: 0 none, 1 A, 2 B, 3 C.
+// A block is a loop over its statements; statements in statements are a cycle of calls, the rows left falling. A class is a number.
 ghost use mathlib.Core.Path.{_≡_};
 ghost use Prim.Native.Nat.{_+_, _<_, _≤_, min, max};
 ghost use Rattle.classes.specs.Codes.{sequenceCode, ifCode, whileCode, bodyAllowed};
 ghost use Rattle.classes.specs.Held.{numberOf};
 ghost use Rattle.classes.specs.Judged.{StatementFound, BlockFound, Judged, Finds};
+use codes::kind;
+use codes::limit;
+use codes::statement as row;
 use syntax::Finding;
 use syntax::found;
 use syntax::lower;
 use syntax::offence;
 use syntax::place_at;
+
+// The classes.
+const NONE: u8 = 0;
+
+const A: u8 = 1;
+
+const B: u8 = 2;
+
+const C: u8 = 3;
 
 // What is found of a run of rows: their class, and the lowest offence (0 for none, else the place plus 1).
 struct Summary {
@@ -21,11 +33,11 @@ struct Summary {
 fn sequence_class(a: u8, b: u8) -> u8
     ensures { λ r. ⌜ r ≡ sequenceCode a b ⌝ }
 {
-    if a == 0 {
-        return 0;
+    if a == NONE {
+        return NONE;
     }
-    if b == 0 {
-        return 0;
+    if b == NONE {
+        return NONE;
     }
     if a < b {
         return b;
@@ -37,14 +49,14 @@ fn sequence_class(a: u8, b: u8) -> u8
 fn if_class(a: u8, b: u8) -> u8
     ensures { λ r. ⌜ r ≡ ifCode a b ⌝ }
 {
-    if a == 0 {
-        return 0;
+    if a == NONE {
+        return NONE;
     }
-    if b == 0 {
-        return 0;
+    if b == NONE {
+        return NONE;
     }
     if a != b {
-        return 2;
+        return B;
     }
     a
 }
@@ -53,20 +65,20 @@ fn if_class(a: u8, b: u8) -> u8
 fn while_class(body: u8) -> u8
     ensures { λ r. ⌜ r ≡ whileCode body ⌝ }
 {
-    if body != 3 {
-        return 0;
+    if body != C {
+        return NONE;
     }
-    2
+    B
 }
 
 // Whether a body of this class is no offence in a while.
 fn body_allowed(body: u8) -> bool
     ensures { λ r. ⌜ r ≡ bodyAllowed body ⌝ }
 {
-    if body == 0 {
+    if body == NONE {
         return true;
     }
-    body == 3
+    body == C
 }
 
 // A number of the array as an index.
@@ -77,11 +89,11 @@ fn wide(x: u16) -> usize
 }
 
 // Number k of row j.
-fn number(rows: &[u16; 3072], j: usize, k: usize) -> usize
+fn number(rows: &[u16; row::ROWS], j: usize, k: usize) -> usize
     requires { ⌜ (j < 512) × (k < 6) ⌝ }
     ensures { λ r. ⌜ r ≡ numberOf (now (rows .entry)) j k ⌝ }
 {
-    wide(rows[6 * j + k])
+    wide(rows[row::ROW * j + k])
 }
 
 // A number brought into a range, so that the calls stay within their rows whatever the array holds.
@@ -100,8 +112,8 @@ fn clamp(x: usize, low: usize, high: usize) -> usize
 
 // An if. A missing else is a block of no rows, which is A as null is.
 fn if_statement(
-    rows: &[u16; 3072],
-    places: &[u16; 16384],
+    rows: &[u16; row::ROWS],
+    places: &[u16; limit::TEXT],
     n: usize,
     at: usize,
     end: usize,
@@ -109,7 +121,7 @@ fn if_statement(
     requires { ⌜ (at < end) × (end ≤ 512) × (numberOf (now rows) at 0 ≡ 3) ⌝ }
     ensures { λ r. ⌜ StatementFound (now (rows .entry)) (now (places .entry)) n at end r ⌝ }
 {
-    let other = clamp(number(rows, at, 4), at + 1, end);
+    let other = clamp(number(rows, at, row::OTHER), at + 1, end);
     let a = block(rows, places, n, at + 1, other);
     let b = block(rows, places, n, other, end);
     Summary {
@@ -120,8 +132,8 @@ fn if_statement(
 
 // A while, which is itself an offence where its body is classed and not C.
 fn while_statement(
-    rows: &[u16; 3072],
-    places: &[u16; 16384],
+    rows: &[u16; row::ROWS],
+    places: &[u16; limit::TEXT],
     n: usize,
     at: usize,
     end: usize,
@@ -130,7 +142,7 @@ fn while_statement(
     ensures { λ r. ⌜ StatementFound (now (rows .entry)) (now (places .entry)) n at end r ⌝ }
 {
     let body = block(rows, places, n, at + 1, end);
-    let place = place_at(places, n, number(rows, at, 1));
+    let place = place_at(places, n, number(rows, at, row::TOKEN));
     let own = offence(body_allowed(body.class), place);
     Summary {
         class: while_class(body.class),
@@ -139,39 +151,51 @@ fn while_statement(
 }
 
 // A statement, by its kind; assignments and null are A, a wait is C.
-fn statement(rows: &[u16; 3072], places: &[u16; 16384], n: usize, at: usize, end: usize) -> Summary
+fn statement(
+    rows: &[u16; row::ROWS],
+    places: &[u16; limit::TEXT],
+    n: usize,
+    at: usize,
+    end: usize,
+) -> Summary
     requires { ⌜ (at < end) × (end ≤ 512) ⌝ }
     ensures { λ r. ⌜ StatementFound (now (rows .entry)) (now (places .entry)) n at end r ⌝ }
 {
-    let kind = number(rows, at, 0);
-    if kind == 3 {
+    let kind = number(rows, at, row::KIND);
+    if kind == kind::IF {
         return if_statement(rows, places, n, at, end);
     }
-    if kind == 5 {
+    if kind == kind::WHILE {
         return while_statement(rows, places, n, at, end);
     }
-    if kind == 0 {
+    if kind == kind::WAIT {
         return Summary {
-            class: 3,
+            class: C,
             lowest: 0,
         };
     }
     Summary {
-        class: 1,
+        class: A,
         lowest: 0,
     }
 }
 
 // A block: the statements in sequence from one row up to another. A block of no statements is A.
-fn block(rows: &[u16; 3072], places: &[u16; 16384], n: usize, from: usize, to: usize) -> Summary
+fn block(
+    rows: &[u16; row::ROWS],
+    places: &[u16; limit::TEXT],
+    n: usize,
+    from: usize,
+    to: usize,
+) -> Summary
     requires { ⌜ (from ≤ to) × (to ≤ 512) ⌝ }
     ensures { λ r. ⌜ BlockFound (now (rows .entry)) (now (places .entry)) n from to r ⌝ }
 {
     let mut at = from;
-    let mut class: u8 = 1;
+    let mut class: u8 = A;
     let mut lowest: usize = 0;
     while at < to {
-        let end = clamp(number(rows, at, 5), at + 1, to);
+        let end = clamp(number(rows, at, row::END), at + 1, to);
         let s = statement(rows, places, n, at, end);
         class = sequence_class(class, s.class);
         lowest = lower(lowest, s.lowest);
@@ -182,25 +206,25 @@ fn block(rows: &[u16; 3072], places: &[u16; 16384], n: usize, from: usize, to: u
 
 // Refusal 9 of a text of s statements: the lowest offence (0 for none, else the place plus 1); process is the index of the token `process`.
 fn lowest_place(
-    rows: &[u16; 3072],
-    places: &[u16; 16384],
+    rows: &[u16; row::ROWS],
+    places: &[u16; limit::TEXT],
     n: usize,
     s: usize,
     process: usize,
 ) -> usize
     ensures { λ r. ⌜ Judged (now (rows .entry)) (now (places .entry)) n s process r ⌝ }
 {
-    let body = block(rows, places, n, 0, clamp(s, 0, 512));
+    let body = block(rows, places, n, 0, clamp(s, 0, limit::STATEMENTS));
     if body.lowest != 0 {
         return body.lowest;
     }
-    offence(body.class == 3, place_at(places, n, process))
+    offence(body.class == C, place_at(places, n, process))
 }
 
 // The lowest offence of refusal 9 of a text of s statements.
 pub fn judge(
-    rows: &[u16; 3072],
-    places: &[u16; 16384],
+    rows: &[u16; row::ROWS],
+    places: &[u16; limit::TEXT],
     n: usize,
     s: usize,
     process: usize,

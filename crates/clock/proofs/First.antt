@@ -7,7 +7,8 @@ use Prim.Native.Nat.{ℕ, zero, suc, _+_, _*_}
 use native.Mathlib.Omega.{arith}
 use borrow.Author.Tests.{eq-eqb, ne-eqb}
 use lib.ListN.{length, getD}
-use Rattle.grammar.specs.Token.{Token, NAME}
+use Rattle.grammar.specs.Token.{Token}
+use Rattle.codes.specs.Token.{NAME}
 use Rattle.grammar.specs.Tree.{Stmt, output, assign, null, wait, if-then, if-else, while, Body}
 use Rattle.grammar.specs.Limits.{Each}
 use Rattle.language.specs.Lists.{each}

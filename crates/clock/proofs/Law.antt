@@ -8,10 +8,11 @@ use native.Mathlib.Omega.{arith}
 use borrow.Author.Tests.{lt-ltb, le-ltb, eqb-true}
 use lib.Dec.{eqb, ltb}
 use lib.ListN.{getD}
-use Rattle.grammar.specs.Token.{Token, NAME}
+use Rattle.grammar.specs.Token.{Token}
+use Rattle.codes.specs.Token.{NAME}
 use Rattle.grammar.specs.Tree.{Expr, number, bit, name, sign, negate, binary, parens, Stmt, output, assign, null, wait, if-then, if-else, while, Mode, input, output-port, variable-mode, Text}
 use Rattle.grammar.specs.Reader.{choose}
-use Rattle.design.specs.Types.{Ty, std-logic, integer}
+use Rattle.design.specs.Types.{Ty, std-logic, integer, typeByte}
 use Rattle.language.specs.Lists.{unless, each, lowest}
 use Rattle.language.specs.Declarations.{Decl, declared, find, isA, statements, isInput, isLogic, clockLike, clockOf}
 use Rattle.language.specs.Elaboration.{position}
@@ -22,11 +23,12 @@ use Rattle.language.proofs.Facts.{both-nil}
 use Rattle.cursor.specs.Tokens.{tokenAt}
 use Rattle.syntax.specs.Arrays.{numberIn}
 use Rattle.syntax.specs.Entries.{stmtEntry}
-use Rattle.syntax.specs.Headings.{modeCode, typeCode}
+use Rattle.syntax.specs.Headings.{modeCode}
 use Rattle.syntax.specs.Lowest.{lowestOf, lower, lowestFrom}
 use Rattle.syntax.specs.Lowest as L
 use Rattle.syntax.proofs.Lowest.{lower-none, lowest-append, lowest-unless}
 use Rattle.offences.specs.Laid.{Laid}
+use Rattle.offences.specs.Positions.{hasName}
 use Rattle.offences.proofs.Loops.{each-same}
 use Rattle.offences.proofs.Bodies.{NamedRow, NamedItem, ofNames, ofReads, ofItem, rows-lowest, items-lowest}
 use Rattle.offences.proofs.Found.{modeOf, typeOf, mode-found, type-found, same-owner}
@@ -73,8 +75,8 @@ read-rule v (if-else i e a b) = read-expr v e
 read-rule v (while w e a) = read-expr v e
 
 -- a std_logic input, by its codes
-mode-type : (m : Mode) (y : Ty) → choose (eqb (modeCode m) 0) (eqb (typeCode y) 0) false ≡ isInput m && isLogic y
-unfolding modeCode typeCode isInput isLogic
+mode-type : (m : Mode) (y : Ty) → choose (eqb (modeCode m) 0) (eqb (typeByte y) 0) false ≡ isInput m && isLogic y
+unfolding modeCode isInput isLogic
 mode-type input std-logic = refl
 mode-type input integer = refl
 mode-type output-port y = refl
@@ -115,7 +117,7 @@ module _ (ts : List Token) (t : Text) (kinds places : List ℕ) (n : ℕ) (codes
 
     stray-is : (j : ℕ) → NamedRow (getD rows (6 * j) 0) (tokenAt ts (getD rows (6 * j + 1) 0))
         → strayAt rows places owners n (position (declared t) v) j ≡ lowestOf (strayRule v (getD rows (6 * j) 0) (tokenAt ts (getD rows (6 * j + 1) 0)))
-    unfolding strayAt strayRule L.number lowest
+    unfolding strayAt strayRule hasName L.number lowest
     stray-is j h = go (eqb (getD rows (6 * j) 0) 0) refl
       where
         go : (b : Bool) → eqb (getD rows (6 * j) 0) 0 ≡ b
@@ -123,7 +125,7 @@ module _ (ts : List Token) (t : Text) (kinds places : List ℕ) (n : ℕ) (codes
             ≡ lowestOf (choose b (unless (eqb (tokenAt ts (getD rows (6 * j + 1) 0) .value) v) (tokenAt ts (getD rows (6 * j + 1) 0) .place)) [])
         go true q =
             let z = eqb-true (getD rows (6 * j) 0) 0 q in
-            ap (λ (b : Bool). lowestOf (unless b (numberIn places n (getD rows (6 * j + 1) 0)))) (owned (getD rows (6 * j + 1) 0) (h (omega arith)))
+            ap (λ (b : Bool). lowestOf (unless b (numberIn places n (getD rows (6 * j + 1) 0)))) (owned (getD rows (6 * j + 1) 0) (h (ap hasName z)))
             ∙ ap (λ (p : ℕ). lowestOf (unless (eqb (tokenAt ts (getD rows (6 * j + 1) 0) .value) v) p)) (place-is (laid .of-tokens) (getD rows (6 * j + 1) 0))
         go false q = refl
 

@@ -3,6 +3,7 @@ use mathlib.Core.Path.{_≡_}
 use mathlib.Core.Option.{Option, none, some}
 use mathlib.Core.List.{List, []}
 use Prim.Native.Nat.{ℕ}
+use Rattle.codes.specs.Limit as L
 use Rattle.grammar.specs.Token.{Token}
 use Rattle.grammar.specs.Tree.{Text}
 use Rattle.language.specs.Declarations.{Decl, declared, clockOf}
@@ -26,7 +27,7 @@ pub record Finds (rows : List ℕ) (s : ℕ) (codes indices : List ℕ) (k : ℕ
 
 -- the number of the declaration of the clock's name; 65 without a wait
 unfoldable pub ownerOf : List Decl → Option Token → ℕ
-ownerOf Δ none = 65
+ownerOf Δ none = L.NAMES
 ownerOf Δ (some w) = position Δ (w .value)
 
 -- the same for the clock's number

@@ -5,6 +5,11 @@ use mathlib.Core.List.{List}
 use Prim.Native.Nat.{ℕ, zero, suc, _+_, _*_, min}
 use lib.Dec.{eqb, ltb}
 use lib.ListN.{getD}
+use Rattle.codes.specs.Statement as S
+use Rattle.codes.specs.Declaration as D
+use Rattle.codes.specs.Limit as L
+use Rattle.codes.specs.Item as I
+use Rattle.design.specs.Types.{std-logic, typeByte}
 use Rattle.grammar.specs.Reader.{choose}
 use Rattle.language.specs.Lists.{unless}
 use Rattle.syntax.specs.Lowest.{lowestOf, lower, lowestFrom}
@@ -13,40 +18,40 @@ use Rattle.offences.specs.Positions.{modeIn, typeIn}
 
 -- the index of the first wait's name, from row j on, c rows; 16384 for none
 unfoldable pub waitFrom : List ℕ → ℕ → ℕ → ℕ
-waitFrom rows j zero = 16384
-waitFrom rows j (suc c) = choose (eqb (getD rows (6 * j) 0) 0) (getD rows (6 * j + 1) 0) (waitFrom rows (j + 1) c)
+waitFrom rows j zero = L.TEXT
+waitFrom rows j (suc c) = choose (eqb (getD rows (S.ROW * j) 0) S.WAIT) (getD rows (S.ROW * j + S.TOKEN) 0) (waitFrom rows (j + 1) c)
 
 -- "the first wait's name", among at most 512 statements
 abbrev pub waitIn : List ℕ → ℕ → ℕ
-waitIn rows s = waitFrom rows 0 (min s 512)
+waitIn rows s = waitFrom rows 0 (min s L.STATEMENTS)
 
 -- the number of the clock's declaration; 65 without a wait
 abbrev pub ownerIn : List ℕ → ℕ → List ℕ → ℕ → ℕ
-ownerIn rows s owners n = choose (ltb (waitIn rows s) n) (numberIn owners n (waitIn rows s)) 65
+ownerIn rows s owners n = choose (ltb (waitIn rows s) n) (numberIn owners n (waitIn rows s)) L.NAMES
 
 -- "another wait differs": row j is a wait whose name stands for another declaration than o
 unfoldable pub strayAt : List ℕ → List ℕ → List ℕ → ℕ → ℕ → ℕ → ℕ
 strayAt rows places owners n o j =
-    choose (eqb (getD rows (6 * j) 0) 0)
-    (lowestOf (unless (eqb (numberIn owners n (getD rows (6 * j + 1) 0)) o) (numberIn places n (getD rows (6 * j + 1) 0)))) 0
+    choose (eqb (getD rows (S.ROW * j) 0) S.WAIT)
+    (lowestOf (unless (eqb (numberIn owners n (getD rows (S.ROW * j + S.TOKEN) 0)) o) (numberIn places n (getD rows (S.ROW * j + S.TOKEN) 0)))) 0
 
 -- "clock read": item j is a name that stands for o
 unfoldable pub readAt : List ℕ → List ℕ → List ℕ → List ℕ → ℕ → ℕ → ℕ → ℕ
 readAt codes indices places owners n o j =
-    choose (eqb (getD codes j 0) 1)
+    choose (eqb (getD codes j 0) I.NAME)
     (lowestOf (unless (not (eqb (numberIn owners n (getD indices j 0)) o)) (numberIn places n (getD indices j 0)))) 0
 
 -- a std_logic input is declared under the number o
 abbrev pub isClockIn : List ℕ → ℕ → ℕ → Bool
-isClockIn decls d o = choose (eqb (modeIn decls d o) 0) (eqb (typeIn decls d o) 0) false
+isClockIn decls d o = choose (eqb (modeIn decls d o) D.IN) (eqb (typeIn decls d o) (typeByte std-logic)) false
 
 -- the lowest place of a wait that differs, of at most 512 statements
 abbrev pub straysIn : List ℕ → ℕ → List ℕ → List ℕ → ℕ → ℕ → ℕ
-straysIn rows s places owners n o = lowestFrom (strayAt rows places owners n o) 0 (min s 512)
+straysIn rows s places owners n o = lowestFrom (strayAt rows places owners n o) 0 (min s L.STATEMENTS)
 
 -- the lowest place of a read, of at most 16384 items
 abbrev pub readsIn : List ℕ → List ℕ → ℕ → List ℕ → List ℕ → ℕ → ℕ → ℕ
-readsIn codes indices k places owners n o = lowestFrom (readAt codes indices places owners n o) 0 (min k 16384)
+readsIn codes indices k places owners n o = lowestFrom (readAt codes indices places owners n o) 0 (min k L.TEXT)
 
 -- the lowest of all; "(if that input exists)": else no read is judged, and the first wait's name is refused; without a wait nothing is
 unfoldable pub judgeIn : List ℕ → ℕ → List ℕ → List ℕ → ℕ → List ℕ → List ℕ → ℕ → List ℕ → ℕ → ℕ

@@ -4,28 +4,32 @@ ghost use mathlib.Core.Path.{_≡_};
 ghost use Prim.Native.Nat.{_<_};
 ghost use Rattle.clock.specs.Positions.{waitIn, strayAt, readAt, isClockIn, straysIn, readsIn};
 ghost use Rattle.clock.specs.Judges.{Judges, Finds, Owns};
+use codes::declaration;
+use codes::item;
+use codes::limit;
+use codes::statement;
 use syntax::Finding;
 
 // The index of the first wait's name, or 16384.
-fn first_wait(rows: &[u16; 3072], s: usize) -> usize
+fn first_wait(rows: &[u16; statement::ROWS], s: usize) -> usize
     ensures { λ r. ⌜ r ≡ waitIn (now (rows .entry)) s ⌝ }
 {
-    let end = offences::at_most(s, 512);
+    let end = offences::at_most(s, limit::STATEMENTS);
     let mut j = 0;
     while j < end {
-        if rows[6 * j] == 0 {
-            return offences::wide(rows[6 * j + 1]);
+        if rows[statement::ROW * j] == statement::WAIT {
+            return offences::wide(rows[statement::ROW * j + statement::TOKEN]);
         }
         j += 1;
     }
-    16384
+    limit::TEXT
 }
 
 // A wait whose name stands for another declaration than o.
 fn stray_at(
-    rows: &[u16; 3072],
-    places: &[u16; 16384],
-    owners: &[u8; 16384],
+    rows: &[u16; statement::ROWS],
+    places: &[u16; limit::TEXT],
+    owners: &[u8; limit::TEXT],
     n: usize,
     o: usize,
     j: usize,
@@ -33,26 +37,26 @@ fn stray_at(
     requires { ⌜ j < 512 ⌝ }
     ensures { λ r. ⌜ r ≡ strayAt (now (rows .entry)) (now (places .entry)) (now (owners .entry)) n o j ⌝ }
 {
-    if rows[6 * j] != 0 {
+    if rows[statement::ROW * j] != statement::WAIT {
         return 0;
     }
-    let i = offences::wide(rows[6 * j + 1]);
+    let i = offences::wide(rows[statement::ROW * j + statement::TOKEN]);
     let same = offences::owner_at(owners, n, i) == o;
     syntax::offence(same, syntax::place_at(places, n, i))
 }
 
 // The lowest of those.
 fn strays(
-    rows: &[u16; 3072],
+    rows: &[u16; statement::ROWS],
     s: usize,
-    places: &[u16; 16384],
-    owners: &[u8; 16384],
+    places: &[u16; limit::TEXT],
+    owners: &[u8; limit::TEXT],
     n: usize,
     o: usize,
 ) -> usize
     ensures { λ r. ⌜ r ≡ straysIn (now (rows .entry)) s (now (places .entry)) (now (owners .entry)) n o ⌝ }
 {
-    let end = offences::at_most(s, 512);
+    let end = offences::at_most(s, limit::STATEMENTS);
     let mut low = 0;
     let mut j = 0;
     while j < end {
@@ -64,10 +68,10 @@ fn strays(
 
 // An item that is a name and stands for o.
 fn read_at(
-    codes: &[u8; 16384],
-    indices: &[u16; 16384],
-    places: &[u16; 16384],
-    owners: &[u8; 16384],
+    codes: &[u8; limit::TEXT],
+    indices: &[u16; limit::TEXT],
+    places: &[u16; limit::TEXT],
+    owners: &[u8; limit::TEXT],
     n: usize,
     o: usize,
     j: usize,
@@ -75,7 +79,7 @@ fn read_at(
     requires { ⌜ j < 16384 ⌝ }
     ensures { λ r. ⌜ r ≡ readAt (now (codes .entry)) (now (indices .entry)) (now (places .entry)) (now (owners .entry)) n o j ⌝ }
 {
-    if codes[j] != 1 {
+    if codes[j] != item::NAME {
         return 0;
     }
     let i = offences::wide(indices[j]);
@@ -85,17 +89,17 @@ fn read_at(
 
 // The lowest of those.
 fn reads(
-    codes: &[u8; 16384],
-    indices: &[u16; 16384],
+    codes: &[u8; limit::TEXT],
+    indices: &[u16; limit::TEXT],
     k: usize,
-    places: &[u16; 16384],
-    owners: &[u8; 16384],
+    places: &[u16; limit::TEXT],
+    owners: &[u8; limit::TEXT],
     n: usize,
     o: usize,
 ) -> usize
     ensures { λ r. ⌜ r ≡ readsIn (now (codes .entry)) (now (indices .entry)) k (now (places .entry)) (now (owners .entry)) n o ⌝ }
 {
-    let end = offences::at_most(k, 16384);
+    let end = offences::at_most(k, limit::TEXT);
     let mut low = 0;
     let mut j = 0;
     while j < end {
@@ -106,37 +110,42 @@ fn reads(
 }
 
 // A std_logic input is declared under the number.
-fn is_clock(decls: &[u16; 390], d: usize, o: usize) -> bool
+fn is_clock(decls: &[u16; declaration::ROWS], d: usize, o: usize) -> bool
     ensures { λ r. ⌜ r ≡ isClockIn (now (decls .entry)) d o ⌝ }
 {
-    if offences::mode_at(decls, d, o) == 0 {
-        return offences::type_at(decls, d, o) == 0;
+    if offences::mode_at(decls, d, o) == declaration::IN {
+        return offences::type_at(decls, d, o) == declaration::STD_LOGIC;
     }
     false
 }
 
 // The number of the clock's declaration, or 65 without a wait.
-pub fn clock_owner(rows: &[u16; 3072], s: usize, owners: &[u8; 16384], n: usize) -> usize
+pub fn clock_owner(
+    rows: &[u16; statement::ROWS],
+    s: usize,
+    owners: &[u8; limit::TEXT],
+    n: usize,
+) -> usize
     ensures { λ r. ⌜ Owns (now (rows .entry)) s (now (owners .entry)) n r ⌝ }
 {
     let w = first_wait(rows, s);
     if w < n {
         return offences::owner_at(owners, n, w);
     }
-    65
+    limit::NAMES
 }
 
 // The lowest place of refusal 8 plus 1, or 0.
 fn lowest_place(
-    rows: &[u16; 3072],
+    rows: &[u16; statement::ROWS],
     s: usize,
-    codes: &[u8; 16384],
-    indices: &[u16; 16384],
+    codes: &[u8; limit::TEXT],
+    indices: &[u16; limit::TEXT],
     k: usize,
-    places: &[u16; 16384],
-    owners: &[u8; 16384],
+    places: &[u16; limit::TEXT],
+    owners: &[u8; limit::TEXT],
     n: usize,
-    decls: &[u16; 390],
+    decls: &[u16; declaration::ROWS],
     d: usize,
 ) -> usize
     ensures { λ r. ⌜ Judges (now (rows .entry)) s (now (codes .entry)) (now (indices .entry)) k (now (places .entry)) (now (owners .entry)) n (now (decls .entry)) d r ⌝ }
@@ -156,15 +165,15 @@ fn lowest_place(
 
 // The lowest offence of refusal 8.
 pub fn judge(
-    rows: &[u16; 3072],
+    rows: &[u16; statement::ROWS],
     s: usize,
-    codes: &[u8; 16384],
-    indices: &[u16; 16384],
+    codes: &[u8; limit::TEXT],
+    indices: &[u16; limit::TEXT],
     k: usize,
-    places: &[u16; 16384],
-    owners: &[u8; 16384],
+    places: &[u16; limit::TEXT],
+    owners: &[u8; limit::TEXT],
     n: usize,
-    decls: &[u16; 390],
+    decls: &[u16; declaration::ROWS],
     d: usize,
 ) -> Finding
     ensures { λ r. ⌜ Finds (now (rows .entry)) s (now (codes .entry)) (now (indices .entry)) k (now (places .entry)) (now (owners .entry)) n (now (decls .entry)) d r ⌝ }

@@ -10,7 +10,7 @@ use lib.ListN.{length, take, length-append}
 use borrow.Author.Tests.{ltb-true}
 use Rattle.answers.specs.declared.Compiled as declared
 use Rattle.answers.specs.declared.Compiled.the-variants.{Written}
-use Rattle.answers.specs.Answers.{done, compileTold}
+use Rattle.answers.specs.Answers.{compileTold}
 use Rattle.design.specs.Statement as D
 use Rattle.design.specs.Process.{Process, WellFormed}
 use Rattle.language.specs.Validity.{Valid}
@@ -26,7 +26,7 @@ use Rattle.format.specs.Opening.{openOf}
 use Rattle.format.specs.Encode.{tableOf, encode}
 use Rattle.format.proofs.Sections.{form1-length}
 use Rattle.images.proofs.Processes.{process-good, encode-opens, encode-bytes}
-use Rattle.theorems.specs.Compile.{Compiled, written, not-compiled, compileOf, compileAnswer}
+use Rattle.theorems.specs.Compile.{written, compileOf}
 use Rattle.behaviour.specs.Direct.{directFresh, freshText}
 use Rattle.theorems.proofs.Size.{valid-fits}
 use Rattle.theorems.proofs.Demand3.{wrote, demand3}
@@ -94,13 +94,8 @@ written-opens text buffer n e =
       starts = demand3 text buffer n e .direct-start ∙ ap freshText (r .verdict);
     }
 
--- an answer of the code that says written
-told-written : (x : Compiled) (n : ℕ) → done n ≡ compileAnswer x → x ≡ written n
-told-written (written m) n e = let z : n ≡ m = cc in ap written (sym z)
-told-written (not-compiled q k) n e = absurd (let z : _≡_ {A = ℕ} 0 1 = cc in omega arith)
-
 -- What `compile` wrote, by its contract: the bytes that it answers open, and start as the text's design does.
-pub compile-opens : (text before after : List ℕ) (r : declared.Compiled) (n : ℕ) → compileTold r ≡ compileAnswer (compileOf text before .answer) → after ≡ compileOf text before .buffer
+pub compile-opens : (text before after : List ℕ) (r : declared.Compiled) (n : ℕ) → compileTold r ≡ compileOf text before .answer → after ≡ compileOf text before .buffer
     → r ≡ Written n → OpensAs text (take n after)
 compile-opens text before after r n a b w =
-    subst (λ (s : List ℕ). OpensAs text (take n s)) (sym b) (written-opens text before n (told-written (compileOf text before .answer) n (sym (ap compileTold w) ∙ a)))
+    subst (λ (s : List ℕ). OpensAs text (take n s)) (sym b) (written-opens text before n (sym a ∙ ap compileTold w))

@@ -5,6 +5,8 @@ ghost use Prim.Native.Nat.{ℕ, _+_, _<_, _≤_};
 ghost use lib.Dec.{eqb};
 ghost use Rattle.cursor.specs.Tokens.{kindIn, flagIn};
 ghost use Rattle.cursor.specs.Reading.{Asks, refuse, itemAt, expectAt};
+use codes::limit;
+use codes::refusal;
 
 // Where a reader stands: a refusal's number or 0; the token; the items of the expression so far; the items written in all.
 pub struct Pos {
@@ -15,7 +17,7 @@ pub struct Pos {
 }
 
 // The kind of the token at an index, or 0 past the end.
-pub fn kind_at(kinds: &[u8; 16384], n: usize, at: usize) -> u8
+pub fn kind_at(kinds: &[u8; limit::TEXT], n: usize, at: usize) -> u8
     requires { ⌜ n ≤ 16384 ⌝ }
     ensures { λ r. ⌜ r ≡ kindIn (now (kinds .entry)) n at ⌝ }
 {
@@ -38,7 +40,7 @@ pub fn refused(q: Pos, number: u8) -> Pos
 }
 
 // Takes the token as an item of an expression, or refuses it by a limit.
-pub fn item(long: &[u8; 16384], q: Pos) -> Pos
+pub fn item(long: &[u8; limit::TEXT], q: Pos) -> Pos
     requires { ⌜ (q .at < 16384) × (q .items ≤ 64) ⌝ }
     ensures { λ r. ⌜ r ≡ itemAt (flagIn (now (long .entry)) (q .at)) q ⌝ }
 {
@@ -47,10 +49,10 @@ pub fn item(long: &[u8; 16384], q: Pos) -> Pos
     }
     let at = q.at;
     if long[at] == 1 {
-        return refused(q, 4);
+        return refused(q, refusal::LIMIT_PASSED);
     }
-    if q.items >= 64 {
-        return refused(q, 4);
+    if q.items >= limit::ITEMS {
+        return refused(q, refusal::LIMIT_PASSED);
     }
     Pos {
         fault: q.fault,
@@ -61,7 +63,13 @@ pub fn item(long: &[u8; 16384], q: Pos) -> Pos
 }
 
 // Takes the token if it has the kind; refuses it otherwise, or by a limit.
-pub fn expect(kinds: &[u8; 16384], long: &[u8; 16384], n: usize, q: Pos, kind: u8) -> Pos
+pub fn expect(
+    kinds: &[u8; limit::TEXT],
+    long: &[u8; limit::TEXT],
+    n: usize,
+    q: Pos,
+    kind: u8,
+) -> Pos
     requires { ⌜ (0 < kind) × Asks n q ⌝ }
     ensures { λ r. ⌜ r ≡ expectAt (eqb (kindIn (now (kinds .entry)) n (q .at)) kind) (flagIn (now (long .entry)) (q .at)) q ⌝ }
 {
@@ -70,10 +78,10 @@ pub fn expect(kinds: &[u8; 16384], long: &[u8; 16384], n: usize, q: Pos, kind: u
     }
     let at = q.at;
     if kind_at(kinds, n, at) != kind {
-        return refused(q, 3);
+        return refused(q, refusal::NO_SENTENCE);
     }
     if long[at] == 1 {
-        return refused(q, 4);
+        return refused(q, refusal::LIMIT_PASSED);
     }
     Pos {
         fault: q.fault,

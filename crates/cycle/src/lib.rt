@@ -22,8 +22,12 @@ use answers::State;
 use answers::is_performed;
 use answers::operator_refusal;
 use answers::refused;
+use codes::limit;
 use lines::Followed;
 use table::RowCheck;
+
+// The greatest number that a place can be.
+const LAST: u32 = u16::MAX as u32;
 
 // The first n bytes.
 fn first<'a>(s: &'a [u8], n: usize) -> &'a [u8]
@@ -49,8 +53,8 @@ pub fn follow_from(
         → went r (now (outputs .exit)) (now (variables .exit)) ≡ ranFor t (now (lines .entry)) (now (code .entry)) place (now (inputs .entry)) (now (outputs .entry)) (now (variables .entry))) ⌝ }
 {
     let x = table::lines::first_line(lines, place) as u32;
-    let limit = lines::field(lines, x, 10) + 1;
-    let mut kinds = [0u8; 32];
+    let limit = lines::field(lines, x, lines::REACH) + 1;
+    let mut kinds = [0u8; limit::VARIABLES];
     let n = table::types::variable_types(signature, &mut kinds);
     lines::follow(
         lines,
@@ -66,10 +70,16 @@ pub fn follow_from(
 }
 
 // A performed cycle: the wait reached, and the slots. No line of an opened image is that high.
-fn performed(s: State, p: u32, n: u32, outputs: [i32; 16], variables: [i32; 32]) -> Advanced
+fn performed(
+    s: State,
+    p: u32,
+    n: u32,
+    outputs: [i32; limit::OUTPUTS],
+    variables: [i32; limit::VARIABLES],
+) -> Advanced
     ensures { λ a. ⌜ (p < 65536 → a ≡ record { state = record { place = p; outputs = outputs; variables = variables }; answer = Performed n }) ⌝ }
 {
-    if 65535 < p {
+    if LAST < p {
         return refused(s, Refusal::BadState);
     }
     let state = State {

@@ -7,7 +7,8 @@ use Prim.Native.Nat.{ℕ, _+_, _-_, _≤_, _<_}
 use native.Mathlib.Omega.{arith}
 use borrow.Author.Tests.{ne-eqb, eqb-true, eqb-false}
 use lib.Dec.{eqb}
-use Rattle.grammar.specs.Token.{Token, NAME}
+use Rattle.grammar.specs.Token.{Token}
+use Rattle.codes.specs.Token.{NAME}
 use Rattle.grammar.specs.Tree.{Group}
 use Rattle.grammar.specs.Grammar.{NonTerminal, ports, morePorts, port, vars, Says, Sym, nt, Fun, Production, productions, _↠_}
 use Rattle.grammar.specs.Derivation.{here, there}

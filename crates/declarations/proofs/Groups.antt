@@ -8,7 +8,8 @@ use native.Mathlib.Omega.{arith}
 use borrow.Author.Tests.{eq-eqb, le-ltb}
 use lib.Dec.{eqb}
 use lib.ListN.{length}
-use Rattle.grammar.specs.Token.{Token, NAME, SEMI, COLON, VARIABLE}
+use Rattle.grammar.specs.Token.{Token}
+use Rattle.codes.specs.Token.{NAME, SEMI, COLON, VARIABLE}
 use Rattle.grammar.specs.Tree.{Mode, variable-mode}
 use Rattle.grammar.specs.Grammar.{NonTerminal, port, names, mode, type, init, vars, Says, variables, Sym, tk, nt, tok, Fun, Production, productions, _↠_}
 use Rattle.grammar.specs.Meter.{tick, over}

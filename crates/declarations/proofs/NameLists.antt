@@ -8,7 +8,8 @@ use native.Mathlib.Omega.{arith}
 use native.Mathlib.Numerals.{add-one}
 use borrow.Author.Tests.{ne-eqb, eqb-true, eqb-false}
 use lib.Dec.{eqb}
-use Rattle.grammar.specs.Token.{Token, NAME, COMMA}
+use Rattle.grammar.specs.Token.{Token}
+use Rattle.codes.specs.Token.{NAME, COMMA}
 use Rattle.grammar.specs.Grammar.{NonTerminal, names, moreNames, Says, declares, Sym, tk, nt, tok, Fun, Production, productions, _↠_}
 use Rattle.grammar.specs.Derivation.{here}
 use Rattle.grammar.specs.Reader.{compose, elem, first, firsts, follow, nullable, nullables, chosen, pick, take, no-rule}

@@ -4,7 +4,7 @@ use mathlib.Core.Logic.{_⊎_}
 use mathlib.Core.List.{List, [], _∷_}
 use Prim.Native.Nat.{ℕ}
 use borrow.Author.Tests.{ne-eqb}
-use Rattle.grammar.specs.Token.{NUMBER, ZERO, ONE, SEMI, COLON, BECOMES, MINUS, IN, OUT, VARIABLE, STD-LOGIC, INTEGER}
+use Rattle.codes.specs.Token.{NUMBER, ZERO, ONE, SEMI, COLON, BECOMES, MINUS, IN, OUT, VARIABLE, STD-LOGIC, INTEGER}
 use Rattle.grammar.specs.Tree.{integer-literal, logic-literal, minus, input, output-port, variable-mode}
 use Rattle.grammar.specs.Grammar.{NonTerminal, morePorts, port, names, mode, type, init, value, vars, Says, Mark, ins, outs, variables, Sym, tk, nt, tok, Fun, Production, productions, _↠_}
 use Rattle.grammar.specs.Reader.{elem, first, firsts, follow, nullable, nullables, chosen, pick, take, no-rule}

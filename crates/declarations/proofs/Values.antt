@@ -9,7 +9,8 @@ use native.Mathlib.Decide.{decLt}
 use borrow.Author.Tests.{eq-eqb, ne-eqb, le-ltb, ltb-false, eqb-true, eqb-false}
 use lib.Dec.{eqb, ltb}
 use lib.ListN.{length, List·getD-eq-default}
-use Rattle.grammar.specs.Token.{Token, IN, OUT}
+use Rattle.grammar.specs.Token.{Token}
+use Rattle.codes.specs.Token.{IN, OUT}
 use Rattle.grammar.specs.Tree.{Init, without, integer-literal, logic-literal, minus, Mode, input, output-port}
 use Rattle.grammar.specs.Grammar.{NonTerminal, mode, type, init, value, Says, Mark, plain, ins, outs, Sym, tk, nt, Fun, productions, _↠_}
 use Rattle.grammar.specs.Meter.{InHeading, tick, over}

@@ -5,6 +5,7 @@ use mathlib.Core.List.{List, [], _∷_}
 use Prim.Native.Nat.{ℕ, zero, suc, _+_, _≤_}
 use lib.Dec.{eqb, leb, ltb}
 use Rattle.grammar.specs.Token.{Token}
+use Rattle.codes.specs.Token.{NAME, NUMBER, ZERO, ONE, BECOMES, MINUS, IN, OUT, VARIABLE, STD-LOGIC, INTEGER}
 use Rattle.grammar.specs.Grammar.{NonTerminal, Says, Sym, Fun}
 use Rattle.grammar.specs.Meter.{InHeading}
 use Rattle.grammar.specs.Reader.{choose, Outcome}
@@ -48,7 +49,7 @@ takeAt kinds long n k p = headAt (expectAt (eqb (kindIn kinds n (p .at)) k) (fla
 
 -- where a declared name was taken
 abbrev pub takeName : List ℕ → List ℕ → ℕ → Bool → Head → Head
-takeName kinds long n b p = nameAt (eqb (kindIn kinds n (p .at)) 1) (flagIn long (p .at)) b p
+takeName kinds long n b p = nameAt (eqb (kindIn kinds n (p .at)) NAME) (flagIn long (p .at)) b p
 
 -- the reader has not refused, and a token of kind j stands there
 unfoldable pub followsAt : ℕ → ℕ → ℕ → Bool
@@ -56,7 +57,7 @@ followsAt fault k j = choose (eqb fault 0) (eqb k j) false
 
 -- the word `variable` is taken: the names that come now are variables, and none waits for a mode
 abbrev pub variableAt : List ℕ → List ℕ → ℕ → Head → Head
-variableAt kinds long n p = record { fault = takeAt kinds long n 33 p .fault; at = takeAt kinds long n 33 p .at; waiting = 0; inputs = p .inputs; outputs = p .outputs; vars = p .vars }
+variableAt kinds long n p = record { fault = takeAt kinds long n VARIABLE p .fault; at = takeAt kinds long n VARIABLE p .at; waiting = 0; inputs = p .inputs; outputs = p .outputs; vars = p .vars }
 
 -- `in`: the names that waited for their mode are inputs, "17 in ports"
 abbrev pub inputsAt : Head → Head
@@ -68,23 +69,23 @@ outputsAt p = choose (ltb 16 (p .outputs + p .waiting)) (refuseHead 4 p) (record
 
 -- "`in` or `out`": k is the kind of the token that stands there
 unfoldable pub modeAt : ℕ → Head → Head
-modeAt k p = choose (eqb (p .fault) 0) (choose (eqb k 31) (inputsAt p) (choose (eqb k 32) (outputsAt p) (refuseHead 3 p))) p
+modeAt k p = choose (eqb (p .fault) 0) (choose (eqb k IN) (inputsAt p) (choose (eqb k OUT) (outputsAt p) (refuseHead 3 p))) p
 
 -- the kind that a type word must have where a token of kind k stands: std_logic, or else integer
 abbrev pub typeKind : ℕ → ℕ
-typeKind k = choose (eqb k 42) 42 43
+typeKind k = choose (eqb k STD-LOGIC) STD-LOGIC INTEGER
 
 -- the kind that a literal must have where a token of kind k stands: '0' or '1', or else a number
 abbrev pub literalKind : ℕ → ℕ
-literalKind k = choose (eqb k 3) 3 (choose (eqb k 4) 4 2)
+literalKind k = choose (eqb k ZERO) ZERO (choose (eqb k ONE) ONE NUMBER)
 
 -- "An initial value is a literal; a number may have -."
 unfoldable pub valueAt : List ℕ → List ℕ → ℕ → Head → Head
-valueAt kinds long n p = choose (eqb (kindIn kinds n (p .at)) 12) (takeAt kinds long n 2 (takeAt kinds long n 12 p)) (takeAt kinds long n (literalKind (kindIn kinds n (p .at))) p)
+valueAt kinds long n p = choose (eqb (kindIn kinds n (p .at)) MINUS) (takeAt kinds long n NUMBER (takeAt kinds long n MINUS p)) (takeAt kinds long n (literalKind (kindIn kinds n (p .at))) p)
 
 -- "perhaps := and an initial value"
 unfoldable pub initAt : List ℕ → List ℕ → ℕ → Head → Head
-initAt kinds long n p = choose (followsAt (p .fault) (kindIn kinds n (p .at)) 10) (valueAt kinds long n (takeAt kinds long n 10 p)) p
+initAt kinds long n p = choose (followsAt (p .fault) (kindIn kinds n (p .at)) BECOMES) (valueAt kinds long n (takeAt kinds long n BECOMES p)) p
 
 -- a type, and perhaps an initial value
 unfoldable pub tailAt : List ℕ → List ℕ → ℕ → Head → Head

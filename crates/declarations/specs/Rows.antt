@@ -1,10 +1,13 @@
--- The declared names of the groups in text order, and the array of their rows: six numbers for each, from its number times six on. Assumes nothing.
+-- The declared names of the groups in text order, and the array of their rows: a row of numbers for each. Assumes nothing.
 use mathlib.Core.Path.{_≡_}
 use mathlib.Core.List.{List, [], _∷_, _++_, map}
 use Prim.Native.Nat.{ℕ, zero, suc, _+_, _*_}
 use lib.Dec.{eqb}
 use lib.ListN.{length, set}
-use Rattle.grammar.specs.Token.{Token, INTEGER}
+use Rattle.design.specs.Types.{std-logic, integer, typeByte}
+use Rattle.codes.specs.Token.{NOWHERE, ZERO, ONE, BECOMES, MINUS, IN, INTEGER}
+use Rattle.codes.specs.Declaration as D
+use Rattle.grammar.specs.Token.{Token}
 use Rattle.grammar.specs.Tree.{Init, without, integer-literal, logic-literal, minus, Mode, input, output-port, variable-mode, Group}
 use Rattle.grammar.specs.Reader.{choose}
 use Rattle.cursor.specs.Tokens.{tokenAt, noToken, kindIn}
@@ -21,22 +24,22 @@ pub record Declaration : Type 0 where
   pub literal : Token
   pub first : Token
 
--- the modes: 0 `in`, 1 `out`, 2 a variable
+-- the modes
 abbrev pub modeNumber : Mode → ℕ
-modeNumber input = 0
-modeNumber output-port = 1
-modeNumber variable-mode = 2
+modeNumber input = D.IN
+modeNumber output-port = D.OUT
+modeNumber variable-mode = D.VARIABLE
 
--- the types: 0 std_logic, 1 integer
+-- the types, by the type byte
 abbrev pub typeNumber : Token → ℕ
-typeNumber x = choose (eqb (x .kind) INTEGER) 1 0
+typeNumber x = choose (eqb (x .kind) INTEGER) (typeByte integer) (typeByte std-logic)
 
--- the kinds of initial value: 0 none, 1 a number, 2 '0' or '1', 3 a number after -, which is then the next token
+-- the kinds of initial value; a number after - is the next token
 abbrev pub initNumber : Init → ℕ
-initNumber without = 0
-initNumber (integer-literal x) = 1
-initNumber (logic-literal x) = 2
-initNumber (minus s x) = 3
+initNumber without = D.NONE
+initNumber (integer-literal x) = D.NUMBER
+initNumber (logic-literal x) = D.BIT
+initNumber (minus s x) = D.NEGATIVE
 
 -- an initial value's first token, or no token
 abbrev pub initToken : Init → Token
@@ -102,7 +105,9 @@ rowsOf g at (suc c) = rowOf g at ∷ rowsOf g (at + 2) c
 
 -- row i is stored
 unfoldable pub setRow : ℕ → Row → List ℕ → List ℕ
-setRow i r l = set (set (set (set (set (set l (6 * i) (r .name)) (6 * i + 1) (r .mode)) (6 * i + 2) (r .type)) (6 * i + 3) (r .init)) (6 * i + 4) (r .value)) (6 * i + 5) (r .first)
+setRow i r l =
+    set (set (set (set (set (set l (D.ROW * i) (r .name)) (D.ROW * i + D.MODE) (r .mode)) (D.ROW * i + D.TYPE) (r .type)) (D.ROW * i + D.INIT) (r .init))
+    (D.ROW * i + D.VALUE) (r .value)) (D.ROW * i + D.FIRST) (r .first)
 
 -- the rows stand in the array from row i on, all else is as it was
 unfoldable pub storeRows : ℕ → List Row → List ℕ → List ℕ
@@ -115,19 +120,19 @@ declaredBy p = p .inputs + p .outputs + p .vars
 
 -- the mode of a group by the kind of its mode word
 abbrev pub modeOf : ℕ → ℕ
-modeOf k = choose (eqb k 31) 0 1
+modeOf k = choose (eqb k IN) D.IN D.OUT
 
 -- the type by the kind of the type word
 abbrev pub typeOf : ℕ → ℕ
-typeOf k = choose (eqb k 43) 1 0
+typeOf k = choose (eqb k INTEGER) (typeByte integer) (typeByte std-logic)
 
 -- the kind of initial value, where a token of kind j stands behind the type word, and one of kind k behind that
 abbrev pub initOf : ℕ → ℕ → ℕ
-initOf j k = choose (eqb j 10) (choose (eqb k 12) 3 (choose (eqb k 3) 2 (choose (eqb k 4) 2 1))) 0
+initOf j k = choose (eqb j BECOMES) (choose (eqb k MINUS) D.NEGATIVE (choose (eqb k ZERO) D.BIT (choose (eqb k ONE) D.BIT D.NUMBER))) D.NONE
 
 -- the index of its first token, where a token of kind j stands at an index
 abbrev pub valueIndex : ℕ → ℕ → ℕ
-valueIndex j at = choose (eqb j 10) (at + 1) 16384
+valueIndex j at = choose (eqb j BECOMES) (at + 1) NOWHERE
 
 -- the shape of a group with this first name and mode, whose type word stands at an index
 abbrev pub shapeAt : List ℕ → ℕ → ℕ → ℕ → ℕ → Shape

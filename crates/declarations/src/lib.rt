@@ -2,15 +2,23 @@
 // The counts go by the mode word and the limits of document 01.
 ghost use mathlib.Core.Path.{_≡_};
 ghost use Prim.Native.Nat.{ℕ, _+_, _-_, _<_, _≤_};
+ghost use Rattle.codes.specs.Token.{COMMA, VARIABLE};
 ghost use Rattle.grammar.specs.Grammar.{port as portPart, ports as portsPart};
 ghost use Rattle.cursor.specs.Tokens.{kindIn};
 ghost use Rattle.declarations.specs.Heads.{cursorOf, headAt, refuseHead, declareAt, takeAt, takeName, followsAt, variableAt, inputsAt, outputsAt, modeAt, typeKind, literalKind, valueAt, initAt, tailAt, AsksHead};
 ghost use Rattle.declarations.specs.Rows.{rowOf, rowsOf, setRow, storeRows, declaredBy, modeOf, typeOf, initOf, valueIndex, shapeAt};
 ghost use Rattle.declarations.specs.Rows.{groupDeclarations, declarations as declarationsOf};
 ghost use Rattle.declarations.specs.Readers.{NamesOver, AsksGroup, PortsOver, VariableOver, VariablesOver};
+use codes::declaration;
+use codes::limit;
+use codes::refusal;
+use codes::token;
 use cursor::Pos;
 use cursor::expect;
 use cursor::kind_at;
+
+// "names with commas": every second token is a name.
+const NEXT_NAME: usize = 2;
 
 // Where a reader of the heading stands: a refusal's number or 0; the token; names whose mode is still to come; inputs, outputs and variables so far.
 pub struct Head {
@@ -72,7 +80,13 @@ fn refuse(p: Head, number: u8) -> Head
 }
 
 // Takes the token if it has the kind; refuses it otherwise, or by a limit.
-pub fn take(kinds: &[u8; 16384], long: &[u8; 16384], n: usize, p: Head, kind: u8) -> Head
+pub fn take(
+    kinds: &[u8; limit::TEXT],
+    long: &[u8; limit::TEXT],
+    n: usize,
+    p: Head,
+    kind: u8,
+) -> Head
     requires { ⌜ (0 < kind) × AsksHead n p ⌝ }
     ensures { λ r. ⌜ r ≡ takeAt (now (kinds .entry)) (now (long .entry)) n kind p ⌝ }
 {
@@ -86,8 +100,8 @@ fn declared(p: Head, variables: bool) -> Head
     ensures { λ r. ⌜ r ≡ declareAt variables p ⌝ }
 {
     if variables {
-        if p.vars >= 32 {
-            return refuse(p, 4);
+        if p.vars >= limit::VARIABLES {
+            return refuse(p, refusal::LIMIT_PASSED);
         }
         return Head {
             fault: p.fault,
@@ -109,7 +123,13 @@ fn declared(p: Head, variables: bool) -> Head
 }
 
 // Takes a name that is declared, or refuses it.
-fn name(kinds: &[u8; 16384], long: &[u8; 16384], n: usize, p: Head, variables: bool) -> Head
+fn name(
+    kinds: &[u8; limit::TEXT],
+    long: &[u8; limit::TEXT],
+    n: usize,
+    p: Head,
+    variables: bool,
+) -> Head
     requires { ⌜ AsksHead n p ⌝ }
     ensures { λ r. ⌜ r ≡ takeName (now (kinds .entry)) (now (long .entry)) n variables p ⌝ }
 {
@@ -117,17 +137,17 @@ fn name(kinds: &[u8; 16384], long: &[u8; 16384], n: usize, p: Head, variables: b
         return p;
     }
     let at = p.at;
-    if kind_at(kinds, n, at) != 1 {
-        return refuse(p, 3);
+    if kind_at(kinds, n, at) != token::NAME {
+        return refuse(p, refusal::NO_SENTENCE);
     }
     if long[at] == 1 {
-        return refuse(p, 4);
+        return refuse(p, refusal::LIMIT_PASSED);
     }
     declared(p, variables)
 }
 
 // Whether the reader has not refused and a token of this kind stands there.
-fn follows(kinds: &[u8; 16384], n: usize, p: Head, kind: u8) -> bool
+fn follows(kinds: &[u8; limit::TEXT], n: usize, p: Head, kind: u8) -> bool
     requires { ⌜ n ≤ 16384 ⌝ }
     ensures { λ r. ⌜ r ≡ followsAt (p .fault) (kindIn (now (kinds .entry)) n (p .at)) kind ⌝ }
 {
@@ -138,21 +158,33 @@ fn follows(kinds: &[u8; 16384], n: usize, p: Head, kind: u8) -> bool
 }
 
 // A comma, and a name that is declared.
-fn next_name(kinds: &[u8; 16384], long: &[u8; 16384], n: usize, p: Head, variables: bool) -> Head
+fn next_name(
+    kinds: &[u8; limit::TEXT],
+    long: &[u8; limit::TEXT],
+    n: usize,
+    p: Head,
+    variables: bool,
+) -> Head
     requires { ⌜ AsksHead n p ⌝ }
-    ensures { λ r. ⌜ r ≡ takeName (now (kinds .entry)) (now (long .entry)) n variables (takeAt (now (kinds .entry)) (now (long .entry)) n 9 p) ⌝ }
+    ensures { λ r. ⌜ r ≡ takeName (now (kinds .entry)) (now (long .entry)) n variables (takeAt (now (kinds .entry)) (now (long .entry)) n COMMA p) ⌝ }
 {
-    let a = take(kinds, long, n, p, 9);
+    let a = take(kinds, long, n, p, token::COMMA);
     name(kinds, long, n, a, variables)
 }
 
 // Names with commas.
-pub fn names(kinds: &[u8; 16384], long: &[u8; 16384], n: usize, p: Head, variables: bool) -> Head
+pub fn names(
+    kinds: &[u8; limit::TEXT],
+    long: &[u8; limit::TEXT],
+    n: usize,
+    p: Head,
+    variables: bool,
+) -> Head
     requires { ⌜ AsksHead n p ⌝ }
     ensures { λ r. ⌜ NamesOver (now (kinds .entry)) (now (long .entry)) n p variables r ⌝ }
 {
     let mut a = name(kinds, long, n, p, variables);
-    while follows(kinds, n, a, 9) {
+    while follows(kinds, n, a, token::COMMA) {
         a = next_name(kinds, long, n, a, variables);
     }
     a
@@ -163,8 +195,8 @@ fn inputs(p: Head) -> Head
     requires { ⌜ (p .at < 16384) × (p .waiting ≤ p .at) × (p .inputs ≤ 17) ⌝ }
     ensures { λ r. ⌜ r ≡ inputsAt p ⌝ }
 {
-    if p.inputs + p.waiting > 17 {
-        return refuse(p, 4);
+    if p.inputs + p.waiting > limit::IN_PORTS {
+        return refuse(p, refusal::LIMIT_PASSED);
     }
     Head {
         fault: p.fault,
@@ -181,8 +213,8 @@ fn outputs(p: Head) -> Head
     requires { ⌜ (p .at < 16384) × (p .waiting ≤ p .at) × (p .outputs ≤ 16) ⌝ }
     ensures { λ r. ⌜ r ≡ outputsAt p ⌝ }
 {
-    if p.outputs + p.waiting > 16 {
-        return refuse(p, 4);
+    if p.outputs + p.waiting > limit::OUTPUTS {
+        return refuse(p, refusal::LIMIT_PASSED);
     }
     Head {
         fault: p.fault,
@@ -195,7 +227,7 @@ fn outputs(p: Head) -> Head
 }
 
 // The mode of the names that wait for it.
-fn mode(kinds: &[u8; 16384], n: usize, p: Head) -> Head
+fn mode(kinds: &[u8; limit::TEXT], n: usize, p: Head) -> Head
     requires { ⌜ AsksHead n p ⌝ }
     ensures { λ r. ⌜ r ≡ modeAt (kindIn (now (kinds .entry)) n (p .at)) p ⌝ }
 {
@@ -203,66 +235,66 @@ fn mode(kinds: &[u8; 16384], n: usize, p: Head) -> Head
         return p;
     }
     let kind = kind_at(kinds, n, p.at);
-    if kind == 31 {
+    if kind == token::IN {
         return inputs(p);
     }
-    if kind == 32 {
+    if kind == token::OUT {
         return outputs(p);
     }
-    refuse(p, 3)
+    refuse(p, refusal::NO_SENTENCE)
 }
 
 // The kind that a type word must have, where a token of this kind stands.
 fn type_kind(kind: u8) -> u8
     ensures { λ r. ⌜ r ≡ typeKind kind ⌝ }
 {
-    if kind == 42 {
-        return 42;
+    if kind == token::STD_LOGIC {
+        return token::STD_LOGIC;
     }
-    43
+    token::INTEGER
 }
 
 // The kind that a literal must have, where a token of this kind stands.
 fn literal_kind(kind: u8) -> u8
     ensures { λ r. ⌜ r ≡ literalKind kind ⌝ }
 {
-    if kind == 3 {
-        return 3;
+    if kind == token::ZERO {
+        return token::ZERO;
     }
-    if kind == 4 {
-        return 4;
+    if kind == token::ONE {
+        return token::ONE;
     }
-    2
+    token::NUMBER
 }
 
 // An initial value.
-fn value(kinds: &[u8; 16384], long: &[u8; 16384], n: usize, p: Head) -> Head
+fn value(kinds: &[u8; limit::TEXT], long: &[u8; limit::TEXT], n: usize, p: Head) -> Head
     requires { ⌜ AsksHead n p ⌝ }
     ensures { λ r. ⌜ r ≡ valueAt (now (kinds .entry)) (now (long .entry)) n p ⌝ }
 {
     let kind = kind_at(kinds, n, p.at);
-    if kind == 12 {
-        let a = take(kinds, long, n, p, 12);
-        return take(kinds, long, n, a, 2);
+    if kind == token::MINUS {
+        let a = take(kinds, long, n, p, token::MINUS);
+        return take(kinds, long, n, a, token::NUMBER);
     }
     take(kinds, long, n, p, literal_kind(kind))
 }
 
 // `:=` and an initial value, or nothing.
-fn init(kinds: &[u8; 16384], long: &[u8; 16384], n: usize, p: Head) -> Head
+fn init(kinds: &[u8; limit::TEXT], long: &[u8; limit::TEXT], n: usize, p: Head) -> Head
     requires { ⌜ AsksHead n p ⌝ }
     ensures { λ r. ⌜ r ≡ initAt (now (kinds .entry)) (now (long .entry)) n p ⌝ }
 {
-    let given = follows(kinds, n, p, 10);
+    let given = follows(kinds, n, p, token::BECOMES);
     if given {
-        let a = take(kinds, long, n, p, 10);
+        let a = take(kinds, long, n, p, token::BECOMES);
         return value(kinds, long, n, a);
     }
     p
 }
 
 // A type, and perhaps an initial value.
-fn tail(kinds: &[u8; 16384], long: &[u8; 16384], n: usize, p: Head) -> Head
+fn tail(kinds: &[u8; limit::TEXT], long: &[u8; limit::TEXT], n: usize, p: Head) -> Head
     requires { ⌜ AsksHead n p ⌝ }
     ensures { λ r. ⌜ r ≡ tailAt (now (kinds .entry)) (now (long .entry)) n p ⌝ }
 {
@@ -283,39 +315,39 @@ pub fn declared_by(p: Head) -> usize
 fn mode_of(kind: u8) -> u16
     ensures { λ r. ⌜ r ≡ modeOf kind ⌝ }
 {
-    if kind == 31 {
-        return 0;
+    if kind == token::IN {
+        return declaration::IN;
     }
-    1
+    declaration::OUT
 }
 
 // The type by the kind of the type word: 0 for std_logic, 1 for integer.
 fn type_of(kind: u8) -> u16
     ensures { λ r. ⌜ r ≡ typeOf kind ⌝ }
 {
-    if kind == 43 {
-        return 1;
+    if kind == token::INTEGER {
+        return declaration::INTEGER;
     }
-    0
+    declaration::STD_LOGIC
 }
 
 // The kind of initial value, by the kinds of the two tokens behind the type word.
 fn init_of(after: u8, kind: u8) -> u16
     ensures { λ r. ⌜ r ≡ initOf after kind ⌝ }
 {
-    if after != 10 {
-        return 0;
+    if after != token::BECOMES {
+        return declaration::NONE;
     }
-    if kind == 12 {
-        return 3;
+    if kind == token::MINUS {
+        return declaration::NEGATIVE;
     }
-    if kind == 3 {
-        return 2;
+    if kind == token::ZERO {
+        return declaration::BIT;
     }
-    if kind == 4 {
-        return 2;
+    if kind == token::ONE {
+        return declaration::BIT;
     }
-    1
+    declaration::NUMBER
 }
 
 // The index of the initial value's first token, behind := at an index, or 16384.
@@ -323,14 +355,14 @@ fn value_index(after: u8, at: usize) -> u16
     requires { ⌜ at < 65535 ⌝ }
     ensures { λ r. ⌜ r ≡ valueIndex after at ⌝ }
 {
-    if after == 10 {
+    if after == token::BECOMES {
         return (at + 1) as u16;
     }
-    16384
+    declaration::NO_VALUE
 }
 
 // The shape of a group, whose type word stands at an index.
-fn shape_at(kinds: &[u8; 16384], n: usize, first: usize, mode: u16, at: usize) -> Shape
+fn shape_at(kinds: &[u8; limit::TEXT], n: usize, first: usize, mode: u16, at: usize) -> Shape
     requires { ⌜ (n ≤ 16384) × (first ≤ 16384) × (at ≤ 16384) ⌝ }
     ensures { λ r. ⌜ r ≡ shapeAt (now (kinds .entry)) n first mode at ⌝ }
 {
@@ -349,20 +381,20 @@ fn shape_at(kinds: &[u8; 16384], n: usize, first: usize, mode: u16, at: usize) -
 }
 
 // Stores the row of a declared name.
-fn put_row(decls: &mut [u16; 390], i: usize, name: usize, g: Shape)
+fn put_row(decls: &mut [u16; declaration::ROWS], i: usize, name: usize, g: Shape)
     requires { ⌜ (i < 65) × (name < 65536) ⌝ }
     ensures { λ _. ⌜ now (decls .exit) ≡ setRow i (rowOf g name) (now (decls .entry)) ⌝ }
 {
-    decls[6 * i] = name as u16;
-    decls[6 * i + 1] = g.mode;
-    decls[6 * i + 2] = g.kind;
-    decls[6 * i + 3] = g.init;
-    decls[6 * i + 4] = g.value;
-    decls[6 * i + 5] = g.first;
+    decls[declaration::ROW * i] = name as u16;
+    decls[declaration::ROW * i + declaration::MODE] = g.mode;
+    decls[declaration::ROW * i + declaration::TYPE] = g.kind;
+    decls[declaration::ROW * i + declaration::INIT] = g.init;
+    decls[declaration::ROW * i + declaration::VALUE] = g.value;
+    decls[declaration::ROW * i + declaration::FIRST] = g.first;
 }
 
 // Stores the rows from number i up to number j, the names being every second token from an index on.
-fn put_rows(decls: &mut [u16; 390], i: usize, j: usize, at: usize, g: Shape)
+fn put_rows(decls: &mut [u16; declaration::ROWS], i: usize, j: usize, at: usize, g: Shape)
     requires { ⌜ (j ≤ 65) × (at ≤ 16384) ⌝ }
     ensures { λ _. ⌜ now (decls .exit) ≡ storeRows i (rowsOf g at (j - i)) (now (decls .entry)) ⌝ }
 {
@@ -371,23 +403,23 @@ fn put_rows(decls: &mut [u16; 390], i: usize, j: usize, at: usize, g: Shape)
     while k < j {
         put_row(decls, k, name, g);
         k = k + 1;
-        name = name + 2;
+        name = name + NEXT_NAME;
     }
 }
 
 // A group of ports, and the rows of its names.
 fn port_group(
-    kinds: &[u8; 16384],
-    long: &[u8; 16384],
+    kinds: &[u8; limit::TEXT],
+    long: &[u8; limit::TEXT],
     n: usize,
     p: Head,
-    decls: &mut [u16; 390],
+    decls: &mut [u16; declaration::ROWS],
 ) -> Head
     requires { ⌜ AsksGroup n p ⌝ }
     ensures { λ r. ⌜ PortsOver portPart groupDeclarations (now (kinds .entry)) (now (long .entry)) n p (now (decls .entry)) r (now (decls .exit)) ⌝ }
 {
     let a = names(kinds, long, n, p, false);
-    let b = take(kinds, long, n, a, 8);
+    let b = take(kinds, long, n, a, token::COLON);
     let c = mode(kinds, n, b);
     let e = tail(kinds, long, n, c);
     if e.fault != 0 {
@@ -400,11 +432,11 @@ fn port_group(
 }
 
 // The word variable: none of the names that come now waits for a mode.
-fn variable_word(kinds: &[u8; 16384], long: &[u8; 16384], n: usize, p: Head) -> Head
+fn variable_word(kinds: &[u8; limit::TEXT], long: &[u8; limit::TEXT], n: usize, p: Head) -> Head
     requires { ⌜ AsksHead n p ⌝ }
     ensures { λ r. ⌜ r ≡ variableAt (now (kinds .entry)) (now (long .entry)) n p ⌝ }
 {
-    let a = take(kinds, long, n, p, 33);
+    let a = take(kinds, long, n, p, token::VARIABLE);
     Head {
         fault: a.fault,
         at: a.at,
@@ -417,42 +449,42 @@ fn variable_word(kinds: &[u8; 16384], long: &[u8; 16384], n: usize, p: Head) -> 
 
 // A group of variables, and the rows of its names.
 fn variable_group(
-    kinds: &[u8; 16384],
-    long: &[u8; 16384],
+    kinds: &[u8; limit::TEXT],
+    long: &[u8; limit::TEXT],
     n: usize,
     p: Head,
-    decls: &mut [u16; 390],
+    decls: &mut [u16; declaration::ROWS],
 ) -> Head
-    requires { ⌜ AsksHead n p × (p .fault ≡ 0) × (kindIn (now kinds) n (p .at) ≡ 33) ⌝ }
+    requires { ⌜ AsksHead n p × (p .fault ≡ 0) × (kindIn (now kinds) n (p .at) ≡ VARIABLE) ⌝ }
     ensures { λ r. ⌜ VariableOver (now (kinds .entry)) (now (long .entry)) n p (now (decls .entry)) r (now (decls .exit)) ⌝ }
 {
     let a = variable_word(kinds, long, n, p);
     let b = names(kinds, long, n, a, true);
-    let c = take(kinds, long, n, b, 8);
+    let c = take(kinds, long, n, b, token::COLON);
     let d = tail(kinds, long, n, c);
-    let e = take(kinds, long, n, d, 7);
+    let e = take(kinds, long, n, d, token::SEMI);
     if e.fault != 0 {
         return e;
     }
-    let g = shape_at(kinds, n, a.at, 2, c.at);
+    let g = shape_at(kinds, n, a.at, declaration::VARIABLE, c.at);
     put_rows(decls, declared_by(p), declared_by(e), a.at, g);
     e
 }
 
 // The groups of ports, parted by semicolons.
 pub fn ports(
-    kinds: &[u8; 16384],
-    long: &[u8; 16384],
+    kinds: &[u8; limit::TEXT],
+    long: &[u8; limit::TEXT],
     n: usize,
     p: Head,
-    decls: &mut [u16; 390],
+    decls: &mut [u16; declaration::ROWS],
 ) -> Head
     requires { ⌜ AsksGroup n p ⌝ }
     ensures { λ r. ⌜ PortsOver portsPart declarationsOf (now (kinds .entry)) (now (long .entry)) n p (now (decls .entry)) r (now (decls .exit)) ⌝ }
 {
     let mut a = port_group(kinds, long, n, p, decls);
-    while follows(kinds, n, a, 7) {
-        let b = take(kinds, long, n, a, 7);
+    while follows(kinds, n, a, token::SEMI) {
+        let b = take(kinds, long, n, a, token::SEMI);
         a = port_group(kinds, long, n, b, decls);
     }
     a
@@ -460,17 +492,17 @@ pub fn ports(
 
 // The groups of variables, or none.
 pub fn variables(
-    kinds: &[u8; 16384],
-    long: &[u8; 16384],
+    kinds: &[u8; limit::TEXT],
+    long: &[u8; limit::TEXT],
     n: usize,
     p: Head,
-    decls: &mut [u16; 390],
+    decls: &mut [u16; declaration::ROWS],
 ) -> Head
     requires { ⌜ AsksHead n p ⌝ }
     ensures { λ r. ⌜ VariablesOver (now (kinds .entry)) (now (long .entry)) n p (now (decls .entry)) r (now (decls .exit)) ⌝ }
 {
     let mut a = p;
-    while follows(kinds, n, a, 33) {
+    while follows(kinds, n, a, token::VARIABLE) {
         a = variable_group(kinds, long, n, a, decls);
     }
     a

@@ -1,5 +1,7 @@
 -- The types of document 01 and their values. A value of any type is an integer of ℤ. Assumes nothing.
-use mathlib.Core.Bool.{Bool, true, false, _&&_, _||_}
+use mathlib.Core.Bool.{Bool, true, false, cond, _&&_, _||_}
+use mathlib.Core.Option.{Option, none, some}
+use Prim.Native.Nat.{ℕ}
 use lib.IntN.{ℤ, pos, negsuc}
 use lib.Signed.{leZ}
 use lib.Dec.{eqb}
@@ -39,3 +41,12 @@ inRange z = leZ (negsuc 2147483647) z && leZ z (pos 2147483647)
 unfoldable pub inType : Ty → ℤ → Bool
 inType std-logic z = eqZ z (pos 0) || eqZ z (pos 1)
 inType integer z = inRange z
+
+-- a type as a number, "0 std_logic, 1 integer": the type byte of an image, and the same number in every array
+abbrev pub typeByte : Ty → ℕ
+typeByte std-logic = 0
+typeByte integer = 1
+
+-- the type that has a number, and no other number has one
+abbrev pub typeOfByte : ℕ → Option Ty
+typeOfByte k = cond (eqb k 0) (some std-logic) (cond (eqb k 1) (some integer) none)

@@ -16,7 +16,7 @@ use Rattle.answers.specs.declared.State.{State}
 use Rattle.answers.specs.declared.Cycled.the-variants.{Performed, NotPerformed}
 use Rattle.answers.specs.declared.Refusal.{Refusal}
 use Rattle.answers.specs.declared.Refusal.the-variants.{BadRow, BadState}
-use Rattle.design.specs.Types.{Ty, ExprTy, boolean}
+use Rattle.design.specs.Types.{Ty, ExprTy, boolean, typeByte}
 use Rattle.design.specs.Expression.{Expr, items, nth, plainly, typeOf}
 use Rattle.design.specs.Statement.{output, variable, null, Stmt, act, wait, if-then, if-else, while, seq, size, has}
 use Rattle.design.specs.Process.{Process, Source, Slot, sourceTypes, slotTypes, initials, WellFormed, fits, isType, typedAct, typed}
@@ -32,9 +32,11 @@ use Rattle.semantics.specs.Records.{pad, stateFor}
 use Rattle.semantics.proofs.Slots.{pad-first}
 use Rattle.semantics.specs.Comparison.{laid}
 use Rattle.semantics.specs.DirectRow.{fitsText, placeFor, keptOf, cycled, directRow}
-use Rattle.ir.specs.Arrays.{Row, At, typeCode, BodyIn, NamesIn}
+use Rattle.ir.specs.Arrays.{Row, At, BodyIn, NamesIn}
 use Rattle.ir.proofs.Held.{entries-size, at-whole, at-first, at-rest, at-output, at-variable, at-null, at-wait as at-wait-row, at-if, at-while, at-else}
-use Rattle.execution.specs.Holding.{Short, HeldIn}
+use Rattle.format.proofs.Lines.{fits-type}
+use Rattle.operations.specs.Machine.{Performable}
+use Rattle.execution.specs.Holding.{Ready, HeldIn}
 use Rattle.execution.specs.Standing.{run, Stands}
 use Rattle.direct.specs.Checks.{checkOf, rowIs, slotsIn, placeIn, stateIs}
 use Rattle.semantics.specs.Calls.{Called}
@@ -54,39 +56,47 @@ use Rattle.semantics.proofs.Numbers.{cycle-number}
 
 -- THE DESIGN
 
--- a typed statement's expressions have at most 64 items
-fits-short : (is vs : List Ty) (e : Expr) (t : Option ExprTy) → fits is vs e t ≡ true → items e ≤ 64
+-- a typed statement's expressions can be performed
+fits-ready : (is vs : List Ty) (e : Expr) (t : Option ExprTy) → fits is vs e t ≡ true → Performable e
 unfolding fits
-fits-short is vs e t h = leb-true (items e) 64 (and-left (leb (items e) 64) (isType (typeOf is vs e) t) h)
+fits-ready is vs e t h =
+    let u = fits-type is vs e t h in
+    record {
+      short = leb-true (items e) 64 (and-left (leb (items e) 64) (isType (typeOf is vs e) t) h);
+      inputs = is;
+      variables = vs;
+      type = u .0;
+      typed = u .1;
+    }
 
-typed-short : (is os vs : List Ty) (s : Stmt) → typed is os vs s ≡ true → Short s
-unfolding typed typedAct Short
-typed-short is os vs (act (output k e)) h = fits-short is vs e (plainly (nth os k)) h
-typed-short is os vs (act (variable k e)) h = fits-short is vs e (plainly (nth vs k)) h
-typed-short is os vs (act null) h = tt
-typed-short is os vs wait h = tt
-typed-short is os vs (if-then e a) h =
+typed-ready : (is os vs : List Ty) (s : Stmt) → typed is os vs s ≡ true → Ready s
+unfolding typed typedAct Ready
+typed-ready is os vs (act (output k e)) h = fits-ready is vs e (plainly (nth os k)) h
+typed-ready is os vs (act (variable k e)) h = fits-ready is vs e (plainly (nth vs k)) h
+typed-ready is os vs (act null) h = tt
+typed-ready is os vs wait h = tt
+typed-ready is os vs (if-then e a) h =
     let c = fits is vs e (some boolean) in
-    (fits-short is vs e (some boolean) (and-left c (typed is os vs a) h), typed-short is os vs a (and-right c (typed is os vs a) h))
-typed-short is os vs (if-else e a b) h =
+    (fits-ready is vs e (some boolean) (and-left c (typed is os vs a) h), typed-ready is os vs a (and-right c (typed is os vs a) h))
+typed-ready is os vs (if-else e a b) h =
     let c = fits is vs e (some boolean) in
     let x = typed is os vs a in
     let y = typed is os vs b in
     let r = and-right c (x && y) h in
-    (fits-short is vs e (some boolean) (and-left c (x && y) h), (typed-short is os vs a (and-left x y r), typed-short is os vs b (and-right x y r)))
-typed-short is os vs (while e b) h =
+    (fits-ready is vs e (some boolean) (and-left c (x && y) h), (typed-ready is os vs a (and-left x y r), typed-ready is os vs b (and-right x y r)))
+typed-ready is os vs (while e b) h =
     let c = fits is vs e (some boolean) in
-    (fits-short is vs e (some boolean) (and-left c (typed is os vs b) h), typed-short is os vs b (and-right c (typed is os vs b) h))
-typed-short is os vs (seq a b) h =
+    (fits-ready is vs e (some boolean) (and-left c (typed is os vs b) h), typed-ready is os vs b (and-right c (typed is os vs b) h))
+typed-ready is os vs (seq a b) h =
     let x = typed is os vs a in
     let y = typed is os vs b in
-    (typed-short is os vs a (and-left x y h), typed-short is os vs b (and-right x y h))
+    (typed-ready is os vs a (and-left x y h), typed-ready is os vs b (and-right x y h))
 
 -- arrays that hold an accepted text's process, as its front end leaves them
 pub design-held : (p : Process) (codes : List ℕ) (args : List ℤ) (rows : List ℕ) (k n : ℕ) → BodyIn p codes args rows k n → WellFormed p → Design p codes args rows n
 design-held p codes args rows k n b w =
     record {
-      body = record { m = 0; lies = at-whole b; short = typed-short _ _ _ (p .body) (w .typed); end = let e = b .lines .count in let f = entries-size (p .body) in omega arith };
+      body = record { m = 0; lies = at-whole b; ready = typed-ready _ _ _ (p .body) (w .typed); end = let e = b .lines .count in let f = entries-size (p .body) in omega arith };
       block = b .block;
       well-formed = w;
     }
@@ -98,7 +108,7 @@ names-held p is os vs o v i j k n = record { inputs = n .inputs .1; outputs = n 
 pub row-law : (p : Process) (is os vs : List ℕ) (i : List ℤ) (room : ℕ) → Names p is os vs → rowIs is i (length os) room ≡ rowRefusal p (fedOf i room)
 unfolding rowIs rowRefusal
 row-law p is os vs i room n =
-    rw (n .inputs, n .outputs, length-map (sourceTypes (p .inputs)) typeCode, length-map (p .inputs) (λ (x : Source). x .type), length-map (slotTypes (p .outputs)) typeCode, length-map (p .outputs) (λ (x : Slot). x .type), wrong-values (sourceTypes (p .inputs)) i 0)
+    rw (n .inputs, n .outputs, length-map (sourceTypes (p .inputs)) typeByte, length-map (p .inputs) (λ (x : Source). x .type), length-map (slotTypes (p .outputs)) typeByte, length-map (p .outputs) (λ (x : Slot). x .type), wrong-values (sourceTypes (p .inputs)) i 0)
 
 -- 15: a wait is a row of kind 0
 or-false : (x y : Bool) → y ≡ false → (x || y) ≡ x
@@ -363,8 +373,8 @@ module _ (p : Process) (s : State) (i o : List ℤ) where
 -- THE TESTS
 pub names-count : (p : Process) (is os vs : List ℕ) → Names p is os vs → (length os ≡ length (p .outputs)) × (length vs ≡ length (p .variables))
 names-count p is os vs n = (
-  ap length (n .outputs) ∙ (length-map (slotTypes (p .outputs)) typeCode ∙ length-map (p .outputs) (λ (x : Slot). x .type)),
-  ap length (n .variables) ∙ (length-map (slotTypes (p .variables)) typeCode ∙ length-map (p .variables) (λ (x : Slot). x .type)),
+  ap length (n .outputs) ∙ (length-map (slotTypes (p .outputs)) typeByte ∙ length-map (p .outputs) (λ (x : Slot). x .type)),
+  ap length (n .variables) ∙ (length-map (slotTypes (p .variables)) typeByte ∙ length-map (p .variables) (λ (x : Slot). x .type)),
 )
 
 pub room-right : (p : Process) (i : List ℤ) (n : ℕ) → rowRefusal p (fedOf i n) ≡ none → n ≡ length (p .outputs)

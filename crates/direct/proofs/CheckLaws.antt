@@ -12,11 +12,10 @@ use lib.Seq.{drop-cons}
 use lib.IntN.{ℤ, pos}
 use lib.Dec.{ltb, leb, eqb}
 use borrow.Author.Tests.{lt-ltb, le-ltb, le-leb, lt-leb, eq-eqb, ne-eqb}
-use Rattle.design.specs.Types.{Ty, std-logic, integer, eqZ, inType}
+use Rattle.design.specs.Types.{Ty, std-logic, integer, eqZ, inType, typeByte}
 use Rattle.semantics.specs.Records.{zeros, slotsOk}
 use Rattle.semantics.specs.Rows.{wrongValue}
 use Rattle.signed.specs.Signed.{inTypeByte}
-use Rattle.ir.specs.Arrays.{typeCode}
 use Rattle.direct.specs.Checks.{checkOf, wrongIn, rowIs, slotsIn, placeIn}
 use Rattle.direct.specs.declared.RowCheck.the-variants.{WrongAt}
 
@@ -99,17 +98,17 @@ module _ (rows : List ℕ) (size p : ℕ) where
   place-none f h = rw (ne-eqb p 512 f, le-ltb p size h)
 
 -- BY TYPES
-of-code : (t : Ty) (z : ℤ) → inTypeByte (typeCode t) z ≡ inType t z
+of-code : (t : Ty) (z : ℤ) → inTypeByte (typeByte t) z ≡ inType t z
 of-code std-logic z = refl
 of-code integer z = refl
 
-pub wrong-values : (ts : List Ty) (l : List ℤ) (k : ℕ) → wrongIn (map typeCode ts) l k ≡ wrongValue ts l k
+pub wrong-values : (ts : List Ty) (l : List ℤ) (k : ℕ) → wrongIn (map typeByte ts) l k ≡ wrongValue ts l k
 unfolding wrongIn wrongValue
 wrong-values [] l k = refl
 wrong-values (t ∷ ts) [] k = refl
 wrong-values (t ∷ ts) (z ∷ l) k = rw (of-code t z, wrong-values ts l (suc k))
 
-pub slots-types : (ts : List Ty) (l : List ℤ) → slotsIn (map typeCode ts) l ≡ slotsOk ts l
+pub slots-types : (ts : List Ty) (l : List ℤ) → slotsIn (map typeByte ts) l ≡ slotsOk ts l
 unfolding slotsIn slotsOk
 slots-types [] l = refl
 slots-types (t ∷ ts) [] = refl

@@ -13,12 +13,12 @@ use Rattle.ir.specs.Arrays.{opsFrom, rowsFrom, rowsOf, BodyIn}
 use Rattle.direct.specs.Calls.{Design}
 use Rattle.direct.proofs.CallLaws.{design-held}
 
--- s < 10, s + d, s, 0
+-- s < 10, s + d, s, 0; the argument of an operator is the number of its operands' type, integer
 abbrev codes : List ℕ
 codes = 4 ∷ 1 ∷ 22 ∷ 4 ∷ 3 ∷ 18 ∷ 4 ∷ 1 ∷ []
 
 abbrev args : List ℤ
-args = pos 0 ∷ pos 10 ∷ pos 0 ∷ pos 0 ∷ pos 0 ∷ pos 0 ∷ pos 0 ∷ pos 0 ∷ []
+args = pos 0 ∷ pos 10 ∷ pos 1 ∷ pos 0 ∷ pos 0 ∷ pos 1 ∷ pos 0 ∷ pos 0 ∷ []
 
 -- the while, s := s + d, wait; total <= s, s := 0, wait
 abbrev rows : List ℕ

@@ -7,7 +7,7 @@ use Rattle.design.specs.Process.{Process, sourceTypes, slotTypes, WellFormed}
 use Rattle.semantics.specs.Rows as R
 use Rattle.semantics.specs.Calls.{Call}
 use Rattle.ir.specs.Entries.{Block}
-use Rattle.ir.specs.Arrays.{typeCode}
+use Rattle.design.specs.Types.{typeByte}
 use Rattle.execution.specs.Holding.{HeldIn}
 
 -- the arrays hold the body of an accepted text's process, of so many statements: see `design-held`
@@ -18,9 +18,9 @@ pub record Design (p : Process) (codes : List ℕ) (args : List ℤ) (rows : Lis
 
 -- the types of its inputs, outputs and variables, as numbers
 pub record Names (p : Process) (is os vs : List ℕ) : Type 0 where
-  pub inputs : is ≡ map typeCode (sourceTypes (p .inputs))
-  pub outputs : os ≡ map typeCode (slotTypes (p .outputs))
-  pub variables : vs ≡ map typeCode (slotTypes (p .variables))
+  pub inputs : is ≡ map typeByte (sourceTypes (p .inputs))
+  pub outputs : os ≡ map typeByte (slotTypes (p .outputs))
+  pub variables : vs ≡ map typeByte (slotTypes (p .variables))
 
 -- a call's input row, and its output row as it is lent
 abbrev pub callOf : List ℤ → List ℤ → Call

@@ -6,6 +6,8 @@ use Prim.Native.Nat.{ℕ, suc, _*_}
 use lib.ListN.{length, getD}
 use lib.IntN.{ℤ}
 use lib.Dec.{eqb, ltb}
+use Rattle.codes.specs.Statement as S
+use Rattle.codes.specs.Limit as L
 use Rattle.answers.specs.declared.State.{State}
 use Rattle.signed.specs.Signed.{inTypeByte}
 use Rattle.semantics.specs.Records.{zeros}
@@ -35,7 +37,7 @@ slotsIn (c ∷ cs) (z ∷ l) = inTypeByte c z && slotsIn cs l
 
 -- "A place (512 for the beginning, else a wait's line)": a statement of kind 0
 unfoldable pub placeIn : List ℕ → ℕ → ℕ → Bool
-placeIn rows size p = eqb p 512 || (ltb p size && eqb (getD rows (6 * p) 0) 0)
+placeIn rows size p = eqb p L.BEGINNING || (ltb p size && eqb (getD rows (S.ROW * p) 0) S.WAIT)
 
 -- 15 is given where this is false
 unfoldable pub stateIs : List ℕ → ℕ → List ℕ → List ℕ → State → Bool

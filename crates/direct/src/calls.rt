@@ -23,12 +23,17 @@ use answers::Refusal;
 use answers::State;
 use answers::operator_refusal;
 use answers::refused;
+use codes::limit;
+use codes::record;
 use execution::Progress;
 use execution::cycles::cycle;
 use operations::evaluation::number;
 
+// The greatest number that a place can be.
+const LAST: usize = u16::MAX as usize;
+
 // The output row of a performed cycle: as many outputs as it has places for.
-fn write_row(outputs: &[i32; 16], row: &mut [i32])
+fn write_row(outputs: &[i32; limit::OUTPUTS], row: &mut [i32])
     requires { ⌜ (length (now outputs) ≡ 16) × (length (now row) ≤ 16) ⌝ }
     ensures { λ _. ⌜ now (row .exit) ≡ take (length (now (row .entry))) (now (outputs .entry)) ⌝ }
 {
@@ -44,17 +49,17 @@ fn performed(
     s: State,
     p: usize,
     n: usize,
-    outputs: [i32; 16],
-    variables: [i32; 32],
+    outputs: [i32; limit::OUTPUTS],
+    variables: [i32; limit::VARIABLES],
     row: &mut [i32],
 ) -> Advanced
     ensures { λ a. ⌜ (p < 65536 → length (now (row .entry)) ≤ 16
         → (a ≡ record { state = record { place = p; outputs = outputs; variables = variables }; answer = Performed n }) × (now (row .exit) ≡ take (length (now (row .entry))) outputs)) ⌝ }
 {
-    if 16 < row.len() {
+    if limit::OUTPUTS < row.len() {
         return refused(s, Refusal::BadState);
     }
-    if 65535 < p {
+    if LAST < p {
         return refused(s, Refusal::BadState);
     }
     write_row(&outputs, row);
@@ -85,10 +90,10 @@ fn run(
         → length (now (row .entry)) ≡ length (p .outputs) → fitsText p s ≡ true
         → Advances (cycled p (keptOf p s) (callOf (now (inputs .entry)) (now (row .entry)))) a (now (row .exit))) ⌝ }
 {
-    if 16 < output_count {
+    if limit::OUTPUTS < output_count {
         return refused(s, Refusal::BadState);
     }
-    if 32 < variable_count {
+    if limit::VARIABLES < variable_count {
         return refused(s, Refusal::BadState);
     }
     let mut outputs = s.outputs;
@@ -104,7 +109,7 @@ fn run(
         &mut variables[0..variable_count],
     );
     match r {
-        Progress::Passed(n) => performed(s, 512, n, outputs, variables, row),
+        Progress::Passed(n) => performed(s, limit::BEGINNING, n, outputs, variables, row),
         Progress::Reached(p, n) => performed(s, p, n, outputs, variables, row),
         Progress::Refused(q, x) => refused(s, operator_refusal(q, x)),
     }
@@ -195,12 +200,12 @@ fn fill(values: &[i32], slots: &mut [i32])
 pub fn fresh(outputs: &[i32], variables: &[i32]) -> State
     ensures { λ r. ⌜ ((p : Process) → now (outputs .entry) ≡ initials (p .outputs) → now (variables .entry) ≡ initials (p .variables) → r ≡ laid (atFirst p)) ⌝ }
 {
-    let mut first = [0i32; 16];
+    let mut first = [0i32; limit::OUTPUTS];
     fill(outputs, &mut first);
-    let mut second = [0i32; 32];
+    let mut second = [0i32; limit::VARIABLES];
     fill(variables, &mut second);
     State {
-        place: 512,
+        place: record::BEGINNING,
         outputs: first,
         variables: second,
     }

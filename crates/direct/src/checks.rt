@@ -10,6 +10,9 @@ ghost use Rattle.signed.specs.Signed.{inTypeByte};
 ghost use Rattle.direct.specs.Checks.{checkOf, wrongIn, rowIs, slotsIn, placeIn, stateIs};
 use crate::RowCheck;
 use answers::State;
+use codes::kind;
+use codes::limit;
+use codes::statement;
 use execution::blocks::entry;
 use signed::equal;
 use signed::in_type;
@@ -76,11 +79,11 @@ fn place_right(rows: &[u16], size: usize, place: usize) -> bool
     requires { ⌜ place < 65536 ⌝ }
     ensures { λ r. ⌜ r ≡ placeIn (now (rows .entry)) size place ⌝ }
 {
-    if place == 512 {
+    if place == limit::BEGINNING {
         return true;
     }
     if place < size {
-        return entry(rows, 6 * place) == 0;
+        return entry(rows, statement::ROW * place) == kind::WAIT;
     }
     false
 }

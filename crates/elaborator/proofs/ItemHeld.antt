@@ -10,7 +10,8 @@ use lib.Dec.{eqb}
 use lib.ListN.{length, getD}
 use lib.IntN.{pos}
 use borrow.Author.Tests.{lt-ltb, le-leb, ne-eqb}
-use Rattle.grammar.specs.Token.{Token, NAME, NUMBER, ZERO, ONE}
+use Rattle.grammar.specs.Token.{Token}
+use Rattle.codes.specs.Token.{NAME, NUMBER, ZERO, ONE}
 use Rattle.grammar.specs.Tree.{Mode, input, output-port, variable-mode, Text}
 use Rattle.grammar.specs.Reader.{choose}
 use Rattle.grammar.specs.Limits.{Each}
@@ -126,10 +127,10 @@ module _ (text : List ℕ) (ts : List Token) (kinds starts sizes owners decls sl
       inside (inl z) = kind-inside T i ZERO z (omega arith)
       inside (inr o) = kind-inside T i ONE o (omega arith)
 
-  other-item : (k i : ℕ) → 5 < k → op (codeAt owners decls d k i) (pos (within (argAt text starts sizes kinds owners decls d slots k i))) ≡ opOf (declared t) (scopeFor (declared t) c) (itemOf k (tokenAt ts i))
+  other-item : (k i : ℕ) → 3 < k → op (codeAt owners decls d k i) (pos (within (argAt text starts sizes kinds owners decls d slots k i))) ≡ opOf (declared t) (scopeFor (declared t) c) (itemOf k (tokenAt ts i))
   unfolding codeAt argAt opOf
   other-item k i h =
-      rw (ne-eqb k 1 (λ e. omega arith), ne-eqb k 2 (λ e. omega arith), ne-eqb k 3 (λ e. omega arith), ne-eqb k 4 (λ e. omega arith), ne-eqb k 5 (λ e. omega arith))
+      rw (ne-eqb k 1 (λ e. omega arith), ne-eqb k 2 (λ e. omega arith), ne-eqb k 3 (λ e. omega arith))
 
   item-op : (k i : ℕ) → Fine c (itemOf k (tokenAt ts i)) → op (codeAt owners decls d k i) (pos (within (argAt text starts sizes kinds owners decls d slots k i))) ≡ opOf (declared t) (scopeFor (declared t) c) (itemOf k (tokenAt ts i))
   unfolding codeAt argAt opOf
@@ -137,9 +138,7 @@ module _ (text : List ℕ) (ts : List Token) (kinds starts sizes owners decls sl
   item-op (suc zero) i f = name-item i f
   item-op (suc (suc zero)) i f = number-item i f
   item-op (suc (suc (suc zero))) i f = bit-item i f
-  item-op (suc (suc (suc (suc zero)))) i f = refl
-  item-op (suc (suc (suc (suc (suc zero))))) i f = refl
-  item-op (suc (suc (suc (suc (suc (suc k)))))) i f = other-item (suc (suc (suc (suc (suc (suc k)))))) i (omega arith)
+  item-op (suc (suc (suc (suc k)))) i f = other-item (suc (suc (suc (suc k)))) i (omega arith)
 
   -- the operations by position are those of the items
   pub ops-are : (codes indices : List ℕ) (m q : ℕ) (is : List Item) → map (itemAtIndex ts) (placedFrom codes indices m q) ≡ is → Each (Fine c) is

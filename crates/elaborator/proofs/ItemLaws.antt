@@ -33,17 +33,9 @@ module _ (owners decls : List ℕ) (d c i : ℕ) where
   unfolding codeAt
   code-bit e = rw e
 
-  pub code-sign : c ≡ 4 → 16 ≡ codeAt owners decls d c i
+  pub code-other : (c ≡ 1 → ⊥) → (c ≡ 2 → ⊥) → (c ≡ 3 → ⊥) → c ≡ codeAt owners decls d c i
   unfolding codeAt
-  code-sign e = rw e
-
-  pub code-not : c ≡ 5 → 17 ≡ codeAt owners decls d c i
-  unfolding codeAt
-  code-not e = rw e
-
-  pub code-other : (c ≡ 1 → ⊥) → (c ≡ 2 → ⊥) → (c ≡ 3 → ⊥) → (c ≡ 4 → ⊥) → (c ≡ 5 → ⊥) → c ≡ codeAt owners decls d c i
-  unfolding codeAt
-  code-other a b d e f = rw (ne-eqb c 1 a, ne-eqb c 2 b, ne-eqb c 3 d, ne-eqb c 4 e, ne-eqb c 5 f)
+  code-other a b d = rw (ne-eqb c 1 a, ne-eqb c 2 b, ne-eqb c 3 d)
 
 module _ (text starts sizes kinds owners decls : List ℕ) (d : ℕ) (slots : List ℕ) (c i : ℕ) where
   pub arg-name : {r : ℕ} → c ≡ 1 → r ≡ nameArg (modeIn decls d (numberAt owners i)) (slotAt slots (numberAt owners i)) → r ≡ argAt text starts sizes kinds owners decls d slots c i

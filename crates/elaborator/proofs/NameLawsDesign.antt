@@ -10,13 +10,14 @@ use lib.ListN.{length, getD, take, drop, length-map, List·getD-eq-default}
 use lib.Seq.{sets-eq, take-all, take-at}
 use lib.IntN.{ℤ, pos}
 use borrow.Author.Tests.{ltb-true, ltb-false, lt-ltb, le-leb}
-use Rattle.grammar.specs.Token.{Token, NUMBER, ZERO, ONE}
+use Rattle.grammar.specs.Token.{Token}
+use Rattle.codes.specs.Token.{NUMBER, ZERO, ONE}
 use Rattle.grammar.specs.Tree as T
 use Rattle.grammar.specs.Tree.{input, output-port, variable-mode, Init, without, integer-literal, logic-literal, Group, Text}
 use Rattle.grammar.specs.Limits.{Each, initNumbers, groupNumbers, bodyExprs, exprsNumbers, textNumbers, WithinLimits}
 use Rattle.grammar.specs.Reader.{choose}
 use Rattle.grammar.proofs.Each.{each-at, each-join, each-split}
-use Rattle.design.specs.Types.{Ty, std-logic, integer}
+use Rattle.design.specs.Types.{Ty, std-logic, integer, typeByte}
 use Rattle.design.specs.Process.{sourceTypes, slotTypes, initials, WellFormed}
 use Rattle.language.specs.Bytes.{between}
 use Rattle.language.specs.Words.{value}
@@ -30,8 +31,7 @@ use Rattle.cursor.specs.Tokens.{noToken, tokenAt}
 use Rattle.syntax.specs.Arrays.{TokensIn}
 use Rattle.syntax.specs.Kinded.{IsBit, KindedInit, KindedGroup, Kinded}
 use Rattle.syntax.specs.Headings.{initCode, initToken, valueToken, headings, valueIndex, DeclsIn}
-use Rattle.syntax.specs.Headings as H
-use Rattle.ir.specs.Arrays.{typeCode, NamesIn}
+use Rattle.ir.specs.Arrays.{NamesIn}
 use Rattle.limits.specs.Words.{WordsIn}
 use Rattle.elaborator.specs.Positions.{numberAt, fieldAt, literalAt, bitAt}
 use Rattle.elaborator.specs.Names.{ofMode, Filled, typeAt, typesOf, initialAt, valuesOf, inMode, Along, ClockIs}
@@ -134,11 +134,10 @@ each-along P (d ∷ Δ) k e = (e .0, each-along P Δ (k + 1) (e .1))
 
 -- ARRAYS
 
-type-is : (decls : List ℕ) (k : ℕ) (d : Decl) → fieldAt decls k 2 ≡ H.typeCode (d .type) → typeAt decls k ≡ typeCode (d .type)
-unfolding H.typeCode
+type-is : (decls : List ℕ) (k : ℕ) (d : Decl) → fieldAt decls k 2 ≡ typeByte (d .type) → typeAt decls k ≡ typeByte (d .type)
 type-is decls k d e = rw e (go (d .type))
   where
-    go : (y : Ty) → choose (eqb (H.typeCode y) 1) 1 0 ≡ typeCode y
+    go : (y : Ty) → choose (eqb (typeByte y) 1) 1 0 ≡ typeByte y
     go std-logic = refl
     go integer = refl
 
@@ -150,15 +149,15 @@ filled-takes items before after r f h l =
     (n, rw (f .contents, take-all 32 items h, sets-eq items before 0 (omega arith)) (take-at items (drop (0 + length items) before) r n))
 
 -- the types and initial values of the sources and slots that declarations become
-source-types : (F : List Decl) → (length (sourceTypes (map source F)) ≡ length F) × (map typeCode (sourceTypes (map source F)) ≡ map (λ (d : Decl). typeCode (d .type)) F)
+source-types : (F : List Decl) → (length (sourceTypes (map source F)) ≡ length F) × (map typeByte (sourceTypes (map source F)) ≡ map (λ (d : Decl). typeByte (d .type)) F)
 unfolding source
 source-types [] = (refl, refl)
-source-types (d ∷ F) = let r = source-types F in (ap suc (r .0), ap (λ (l : List ℕ). typeCode (d .type) ∷ l) (r .1))
+source-types (d ∷ F) = let r = source-types F in (ap suc (r .0), ap (λ (l : List ℕ). typeByte (d .type) ∷ l) (r .1))
 
-slot-types : (F : List Decl) → (length (slotTypes (map slot F)) ≡ length F) × (map typeCode (slotTypes (map slot F)) ≡ map (λ (d : Decl). typeCode (d .type)) F)
+slot-types : (F : List Decl) → (length (slotTypes (map slot F)) ≡ length F) × (map typeByte (slotTypes (map slot F)) ≡ map (λ (d : Decl). typeByte (d .type)) F)
 unfolding slot
 slot-types [] = (refl, refl)
-slot-types (d ∷ F) = let r = slot-types F in (ap suc (r .0), ap (λ (l : List ℕ). typeCode (d .type) ∷ l) (r .1))
+slot-types (d ∷ F) = let r = slot-types F in (ap suc (r .0), ap (λ (l : List ℕ). typeByte (d .type) ∷ l) (r .1))
 
 slot-initials : (F : List Decl) → initials (map slot F) ≡ map (λ (d : Decl). initial (d .init)) F
 unfolding slot
@@ -174,19 +173,19 @@ module _ (text : List ℕ) (ts : List Token) (kinds starts sizes : List ℕ) (n 
   count : min d 65 ≡ length (declared t)
   count = let n = declared-count ts t decls d rows in let s = rows .short in omega arith
 
-  input-types : typesOf decls d clock 0 ≡ map (λ (e : Decl). typeCode (e .type)) (filter (inMode (clockOf t) input) (declared t))
+  input-types : typesOf decls d clock 0 ≡ map (λ (e : Decl). typeByte (e .type)) (filter (inMode (clockOf t) input) (declared t))
   unfolding typesOf
-  input-types = rw count (picked-is (ofMode decls clock 0) (typeAt decls) (inMode (clockOf t) input) (λ (e : Decl). typeCode (e .type)) (declared t) 0
+  input-types = rw count (picked-is (ofMode decls clock 0) (typeAt decls) (inMode (clockOf t) input) (λ (e : Decl). typeByte (e .type)) (declared t) 0
       (along-both (RowOf ts decls) _ _ (declared t) 0 (λ k e r q. (of-input (clockOf t) decls clock k e (r .mode) q, type-is decls k e (r .type))) along clocked))
 
-  output-types : typesOf decls d clock 1 ≡ map (λ (e : Decl). typeCode (e .type)) (filter (inMode (clockOf t) output-port) (declared t))
+  output-types : typesOf decls d clock 1 ≡ map (λ (e : Decl). typeByte (e .type)) (filter (inMode (clockOf t) output-port) (declared t))
   unfolding typesOf
-  output-types = rw count (picked-is (ofMode decls clock 1) (typeAt decls) (inMode (clockOf t) output-port) (λ (e : Decl). typeCode (e .type)) (declared t) 0
+  output-types = rw count (picked-is (ofMode decls clock 1) (typeAt decls) (inMode (clockOf t) output-port) (λ (e : Decl). typeByte (e .type)) (declared t) 0
       (along-one (RowOf ts decls) _ (declared t) 0 (λ k e r. (of-output (clockOf t) decls clock k e (r .mode), type-is decls k e (r .type))) along))
 
-  variable-types : typesOf decls d clock 2 ≡ map (λ (e : Decl). typeCode (e .type)) (filter (inMode (clockOf t) variable-mode) (declared t))
+  variable-types : typesOf decls d clock 2 ≡ map (λ (e : Decl). typeByte (e .type)) (filter (inMode (clockOf t) variable-mode) (declared t))
   unfolding typesOf
-  variable-types = rw count (picked-is (ofMode decls clock 2) (typeAt decls) (inMode (clockOf t) variable-mode) (λ (e : Decl). typeCode (e .type)) (declared t) 0
+  variable-types = rw count (picked-is (ofMode decls clock 2) (typeAt decls) (inMode (clockOf t) variable-mode) (λ (e : Decl). typeByte (e .type)) (declared t) 0
       (along-one (RowOf ts decls) _ (declared t) 0 (λ k e r. (of-variable (clockOf t) decls clock k e (r .mode), type-is decls k e (r .type))) along))
 
   fine : Along (λ (k : ℕ) (e : Decl). FineInit (e .init)) 0 (declared t)
@@ -228,9 +227,9 @@ module _ (text : List ℕ) (ts : List Token) (kinds starts sizes : List ℕ) (n 
       let li : length inputs ≤ 32 = (let a = w .inputs in let b = length-map inputs source in omega arith) in
       let lo : length outputs ≤ 32 = (let a = w .outputs in let b = length-map outputs slot in omega arith) in
       let lv : length variables ≤ 32 = (let a = w .variables in let b = length-map variables slot in omega arith) in
-      let ri = begins (λ (e : Decl). typeCode (e .type)) inputs (typesOf decls d clock 0) is₀ is i input-types li ai fi in
-      let ro = begins (λ (e : Decl). typeCode (e .type)) outputs (typesOf decls d clock 1) os₀ os o output-types lo ao fo in
-      let rv = begins (λ (e : Decl). typeCode (e .type)) variables (typesOf decls d clock 2) vs₀ vs v variable-types lv av fv in
+      let ri = begins (λ (e : Decl). typeByte (e .type)) inputs (typesOf decls d clock 0) is₀ is i input-types li ai fi in
+      let ro = begins (λ (e : Decl). typeByte (e .type)) outputs (typesOf decls d clock 1) os₀ os o output-types lo ao fo in
+      let rv = begins (λ (e : Decl). typeByte (e .type)) variables (typesOf decls d clock 2) vs₀ vs v variable-types lv av fv in
       let rp = begins (λ (e : Decl). initial (e .init)) outputs (valuesOf text starts sizes kinds decls d 1) ps₀ ps p output-values lo ap₀ fp in
       let rq = begins (λ (e : Decl). initial (e .init)) variables (valuesOf text starts sizes kinds decls d 2) qs₀ qs q variable-values lv aq fq in
       let eo : p ≡ o = sym (rp .0) ∙ ro .0 in

@@ -16,7 +16,8 @@ use Rattle.language.specs.Declarations.{Decl, typeNamed, declare, spread, group
 use Rattle.language.specs.Elaboration.{position}
 use Rattle.language.proofs.Facts.{no-some}
 use Rattle.cursor.specs.Tokens.{noToken, tokenAt}
-use Rattle.syntax.specs.Headings.{modeCode, typeCode, initCode, initToken, valueToken, Heading, namesOf, groupNames, groupsNames, headings, DeclRow, declIn, declsFrom, valueIndex, headingSeen, DeclsIn}
+use Rattle.syntax.specs.Headings.{modeCode, initCode, initToken, valueToken, Heading, namesOf, groupNames, groupsNames, headings, DeclRow, declIn, declsFrom, valueIndex, headingSeen, DeclsIn}
+use Rattle.design.specs.Types.{typeByte}
 use Rattle.elaborator.specs.Positions.{fieldAt}
 use Rattle.elaborator.specs.Names.{ofMode, countFrom, picked, inMode, Along}
 
@@ -25,7 +26,7 @@ abbrev clear : Heading → Heading
 clear h = record { name = h .name; mode = h .mode; type = h .type; init = h .init; sign = h .sign; value = h .value; first = noToken }
 
 abbrev headingOf : Decl → Heading
-headingOf d = record { name = d .name; mode = modeCode (d .mode); type = typeCode (d .type); init = initCode (d .init); sign = initToken (d .init); value = valueToken (d .init); first = noToken }
+headingOf d = record { name = d .name; mode = modeCode (d .mode); type = typeByte (d .type); init = initCode (d .init); sign = initToken (d .init); value = valueToken (d .init); first = noToken }
 
 names-are : (g : Group) (f : Token) (xs : List Token) → map clear (namesOf g f xs) ≡ map headingOf (declare g xs)
 unfolding namesOf declare
@@ -50,7 +51,7 @@ headings-are t = groups-are (groups t)
 pub record RowOf (ts : List Token) (decls : List ℕ) (k : ℕ) (d : Decl) : Type 0 where
   pub inside : k < 65
   pub mode : fieldAt decls k 1 ≡ modeCode (d .mode)
-  pub type : fieldAt decls k 2 ≡ typeCode (d .type)
+  pub type : fieldAt decls k 2 ≡ typeByte (d .type)
   pub init : fieldAt decls k 3 ≡ initCode (d .init)
   pub first : tokenAt ts (fieldAt decls k 4) ≡ initToken (d .init)
   pub value : tokenAt ts (valueIndex (fieldAt decls k 3) (fieldAt decls k 4)) ≡ valueToken (d .init)

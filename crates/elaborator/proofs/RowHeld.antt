@@ -8,7 +8,8 @@ use native.Mathlib.Omega.{arith}
 use lib.Dec.{eqb}
 use lib.ListN.{length, getD, length-map}
 use borrow.Author.Tests.{lt-ltb, eqb-true}
-use Rattle.grammar.specs.Token.{Token, NAME}
+use Rattle.grammar.specs.Token.{Token}
+use Rattle.codes.specs.Token.{NAME}
 use Rattle.grammar.specs.Tree as T
 use Rattle.grammar.specs.Tree.{Body}
 use Rattle.grammar.specs.Reader.{choose}

@@ -3,7 +3,7 @@ use mathlib.Core.Path.{_≡_, refl, sym, _∙_}
 use mathlib.Core.Bool.{false, not}
 use mathlib.Core.Option.{Option, none, some}
 use mathlib.Core.List.{List, [], _∷_, _++_}
-use Prim.Native.Nat.{ℕ, _+_, _≤_}
+use Prim.Native.Nat.{ℕ, _+_, _≤_, _<_}
 use native.Mathlib.Omega.{arith}
 use lib.Dec.{eqb}
 use Rattle.grammar.specs.Token.{Token}
@@ -16,8 +16,9 @@ use Rattle.language.specs.Declarations.{within, statements, isClock}
 use Rattle.language.specs.Clock.{readsIn, readsOf}
 use Rattle.language.proofs.Facts.{both-nil, each-nil, unless-nil, not-true}
 use Rattle.language.proofs.Expressions.{Unread}
-use Rattle.expressions.specs.Postfix.{Item, itemOf, operatorCode, postfix}
-use Rattle.expressions.proofs.Codes.{code-above}
+use Rattle.codes.specs.Operation.{SIGN, NOT, operationOf}
+use Rattle.codes.proofs.OperationLaws.{operation-none}
+use Rattle.expressions.specs.Postfix.{Item, itemOf, postfix}
 use Rattle.expressions.proofs.Folds.{Steps, postfix-whole}
 use Rattle.statements.specs.Entries.{Entry, stmtEntries, bodyEntries, entryItems}
 use Rattle.statements.proofs.Lines.{entry-items-append}
@@ -79,14 +80,14 @@ unfolding exprsNumbers
 exprs-first e l h = each-split (λ (x : Token). x .value ≤ 2147483647) (exprNumbers e) (exprsNumbers l) h
 
 module _ (c : Option Token) where
-  operator-fine : (k : ℕ) (x : Token) → 4 ≤ k → Fine c (itemOf k x)
+  operator-fine : (k : ℕ) (x : Token) → ((c : ℕ) → 0 < c → c ≤ 3 → k ≡ c → ⊥) → Fine c (itemOf k x)
   operator-fine k x h =
       record {
-        name = λ e. absurd (omega arith);
-        unclocked = λ e. absurd (omega arith);
-        number = λ e. absurd (omega arith);
-        small = λ e. absurd (omega arith);
-        bit = λ e. absurd (omega arith);
+        name = λ e. absurd (h 1 (omega arith) (omega arith) e);
+        unclocked = λ e. absurd (h 1 (omega arith) (omega arith) e);
+        number = λ e. absurd (h 2 (omega arith) (omega arith) e);
+        small = λ e. absurd (h 2 (omega arith) (omega arith) e);
+        bit = λ e. absurd (h 3 (omega arith) (omega arith) e);
       }
 
   number-fine : (x : Token) → KindedExpr (T.number x) → x .value ≤ 2147483647 → Fine c (itemOf 2 x)
@@ -106,12 +107,12 @@ module _ (c : Option Token) where
         number = λ x w k f h. (number-fine x (f .0) (f .2 .0), h);
         bit = λ x w k f h. (bit-fine x (f .0), h);
         name = λ x w k f h. (name-fine x (f .0) (f .1), h);
-        sign = λ x a w k f. ((f .0 .1, unread-sign c x a (f .1), f .2), λ h. (operator-fine 4 x (omega arith), h));
-        negate = λ x a w k f. ((f .0 .1, unread-not c x a (f .1), f .2), λ h. (operator-fine 5 x (omega arith), h));
+        sign = λ x a w k f. ((f .0 .1, unread-sign c x a (f .1), f .2), λ h. (operator-fine SIGN x (λ c l m e. omega arith), h));
+        negate = λ x a w k f. ((f .0 .1, unread-not c x a (f .1), f .2), λ h. (operator-fine NOT x (λ c l m e. omega arith), h));
         binary = λ x a b w k f.
             let v = unread-two c x a b (f .1) in
             let q = each-split (λ (x : Token). x .value ≤ 2147483647) (exprNumbers a) (exprNumbers b) (f .2) in
-            ((f .0 .1, v .0, q .0), (f .0 .2, v .1, q .1), λ h. (operator-fine (operatorCode (x .kind)) x (let z = code-above (x .kind) in omega arith), h));
+            ((f .0 .1, v .0, q .0), (f .0 .2, v .1, q .1), λ h. (operator-fine (operationOf (x .kind)) x (λ c l m e. operation-none (x .kind) c l (omega arith) e), h));
         parens = λ a w k f. ((f .0, unread-parens c a (f .1), f .2), λ h. h);
       }
 

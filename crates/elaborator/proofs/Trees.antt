@@ -1,89 +1,91 @@
--- The items and entries of a tree become those of its design. Assumes nothing.
+-- The items and entries of a tree become those of its design, but for the types of operands, which no item has. Assumes nothing.
 use mathlib.Core.Path.{_≡_, refl, sym, _∙_, ap}
-use mathlib.Core.Bool.{false}
 use mathlib.Core.Option.{Option, none, some}
 use mathlib.Core.List.{List, [], _∷_, _++_, map, map-append, append-assoc, append-nil}
-use Prim.Native.Nat.{ℕ, suc, _+_, _<_}
+use Prim.Native.Nat.{ℕ, suc, _+_}
 use native.Mathlib.Omega.{arith}
 use lib.ListN.{length, length-append}
-use lib.Dec.{eqb}
-use lib.IntN.{pos}
-use borrow.Author.Tests.{ne-eqb}
+use lib.IntN.{ℤ, pos}
 use Rattle.grammar.specs.Token.{Token}
 use Rattle.grammar.specs.Tree as T
 use Rattle.grammar.specs.Tree.{Body, Mode}
 use Rattle.design.specs.Expression.{Expr}
 use Rattle.design.specs.Statement.{Stmt, size}
 use Rattle.language.specs.Declarations.{Decl, Scope, find}
-use Rattle.language.specs.Typing.{operatorOf}
 use Rattle.language.specs.Elaboration.{nameCode, named, orPlus, code, stmt, stmts}
-use Rattle.expressions.specs.Postfix.{Item, itemOf, operatorCode, binaryItem, postfix}
-use Rattle.expressions.proofs.Codes.{code-above}
+use Rattle.codes.proofs.OperationLaws.{operation-apart}
+use Rattle.expressions.specs.Postfix.{Item, itemOf, binaryItem, postfix}
 use Rattle.expressions.proofs.Folds.{Steps, postfix-whole}
 use Rattle.statements.specs.Entries.{stmtEntries, bodyEntries}
 use Rattle.syntax.specs.Kinded.{OperatorKind, IsOperator, KindedExpr, KindedStmt, KindedBody}
 use Rattle.syntax.proofs.Operators.{each-operator}
-use Rattle.ir.specs.Operations.{Op, op, ops, binaryCode}
-use Rattle.ir.specs.Entries.{entries, Single, single-act, single-wait, single-if, single-else, single-while, Block, only, andThen}
+use Rattle.ir.specs.Operations.{Op, op, ops, withType, bareOp}
+use Rattle.ir.proofs.Bare.{binary-with}
+use Rattle.codes.specs.Operation.{SIGN, NOT, binaryCode, operatorOf, codeOr, operationOf, countOr, operandsOf}
+use Rattle.ir.specs.Entries.{entries, bareEntry, Single, single-act, single-wait, single-if, single-else, single-while, Block, only, andThen}
 use Rattle.elaborator.specs.Elaborated.{modeOp, foundOp, opOf, targetOf, entryOf}
 
 -- the fifteen operators, by their kinds
-operator-code : (k : ℕ) → OperatorKind k → binaryCode (orPlus (operatorOf k)) ≡ operatorCode k
-unfolding operatorOf orPlus operatorCode
-operator-code = each-operator (λ (k : ℕ). binaryCode (orPlus (operatorOf k)) ≡ operatorCode k) refl refl refl refl refl refl refl refl refl refl refl refl refl refl refl
+operator-code : (k : ℕ) → OperatorKind k → binaryCode (orPlus (operatorOf k)) ≡ operationOf k
+unfolding operatorOf orPlus codeOr operationOf
+operator-code = each-operator (λ (k : ℕ). binaryCode (orPlus (operatorOf k)) ≡ operationOf k) refl refl refl refl refl refl refl refl refl refl refl refl refl refl refl
 
 -- EXPRESSIONS
 
-named-op : (Γ : Scope) (v : ℕ) (m : Option Decl) → ops (named Γ v m) ≡ foundOp Γ v m ∷ []
-unfolding ops named nameCode
+-- an expression's operations before the types of operands are told
+abbrev bare : Expr → List Op
+bare e = map bareOp (ops e)
+
+named-op : (Γ : Scope) (v : ℕ) (m : Option Decl) → bare (named Γ v m) ≡ foundOp Γ v m ∷ []
+unfolding ops named nameCode withType operandsOf countOr
 named-op Γ v none = refl
 named-op Γ v (some d) = go (d .mode)
   where
-    go : (m : Mode) → ops (nameCode Γ v m) ≡ modeOp Γ v m ∷ []
+    go : (m : Mode) → bare (nameCode Γ v m) ≡ modeOp Γ v m ∷ []
     go T.input = refl
     go T.output-port = refl
     go T.variable-mode = refl
 
 -- an operator's item
-binary-op : (Δ : List Decl) (Γ : Scope) (x : Token) → IsOperator x → opOf Δ Γ (binaryItem x) ≡ op (binaryCode (orPlus (operatorOf (x .kind)))) (pos 0)
+binary-op : (Δ : List Decl) (Γ : Scope) (x : Token) (z : ℤ) → IsOperator x → bareOp (op (binaryCode (orPlus (operatorOf (x .kind)))) z) ≡ opOf Δ Γ (binaryItem x)
 unfolding opOf
-binary-op Δ Γ x h =
-    let c = code-above (x .kind) in
-    rw (operator-code (x .kind) h, no 1 (omega arith), no 2 (omega arith), no 3 (omega arith), no 4 (omega arith), no 5 (omega arith))
-  where
-    no : (k : ℕ) → k < operatorCode (x .kind) → eqb (operatorCode (x .kind)) k ≡ false
-    no k l = ne-eqb (operatorCode (x .kind)) k (λ e. omega arith)
+binary-op Δ Γ x z h =
+    binary-with 0 (orPlus (operatorOf (x .kind))) z
+    ∙ rw (operator-code (x .kind) h, operation-apart (x .kind) 1 (omega arith) (omega arith), operation-apart (x .kind) 2 (omega arith) (omega arith), operation-apart (x .kind) 3 (omega arith) (omega arith))
 
 -- one operation more behind an operand, and behind two
-behind : (w a : List Op) (o : Op) (k : List Op) → (w ++ a) ++ (o ∷ k) ≡ (w ++ (a ++ (o ∷ []))) ++ k
-behind w a o k = sym (append-assoc (w ++ a) (o ∷ []) k) ∙ ap (λ (l : List Op). l ++ k) (append-assoc w a (o ∷ []))
+behind : (w a : List Op) (o o′ : Op) (k : List Op) → bareOp o ≡ o′ → (w ++ map bareOp a) ++ (o′ ∷ k) ≡ (w ++ map bareOp (a ++ (o ∷ []))) ++ k
+behind w a o o′ k e =
+    sym (append-assoc (w ++ map bareOp a) (o′ ∷ []) k)
+    ∙ ap (λ (l : List Op). l ++ k) (append-assoc w (map bareOp a) (o′ ∷ []) ∙ ap (λ (l : List Op). w ++ l) (rw (sym e) (sym (map-append bareOp a (o ∷ [])))))
 
-behind-two : (w a b : List Op) (o : Op) (k : List Op) → ((w ++ a) ++ b) ++ (o ∷ k) ≡ (w ++ (a ++ (b ++ (o ∷ [])))) ++ k
-behind-two w a b o k = behind (w ++ a) b o k ∙ ap (λ (l : List Op). l ++ k) (append-assoc w a (b ++ (o ∷ [])))
+behind-two : (w a b : List Op) (o o′ : Op) (k : List Op) → bareOp o ≡ o′ → ((w ++ map bareOp a) ++ map bareOp b) ++ (o′ ∷ k) ≡ (w ++ map bareOp (a ++ (b ++ (o ∷ [])))) ++ k
+behind-two w a b o o′ k e =
+    behind (w ++ map bareOp a) b o o′ k e
+    ∙ ap (λ (l : List Op). l ++ k) (append-assoc w (map bareOp a) (map bareOp (b ++ (o ∷ []))) ∙ ap (λ (l : List Op). w ++ l) (sym (map-append bareOp a (b ++ (o ∷ [])))))
 
 -- the operations made so far, those of an expression, and those of the items behind it
 mapped-steps : (Δ : List Decl) (Γ : Scope) (q : List Op)
-    → Steps (λ (e : T.Expr) (w : List Op). KindedExpr e) (λ (e : T.Expr) (w : List Op). w ++ ops (code Δ Γ e)) (λ (k : List Item) (w : List Op). w ++ map (opOf Δ Γ) k ≡ q)
-unfolding ops code opOf
+    → Steps (λ (e : T.Expr) (w : List Op). KindedExpr e) (λ (e : T.Expr) (w : List Op). w ++ bare (code Δ Γ e)) (λ (k : List Item) (w : List Op). w ++ map (opOf Δ Γ) k ≡ q)
+unfolding ops code opOf withType operandsOf countOr
 mapped-steps Δ Γ q =
     record {
       number = λ x w k f c. sym (append-assoc w (opOf Δ Γ (itemOf 2 x) ∷ []) (map (opOf Δ Γ) k)) ∙ c;
       bit = λ x w k f c. sym (append-assoc w (opOf Δ Γ (itemOf 3 x) ∷ []) (map (opOf Δ Γ) k)) ∙ c;
       name = λ x w k f c.
           sym (append-assoc w (opOf Δ Γ (itemOf 1 x) ∷ []) (map (opOf Δ Γ) k)) ∙ (ap (λ (l : List Op). (w ++ l) ++ map (opOf Δ Γ) k) (sym (named-op Γ (x .value) (find Δ (x .value)))) ∙ c);
-      sign = λ x a w k f. (f .1, λ c. behind w (ops (code Δ Γ a)) (opOf Δ Γ (itemOf 4 x)) (map (opOf Δ Γ) k) ∙ c);
-      negate = λ x a w k f. (f .1, λ c. behind w (ops (code Δ Γ a)) (opOf Δ Γ (itemOf 5 x)) (map (opOf Δ Γ) k) ∙ c);
+      sign = λ x a w k f. (f .1, λ c. behind w (ops (code Δ Γ a)) _ (opOf Δ Γ (itemOf SIGN x)) (map (opOf Δ Γ) k) refl ∙ c);
+      negate = λ x a w k f. (f .1, λ c. behind w (ops (code Δ Γ a)) _ (opOf Δ Γ (itemOf NOT x)) (map (opOf Δ Γ) k) refl ∙ c);
       binary = λ x a b w k f. (
         f .1,
         f .2,
-        λ c. behind-two w (ops (code Δ Γ a)) (ops (code Δ Γ b)) (opOf Δ Γ (binaryItem x)) (map (opOf Δ Γ) k)
-            ∙ (ap (λ (o : Op). (w ++ (ops (code Δ Γ a) ++ (ops (code Δ Γ b) ++ (o ∷ [])))) ++ map (opOf Δ Γ) k) (binary-op Δ Γ x (f .0)) ∙ c),
+        λ c. behind-two w (ops (code Δ Γ a)) (ops (code Δ Γ b)) _ (opOf Δ Γ (binaryItem x)) (map (opOf Δ Γ) k) (binary-op Δ Γ x _ (f .0)) ∙ c,
       );
       parens = λ a w k f. (f, λ c. c);
     }
 
-pub ops-mapped : (Δ : List Decl) (Γ : Scope) (e : T.Expr) → KindedExpr e → ops (code Δ Γ e) ≡ map (opOf Δ Γ) (postfix e)
-ops-mapped Δ Γ e h = sym (postfix-whole (mapped-steps Δ Γ (ops (code Δ Γ e))) e [] h (append-nil (ops (code Δ Γ e))))
+ops-mapped : (Δ : List Decl) (Γ : Scope) (e : T.Expr) → KindedExpr e → bare (code Δ Γ e) ≡ map (opOf Δ Γ) (postfix e)
+ops-mapped Δ Γ e h = sym (postfix-whole (mapped-steps Δ Γ (bare (code Δ Γ e))) e [] h (append-nil (bare (code Δ Γ e))))
 
 -- STATEMENTS
 
@@ -107,20 +109,21 @@ mutual
 mutual
   unfolding stmt entries stmtEntries entryOf targetOf
 
-  entries-stmt : (Δ : List Decl) (Γ : Scope) (s : T.Stmt) → KindedStmt s → entries (stmt Δ Γ s) ≡ map (entryOf Δ Γ) (stmtEntries s)
+  entries-stmt : (Δ : List Decl) (Γ : Scope) (s : T.Stmt) → KindedStmt s → map bareEntry (entries (stmt Δ Γ s)) ≡ map (entryOf Δ Γ) (stmtEntries s)
   entries-stmt Δ Γ (T.output x e) h = rw (ops-mapped Δ Γ e (h .1))
   entries-stmt Δ Γ (T.assign x e) h = rw (ops-mapped Δ Γ e (h .1))
   entries-stmt Δ Γ T.null h = refl
   entries-stmt Δ Γ (T.wait x) h = refl
   entries-stmt Δ Γ (T.if-then i e a) h = rw (ops-mapped Δ Γ e (h .1), size-body Δ Γ a, entries-body Δ Γ a (h .2))
   entries-stmt Δ Γ (T.if-else i e a b) h =
-      rw (ops-mapped Δ Γ e (h .1), size-body Δ Γ a, size-body Δ Γ b, entries-body Δ Γ a (h .2), entries-body Δ Γ b (h .3), map-append (entryOf Δ Γ) (bodyEntries a) (bodyEntries b))
+      rw (ops-mapped Δ Γ e (h .1), size-body Δ Γ a, size-body Δ Γ b, map-append bareEntry (entries (stmts Δ Γ a)) (entries (stmts Δ Γ b)), entries-body Δ Γ a (h .2), entries-body Δ Γ b (h .3), map-append (entryOf Δ Γ) (bodyEntries a) (bodyEntries b))
   entries-stmt Δ Γ (T.while w e a) h = rw (ops-mapped Δ Γ e (h .1), size-body Δ Γ a, entries-body Δ Γ a (h .2))
 
-  -- the entries of a body become those of its design
-  pub entries-body : (Δ : List Decl) (Γ : Scope) (b : Body) → KindedBody b → entries (stmts Δ Γ b) ≡ map (entryOf Δ Γ) (bodyEntries b)
+  -- the entries of a body become those of its design, but for the types of operands
+  pub entries-body : (Δ : List Decl) (Γ : Scope) (b : Body) → KindedBody b → map bareEntry (entries (stmts Δ Γ b)) ≡ map (entryOf Δ Γ) (bodyEntries b)
   entries-body Δ Γ (T.only s) h = entries-stmt Δ Γ s h
-  entries-body Δ Γ (T.andThen s b) h = rw (entries-stmt Δ Γ s (h .0), entries-body Δ Γ b (h .1), map-append (entryOf Δ Γ) (stmtEntries s) (bodyEntries b))
+  entries-body Δ Γ (T.andThen s b) h =
+      rw (map-append bareEntry (entries (stmt Δ Γ s)) (entries (stmts Δ Γ b)), entries-stmt Δ Γ s (h .0), entries-body Δ Γ b (h .1), map-append (entryOf Δ Γ) (stmtEntries s) (bodyEntries b))
 
 mutual
   unfolding stmt

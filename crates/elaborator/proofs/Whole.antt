@@ -1,4 +1,4 @@
--- THE LAW of the elaborator: for an accepted tree, the operations and rows that are stored lay out the body of its design. Assumes nothing.
+-- THE LAW of the elaborator: for an accepted tree, the operations and rows that are stored lay out the body of its design, but for the types of operands. Assumes nothing.
 use mathlib.Core.Path.{_≡_, refl, sym, _∙_, ap}
 use mathlib.Core.Option.{Option, none, some}
 use mathlib.Core.List.{List, [], _∷_, map, map-append}
@@ -24,9 +24,10 @@ use Rattle.syntax.specs.Arrays as A
 use Rattle.syntax.specs.Headings.{headings, DeclsIn}
 use Rattle.syntax.specs.Kinded.{KindedBody}
 use Rattle.syntax.proofs.Stored.{rows-read}
-use Rattle.ir.specs.Operations.{Op}
-use Rattle.ir.specs.Entries.{Entry, entries, entryOps}
-use Rattle.ir.specs.Arrays.{opsFrom, rowsFrom, rowsOf, RowsIn, BodyIn}
+use Rattle.ir.specs.Operations.{Op, bareOp}
+use Rattle.ir.specs.Entries.{entries, entryOps, bareEntry}
+use Rattle.ir.specs.Arrays.{opsFrom, rowsFrom, rowsOf, RowsIn, BareIn}
+use Rattle.ir.proofs.Bare.{bare-ops, bare-rows}
 use Rattle.limits.specs.Words.{WordsIn}
 use Rattle.elaborator.specs.Elaborated.{opOf, entryOf}
 use Rattle.elaborator.specs.Positions.{codeAt, argAt, opsAt, Elaborates, rowsAt}
@@ -105,44 +106,49 @@ module _ (text : List ℕ) (ts : List Token) (t : Text) (kinds starts sizes owne
     (T : TokensIn ts kinds starts n) (Z : WordsIn text ts sizes n) (O : OwnersIn ts (declared t) owners n) (D : DeclsIn ts (headings t) decls d)
     (L : SlotsIn (declared t) (scopeOf t) (clockOf t) slots) (I : ItemsIn ts (entryItems (bodyEntries (t .body))) codes indices k)
     (R : A.RowsIn ts (bodyEntries (t .body)) rows s) (K : KindedBody (t .body)) (small : Small (exprsNumbers (bodyExprs (t .body)))) (five : names t ≡ []) (eight : clock t ≡ []) where
-  -- the operations that the items become
-  ops-design : opsAt (codeAt owners decls d) (argAt text starts sizes kinds owners decls d slots) codes indices 0 k ≡ entryOps (entries (elaborate t .body))
+  -- the design's statements
+  bare-body : map bareEntry (entries (elaborate t .body)) ≡ map (entryOf (declared t) (scopeFor (declared t) (clockOf t))) (bodyEntries (t .body))
   unfolding scopeOf elaborate processFor
+  bare-body = entries-body (declared t) (scopeFor (declared t) (clockOf t)) (t .body) K
+
+  -- its operations are those of the items
+  bare-items : map bareOp (entryOps (entries (elaborate t .body))) ≡ map (opOf (declared t) (scopeFor (declared t) (clockOf t))) (entryItems (bodyEntries (t .body)))
+  bare-items = sym (bare-ops (entries (elaborate t .body))) ∙ (ap entryOps bare-body ∙ entry-ops-map (declared t) (scopeFor (declared t) (clockOf t)) (bodyEntries (t .body)))
+
+  -- the operations that the items become
+  ops-design : opsAt (codeAt owners decls d) (argAt text starts sizes kinds owners decls d slots) codes indices 0 k ≡ map bareOp (entryOps (entries (elaborate t .body)))
+  unfolding scopeOf
   ops-design =
       ops-are text ts kinds starts sizes owners decls slots n d t (clockOf t) T Z O D L codes indices 0 k (entryItems (bodyEntries (t .body))) (I .are)
       (body-fine (clockOf t) (t .body) K (unread t eight) small)
-      ∙ (sym (entry-ops-map (declared t) (scopeFor (declared t) (clockOf t)) (bodyEntries (t .body))) ∙ ap entryOps (sym (entries-body (declared t) (scopeFor (declared t) (clockOf t)) (t .body) K)))
+      ∙ sym bare-items
 
   -- the rows that the statements become
   rows-design : map irRow (rowsAt owners slots rows 0 s) ≡ rowsOf 0 0 (entries (elaborate t .body))
-  unfolding scopeOf elaborate processFor
+  unfolding scopeOf
   rows-design =
       rows-are ts kinds starts owners slots n (declared t) (clockOf t) T O L rows 0 0 s (bodyEntries (t .body)) (R .are) (body-targets (declared t) (t .body) K (named t five))
-      ∙ ap (rowsOf 0 0) (sym (entries-body (declared t) (scopeFor (declared t) (clockOf t)) (t .body) K))
+      ∙ (ap (rowsOf 0 0) (sym bare-body) ∙ bare-rows 0 0 (entries (elaborate t .body)))
 
-  items-count : length (entryOps (entries (elaborate t .body))) ≡ k
-  unfolding scopeOf elaborate processFor
-  items-count =
-      ap (λ (l : List Entry). length (entryOps l)) (entries-body (declared t) (scopeFor (declared t) (clockOf t)) (t .body) K)
-      ∙ (ap length (entry-ops-map (declared t) (scopeFor (declared t) (clockOf t)) (bodyEntries (t .body))) ∙ (length-map (entryItems (bodyEntries (t .body))) (opOf (declared t) (scopeFor (declared t) (clockOf t))) ∙ I .count))
+  items-count : length (map bareOp (entryOps (entries (elaborate t .body)))) ≡ k
+  items-count = ap length bare-items ∙ (length-map (entryItems (bodyEntries (t .body))) (opOf (declared t) (scopeFor (declared t) (clockOf t))) ∙ I .count)
 
   rows-count : length (entries (elaborate t .body)) ≡ s
-  unfolding scopeOf elaborate processFor
   rows-count =
-      ap length (entries-body (declared t) (scopeFor (declared t) (clockOf t)) (t .body) K)
-      ∙ (length-map (bodyEntries (t .body)) (entryOf (declared t) (scopeFor (declared t) (clockOf t))) ∙ R .count)
+      sym (length-map (entries (elaborate t .body)) bareEntry)
+      ∙ (ap length bare-body ∙ (length-map (bodyEntries (t .body)) (entryOf (declared t) (scopeFor (declared t) (clockOf t))) ∙ R .count))
 
-  -- what the two passes leave lays out the body
+  -- what the two passes leave lays out the body, but for the types of operands
   pub body-laid : (ops₀ ops₁ out₀ out₁ : List ℕ) (args₀ args₁ : List ℤ) → length ops₀ ≡ 16384 → length args₀ ≡ 16384 → length out₀ ≡ 3072
       → Elaborates (codeAt owners decls d) (argAt text starts sizes kinds owners decls d slots) codes indices k ops₀ ops₁ args₀ args₁
-      → out₁ ≡ storeRows 0 (rowsAt owners slots rows 0 (min s 512)) out₀ → BodyIn (elaborate t) ops₁ args₁ out₁ k s
+      → out₁ ≡ storeRows 0 (rowsAt owners slots rows 0 (min s 512)) out₀ → BareIn (elaborate t) ops₁ args₁ out₁ k s
   unfolding elaborate processFor
   body-laid ops₀ ops₁ out₀ out₁ args₀ args₁ lo la lr e r =
       let ks = I .short in
       let ss = R .short in
       let km : min k 16384 ≡ k = omega arith in
       let sm : min s 512 ≡ s = omega arith in
-      let os = entryOps (entries (elaborate t .body)) in
+      let os = map bareOp (entryOps (entries (elaborate t .body))) in
       let od : opsAt (codeAt owners decls d) (argAt text starts sizes kinds owners decls d slots) codes indices 0 (min k 16384) ≡ os = rw km ops-design in
       let c = items-count in
       record {

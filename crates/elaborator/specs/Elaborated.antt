@@ -5,6 +5,9 @@ use mathlib.Core.List.{List, map}
 use Prim.Native.Nat.{ℕ}
 use lib.Dec.{eqb}
 use lib.IntN.{ℤ, pos}
+use Rattle.codes.specs.Item.{NAME, NUMBER, BIT}
+use Rattle.codes.specs.Operation.{INTEGER, STD-LOGIC, INPUT, VARIABLE}
+use Rattle.codes.specs.Statement as K
 use Rattle.grammar.specs.Tree.{Mode, input, output-port, variable-mode}
 use Rattle.grammar.specs.Reader.{choose}
 use Rattle.language.specs.Declarations.{Decl, Scope, find}
@@ -16,23 +19,23 @@ use Rattle.ir.specs.Entries.{Entry, entry}
 
 -- a name in an expression: the k-th data input or variable; where it may not be read, '0'
 abbrev pub modeOp : Scope → ℕ → Mode → Op
-modeOp Γ v input = op 3 (pos (position (Γ .inputs) v))
-modeOp Γ v output-port = op 2 (pos 0)
-modeOp Γ v variable-mode = op 4 (pos (position (Γ .variables) v))
+modeOp Γ v input = op INPUT (pos (position (Γ .inputs) v))
+modeOp Γ v output-port = op STD-LOGIC (pos 0)
+modeOp Γ v variable-mode = op VARIABLE (pos (position (Γ .variables) v))
 
 abbrev pub foundOp : Scope → ℕ → Option Decl → Op
-foundOp Γ v none = op 2 (pos 0)
+foundOp Γ v none = op STD-LOGIC (pos 0)
 foundOp Γ v (some d) = modeOp Γ v (d .mode)
 
--- an item: 1 a name, 2 a number, 3 '0' or '1', 4 a sign, 5 not; an operator with two operands keeps its code
+-- an item; an operator keeps its code, and the type of its operands is not told yet
 unfoldable pub opOf : List Decl → Scope → Item → Op
 opOf Δ Γ i =
-    choose (eqb (i .code) 1) (foundOp Γ (i .token .value) (find Δ (i .token .value))) (choose (eqb (i .code) 2) (op 1 (pos (i .token .value)))
-    (choose (eqb (i .code) 3) (op 2 (bitArg (eqb (i .token .value) 1))) (choose (eqb (i .code) 4) (op 16 (pos 0)) (choose (eqb (i .code) 5) (op 17 (pos 0)) (op (i .code) (pos 0))))))
+    choose (eqb (i .code) NAME) (foundOp Γ (i .token .value) (find Δ (i .token .value))) (choose (eqb (i .code) NUMBER) (op INTEGER (pos (i .token .value)))
+    (choose (eqb (i .code) BIT) (op STD-LOGIC (bitArg (eqb (i .token .value) 1))) (op (i .code) (pos 0))))
 
 -- a target: the k-th output of <=, the k-th variable of :=; others have none
 unfoldable pub targetOf : Scope → ℕ → ℕ → ℕ
-targetOf Γ k v = choose (eqb k 1) (position (Γ .outputs) v) (choose (eqb k 2) (position (Γ .variables) v) 0)
+targetOf Γ k v = choose (eqb k K.OUTPUT) (position (Γ .outputs) v) (choose (eqb k K.VARIABLE) (position (Γ .variables) v) 0)
 
 -- a statement
 unfoldable pub entryOf : List Decl → Scope → S.Entry → Entry

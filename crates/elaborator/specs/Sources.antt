@@ -4,7 +4,10 @@ use mathlib.Core.Bool.{true, false}
 use mathlib.Core.Option.{Option, some}
 use mathlib.Core.List.{List}
 use Prim.Native.Nat.{ℕ, _≤_}
-use Rattle.grammar.specs.Token.{Token, NAME, NUMBER}
+use Rattle.codes.specs.Item as I
+use Rattle.codes.specs.Limit.{INTEGER}
+use Rattle.grammar.specs.Token.{Token}
+use Rattle.codes.specs.Token.{NAME, NUMBER}
 use Rattle.language.specs.Declarations.{Decl, Scope, find, isOutput, isVariable, isClock, isData}
 use Rattle.language.specs.Elaboration.{position}
 use Rattle.expressions.specs.Postfix.{Item}
@@ -19,8 +22,8 @@ pub record SlotsIn (Δ : List Decl) (Γ : Scope) (c : Option Token) (slots : Lis
 
 -- an item of an accepted text: a name that is not the clock's, a number within the limit, '0' or '1', or an operator
 pub record Fine (c : Option Token) (i : Item) : Type 0 where
-  pub name : i .code ≡ 1 → i .token .kind ≡ NAME
-  pub unclocked : i .code ≡ 1 → isClock c (i .token .value) ≡ false
-  pub number : i .code ≡ 2 → i .token .kind ≡ NUMBER
-  pub small : i .code ≡ 2 → i .token .value ≤ 2147483647
-  pub bit : i .code ≡ 3 → IsBit (i .token)
+  pub name : i .code ≡ I.NAME → i .token .kind ≡ NAME
+  pub unclocked : i .code ≡ I.NAME → isClock c (i .token .value) ≡ false
+  pub number : i .code ≡ I.NUMBER → i .token .kind ≡ NUMBER
+  pub small : i .code ≡ I.NUMBER → i .token .value ≤ INTEGER
+  pub bit : i .code ≡ I.BIT → IsBit (i .token)

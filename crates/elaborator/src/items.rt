@@ -2,9 +2,15 @@
 ghost use mathlib.Core.Path.{_≡_};
 ghost use Prim.Native.Nat.{min};
 ghost use lib.IntN.{pos};
+ghost use Rattle.codes.specs.Limit.{TEXT};
 ghost use Rattle.offences.specs.Positions.{modeIn};
 ghost use Rattle.elaborator.specs.Positions.{numberAt, slotAt, within, literalAt, nameCode, nameArg, bitAt, codeAt, argAt, Elaborates};
 use crate::arrays;
+use codes::declaration;
+use codes::item;
+use codes::limit;
+use codes::operation;
+use codes::token;
 use lexer::parts;
 use offences::mode_at;
 
@@ -12,31 +18,35 @@ use offences::mode_at;
 fn name_code(mode: u16) -> u8
     ensures { λ r. ⌜ r ≡ nameCode mode ⌝ }
 {
-    if mode == 0 {
-        return 3;
+    if mode == declaration::IN {
+        return operation::INPUT;
     }
-    if mode == 2 {
-        return 4;
+    if mode == declaration::VARIABLE {
+        return operation::VARIABLE;
     }
-    2
+    operation::STD_LOGIC
 }
 
-// The code of an item's operation.
-fn code_at(owners: &[u8; 16384], decls: &[u16; 390], d: usize, c: u8, i: usize) -> u8
+// The code of an item's operation; an operator keeps its own.
+fn code_at(
+    owners: &[u8; limit::TEXT],
+    decls: &[u16; declaration::ROWS],
+    d: usize,
+    c: u8,
+    i: usize,
+) -> u8
     ensures { λ r. ⌜ r ≡ codeAt (now (owners .entry)) (now (decls .entry)) d c i ⌝ }
 {
     match c {
-        1 => name_code(mode_at(decls, d, arrays::byte_at(owners, i) as usize)),
-        2 => 1,
-        3 => 2,
-        4 => 16,
-        5 => 17,
+        item::NAME => name_code(mode_at(decls, d, arrays::byte_at(owners, i) as usize)),
+        item::NUMBER => operation::INTEGER,
+        item::BIT => operation::STD_LOGIC,
         _ => c,
     }
 }
 
 // The value of a number.
-fn literal_at(text: &[u8], starts: &[u16; 16384], sizes: &[u16; 16384], i: usize) -> u32
+fn literal_at(text: &[u8], starts: &[u16; limit::TEXT], sizes: &[u16; limit::TEXT], i: usize) -> u32
     ensures { λ r. ⌜ r ≡ literalAt (now (text .entry)) (now (starts .entry)) (now (sizes .entry)) i ⌝ }
 {
     let v = parts::number_value(
@@ -44,53 +54,59 @@ fn literal_at(text: &[u8], starts: &[u16; 16384], sizes: &[u16; 16384], i: usize
         arrays::number_at(starts, i) as usize,
         arrays::number_at(sizes, i) as usize,
     );
-    if v <= 2147483647 {
+    if v <= arrays::MOST {
         return v as u32;
     }
     0
 }
 
 // The index of a name that is read.
-fn name_arg(owners: &[u8; 16384], decls: &[u16; 390], d: usize, slots: &[u8; 65], i: usize) -> u32
+fn name_arg(
+    owners: &[u8; limit::TEXT],
+    decls: &[u16; declaration::ROWS],
+    d: usize,
+    slots: &[u8; limit::NAMES],
+    i: usize,
+) -> u32
     ensures { λ r. ⌜ r ≡ nameArg (modeIn (now (decls .entry)) d (numberAt (now (owners .entry)) i)) (slotAt (now (slots .entry)) (numberAt (now (owners .entry)) i)) ⌝ }
 {
     let q = arrays::byte_at(owners, i) as usize;
     let code = name_code(mode_at(decls, d, q));
-    if code == 2 {
+    if code == operation::STD_LOGIC {
         return 0;
     }
     arrays::slot_at(slots, q) as u32
 }
 
 // '0' or '1'.
-fn bit_at(kinds: &[u8; 16384], i: usize) -> u32
+fn bit_at(kinds: &[u8; limit::TEXT], i: usize) -> u32
     ensures { λ r. ⌜ r ≡ bitAt (now (kinds .entry)) i ⌝ }
 {
-    if arrays::byte_at(kinds, i) == 4 {
+    if arrays::byte_at(kinds, i) == token::ONE {
         return 1;
     }
     0
 }
 
-// The argument of an item's operation.
+// The argument of an item's operation; the type of an operator's operands is told later, by crate operands.
 fn arg_at(
     text: &[u8],
-    starts: &[u16; 16384],
-    sizes: &[u16; 16384],
-    kinds: &[u8; 16384],
-    owners: &[u8; 16384],
-    decls: &[u16; 390],
+    starts: &[u16; limit::TEXT],
+    sizes: &[u16; limit::TEXT],
+    kinds: &[u8; limit::TEXT],
+    owners: &[u8; limit::TEXT],
+    decls: &[u16; declaration::ROWS],
     d: usize,
-    slots: &[u8; 65],
+    slots: &[u8; limit::NAMES],
     c: u8,
     i: usize,
 ) -> u32
     ensures { λ r. ⌜ r ≡ argAt (now (text .entry)) (now (starts .entry)) (now (sizes .entry)) (now (kinds .entry)) (now (owners .entry)) (now (decls .entry)) d (now (slots .entry)) c i ⌝ }
 {
     match c {
-        1 => name_arg(owners, decls, d, slots, i),
-        2 => literal_at(text, starts, sizes, i),
-        3 => bit_at(kinds, i),
+        item::NAME => name_arg(owners, decls, d, slots, i),
+        item::NUMBER => literal_at(text, starts, sizes, i),
+        item::BIT => bit_at(kinds, i),
         _ => 0,
     }
 }
@@ -99,7 +115,7 @@ fn arg_at(
 fn whole(n: u32) -> i32
     ensures { λ r. ⌜ r ≡ pos (within n) ⌝ }
 {
-    if n <= 2147483647 {
+    if n <= limit::INTEGER {
         return n as i32;
     }
     0
@@ -114,29 +130,29 @@ fn wide(x: u16) -> usize
 
 // As many items as the arrays have room for.
 fn at_most(k: usize) -> usize
-    ensures { λ r. ⌜ r ≡ min k 16384 ⌝ }
+    ensures { λ r. ⌜ r ≡ min k TEXT ⌝ }
 {
-    if k < 16384 {
+    if k < limit::TEXT {
         return k;
     }
-    16384
+    limit::TEXT
 }
 
 // The operations of all items, in their order.
 pub fn operations(
     text: &[u8],
-    starts: &[u16; 16384],
-    sizes: &[u16; 16384],
-    kinds: &[u8; 16384],
-    owners: &[u8; 16384],
-    decls: &[u16; 390],
+    starts: &[u16; limit::TEXT],
+    sizes: &[u16; limit::TEXT],
+    kinds: &[u8; limit::TEXT],
+    owners: &[u8; limit::TEXT],
+    decls: &[u16; declaration::ROWS],
     d: usize,
-    slots: &[u8; 65],
-    codes: &[u8; 16384],
-    indices: &[u16; 16384],
+    slots: &[u8; limit::NAMES],
+    codes: &[u8; limit::TEXT],
+    indices: &[u16; limit::TEXT],
     k: usize,
-    ops: &mut [u8; 16384],
-    args: &mut [i32; 16384],
+    ops: &mut [u8; limit::TEXT],
+    args: &mut [i32; limit::TEXT],
 )
     ensures { λ _. ⌜ Elaborates (codeAt (now (owners .entry)) (now (decls .entry)) d)
         (argAt (now (text .entry)) (now (starts .entry)) (now (sizes .entry)) (now (kinds .entry)) (now (owners .entry)) (now (decls .entry)) d (now (slots .entry)))

@@ -1,53 +1,73 @@
 // The statements of the design, from the rows of the text's: targets in place of tokens.
 ghost use mathlib.Core.Path.{_≡_};
 ghost use Prim.Native.Nat.{min, _<_};
+ghost use Rattle.codes.specs.Limit.{STATEMENTS};
 ghost use Rattle.statements.specs.Rows.{setRow, storeRows};
 ghost use Rattle.elaborator.specs.Positions.{targetAt, rowAt, rowsAt};
 use crate::arrays;
+use codes::limit;
+use codes::statement;
 
 // A target's index among the outputs or the variables.
-fn target_at(owners: &[u8; 16384], slots: &[u8; 65], kind: u16, i: u16) -> u16
+fn target_at(owners: &[u8; limit::TEXT], slots: &[u8; limit::NAMES], kind: u16, i: u16) -> u16
     ensures { λ r. ⌜ r ≡ targetAt (now (owners .entry)) (now (slots .entry)) kind i ⌝ }
 {
     match kind {
-        1 => arrays::slot_at(slots, arrays::byte_at(owners, i as usize) as usize) as u16,
-        2 => arrays::slot_at(slots, arrays::byte_at(owners, i as usize) as usize) as u16,
+        statement::OUTPUT => arrays::slot_at(
+            slots,
+            arrays::byte_at(owners, i as usize) as usize,
+        ) as u16,
+        statement::VARIABLE => arrays::slot_at(
+            slots,
+            arrays::byte_at(owners, i as usize) as usize,
+        ) as u16,
         _ => 0,
     }
 }
 
 // Row j.
-fn put(owners: &[u8; 16384], slots: &[u8; 65], rows: &[u16; 3072], j: usize, out: &mut [u16; 3072])
-    requires { ⌜ j < 512 ⌝ }
+fn put(
+    owners: &[u8; limit::TEXT],
+    slots: &[u8; limit::NAMES],
+    rows: &[u16; statement::ROWS],
+    j: usize,
+    out: &mut [u16; statement::ROWS],
+)
+    requires { ⌜ j < STATEMENTS ⌝ }
     ensures { λ _. ⌜ now (out .exit) ≡ setRow j (rowAt (now (owners .entry)) (now (slots .entry)) (now (rows .entry)) j) (now (out .entry)) ⌝ }
 {
-    out[6 * j] = rows[6 * j];
-    out[6 * j + 1] = target_at(owners, slots, rows[6 * j], rows[6 * j + 1]);
-    out[6 * j + 2] = rows[6 * j + 2];
-    out[6 * j + 3] = rows[6 * j + 3];
-    out[6 * j + 4] = rows[6 * j + 4];
-    out[6 * j + 5] = rows[6 * j + 5];
+    out[statement::ROW * j] = rows[statement::ROW * j];
+    out[statement::ROW * j + statement::TARGET] = target_at(
+        owners,
+        slots,
+        rows[statement::ROW * j],
+        rows[statement::ROW * j + statement::TOKEN],
+    );
+    out[statement::ROW * j + statement::FROM] = rows[statement::ROW * j + statement::FROM];
+    out[statement::ROW * j + statement::TO] = rows[statement::ROW * j + statement::TO];
+    out[statement::ROW * j + statement::OTHER] = rows[statement::ROW * j + statement::OTHER];
+    out[statement::ROW * j + statement::END] = rows[statement::ROW * j + statement::END];
 }
 
 // As many statements as the array has room for.
 fn at_most(s: usize) -> usize
-    ensures { λ r. ⌜ r ≡ min s 512 ⌝ }
+    ensures { λ r. ⌜ r ≡ min s STATEMENTS ⌝ }
 {
-    if s < 512 {
+    if s < limit::STATEMENTS {
         return s;
     }
-    512
+    limit::STATEMENTS
 }
 
 // All rows, in their order.
 pub fn statements(
-    owners: &[u8; 16384],
-    slots: &[u8; 65],
-    rows: &[u16; 3072],
+    owners: &[u8; limit::TEXT],
+    slots: &[u8; limit::NAMES],
+    rows: &[u16; statement::ROWS],
     s: usize,
-    out: &mut [u16; 3072],
+    out: &mut [u16; statement::ROWS],
 )
-    ensures { λ _. ⌜ now (out .exit) ≡ storeRows 0 (rowsAt (now (owners .entry)) (now (slots .entry)) (now (rows .entry)) 0 (min s 512)) (now (out .entry)) ⌝ }
+    ensures { λ _. ⌜ now (out .exit) ≡ storeRows 0 (rowsAt (now (owners .entry)) (now (slots .entry)) (now (rows .entry)) 0 (min s STATEMENTS)) (now (out .entry)) ⌝ }
 {
     let n = at_most(s);
     let mut j = 0;

@@ -20,10 +20,12 @@ use Rattle.design.specs.Process.{fits}
 use Rattle.format.proofs.Decoding.{given-some, given2-some}
 use Rattle.format.proofs.Lines.{fits-type}
 use Rattle.format.proofs.Encoded.{operation-append, named-below}
-use Rattle.ir.specs.Operations.{Op, op, leafOp, unaryCode, binaryCode, ops}
+use Rattle.ir.specs.Operations.{Op, op, leafOp, ops}
+use Rattle.codes.specs.Operation.{INTEGER, STD-LOGIC, INPUT, VARIABLE, unaryCode, binaryCode, widthOf}
+use Rattle.codes.specs.Types.{tagOf}
 use Rattle.ir.specs.Arrays.{opsFrom}
 use Rattle.ir.proofs.Laid.{unaryOp, binaryOp, ops-laid}
-use Rattle.encoder.specs.Emitted.{opBytes, opWidth, codeFrom, widthFrom}
+use Rattle.encoder.specs.Emitted.{opBytes, codeFrom, widthFrom}
 use Rattle.links.proofs.Sets.{sets-append}
 
 -- bytes stored behind others
@@ -47,14 +49,17 @@ unfolding codeFrom flatBytes opsFrom
 code-flat codes args m zero = refl
 code-flat codes args m (suc c) = ap (λ (l : List ℕ). opBytes (getD codes m 0) (getD args m (pos 0)) ++ l) (code-flat codes args (m + 1) c)
 
-pub width-op : (c : ℕ) (z : ℤ) → opWidth c ≡ length (opBytes c z)
-unfolding opWidth opBytes
-width-op c z = go (eqb c 1) (ltb c 5)
+pub width-op : (c : ℕ) (z : ℤ) → widthOf c ≡ length (opBytes c z)
+unfolding widthOf opBytes
+width-op c z = go (eqb c INTEGER) (eqb c STD-LOGIC) (eqb c INPUT) (eqb c VARIABLE)
   where
-    go : (a b : Bool) → cond a 5 (cond b 2 1) ≡ length (cond a (c ∷ Words.bytes4 (unsigned32 z)) (cond b (c ∷ unsigned32 z % 256 ∷ []) (c ∷ [])))
-    go true b = refl
-    go false true = refl
-    go false false = refl
+    go : (a b d e : Bool) → cond a 5 (cond b 2 (cond d 2 (cond e 2 1)))
+        ≡ length (cond a (c ∷ Words.bytes4 (unsigned32 z)) (cond (eqb (cond a 5 (cond b 2 (cond d 2 (cond e 2 1)))) 1) (c ∷ []) (c ∷ unsigned32 z % 256 ∷ [])))
+    go true b d e = refl
+    go false true d e = refl
+    go false false true e = refl
+    go false false false true = refl
+    go false false false false = refl
 
 pub width-code : (codes : List ℕ) (args : List ℤ) (m c : ℕ) → widthFrom codes m c ≡ length (codeFrom codes args m c)
 unfolding codeFrom widthFrom
@@ -65,32 +70,33 @@ width-code codes args m (suc c) =
     let l = length-append (opBytes (getD codes m 0) (getD args m (pos 0))) (codeFrom codes args (m + 1) c) in
     omega arith
 
-unary-flat : (o : Unary) → flatBytes (op (unaryCode o) (pos 0) ∷ []) ≡ operationBytes (apply1 o ∷ [])
-unfolding flatBytes opBytes operationBytes
-unary-flat sign = refl
-unary-flat invert = refl
+-- an operator's byte is its code, whatever its argument
+unary-flat : (o : Unary) (z : ℤ) → flatBytes (op (unaryCode o) z ∷ []) ≡ operationBytes (apply1 o ∷ [])
+unfolding flatBytes opBytes widthOf operationBytes
+unary-flat sign z = refl
+unary-flat invert z = refl
 
-binary-flat : (o : Binary) → flatBytes (op (binaryCode o) (pos 0) ∷ []) ≡ operationBytes (apply2 o ∷ [])
-unfolding flatBytes opBytes operationBytes
-binary-flat plus = refl
-binary-flat minus = refl
-binary-flat equal = refl
-binary-flat unequal = refl
-binary-flat less = refl
-binary-flat at-most = refl
-binary-flat greater = refl
-binary-flat at-least = refl
-binary-flat and = refl
-binary-flat or = refl
-binary-flat xor = refl
-binary-flat times = refl
-binary-flat divide = refl
-binary-flat modulo = refl
-binary-flat remainder = refl
+binary-flat : (o : Binary) (z : ℤ) → flatBytes (op (binaryCode o) z ∷ []) ≡ operationBytes (apply2 o ∷ [])
+unfolding flatBytes opBytes widthOf operationBytes
+binary-flat plus z = refl
+binary-flat minus z = refl
+binary-flat equal z = refl
+binary-flat unequal z = refl
+binary-flat less z = refl
+binary-flat at-most z = refl
+binary-flat greater z = refl
+binary-flat at-least z = refl
+binary-flat and z = refl
+binary-flat or z = refl
+binary-flat xor z = refl
+binary-flat times z = refl
+binary-flat divide z = refl
+binary-flat modulo z = refl
+binary-flat remainder z = refl
 
 module _ (is vs : List Ty) (hi : length is ≤ 256) (hv : length vs ≤ 256) where
   leaf-flat : (l : Leaf) (t : ExprTy) → leafType is vs l ≡ some t → flatBytes (leafOp l ∷ []) ≡ operationBytes (push l ∷ [])
-  unfolding flatBytes opBytes operationBytes leafType
+  unfolding flatBytes opBytes widthOf operationBytes leafType
   leaf-flat (int z) t e = refl
   leaf-flat (bit true) t e = refl
   leaf-flat (bit false) t e = refl
@@ -117,10 +123,10 @@ module _ (is vs : List Ty) (hi : length is ≤ 256) (hv : length vs ≤ 256) whe
         leaf = λ l w k f c.
             ap (λ (z : List ℕ). w ++ z) (flat-append (leafOp l ∷ []) k ∙ ap (λ (z : List ℕ). z ++ flatBytes k) (leaf-flat l (f .0) (f .1)))
             ∙ (sym (append-assoc w (operationBytes (push l ∷ [])) (flatBytes k)) ∙ c);
-        unary = λ o s a w k f. ((s, given-some (unaryType o) s (f .0) (typeOf is vs a) (f .1) .0), λ c. behind w (post a) (unaryOp o) (apply1 o) k (unary-flat o) ∙ c);
+        unary = λ o s a w k f. ((s, given-some (unaryType o) s (f .0) (typeOf is vs a) (f .1) .0), λ c. behind w (post a) (unaryOp o s) (apply1 o) k (unary-flat o (pos (tagOf s))) ∙ c);
         binary = λ o s a b w k f.
             let p = given2-some (binaryType o) s (f .0) (typeOf is vs a) (typeOf is vs b) (f .1) in
-            ((s, p .0), (s, p .1), λ c. behind (w ++ operationBytes (post a)) (post b) (binaryOp o) (apply2 o) k (binary-flat o) ∙ (ap (λ (l : List ℕ). l ++ flatBytes k) (joined w (post a) (post b ++ (apply2 o ∷ []))) ∙ c));
+            ((s, p .0), (s, p .1), λ c. behind (w ++ operationBytes (post a)) (post b) (binaryOp o s) (apply2 o) k (binary-flat o (pos (tagOf s))) ∙ (ap (λ (l : List ℕ). l ++ flatBytes k) (joined w (post a) (post b ++ (apply2 o ∷ []))) ∙ c));
       }
 
   -- the bytes of an expression's operations are its code

@@ -11,7 +11,8 @@ use Rattle.semantics.specs.Twos.{unsigned32}
 use Rattle.format.specs.Image.{raw, rawBytes, rawsBytes}
 use Rattle.ir.specs.Arrays.{rowIn}
 use Rattle.links.specs.Followers.{links}
-use Rattle.encoder.specs.Emitted.{opBytes, opWidth, codeFrom, widthFrom, runWidth, kindByte, lineAt, linesFrom, typesFrom, cellsFrom, signatureFrom, headerOf}
+use Rattle.codes.specs.Operation.{widthOf}
+use Rattle.encoder.specs.Emitted.{opBytes, codeFrom, widthFrom, runWidth, kindByte, lineAt, linesFrom, typesFrom, cellsFrom, signatureFrom, headerOf}
 use Rattle.links.proofs.Sets.{sets-append}
 use Rattle.encoder.proofs.EmittedLaws.{put-after, width-op}
 
@@ -61,13 +62,13 @@ cells-done types values l l₀ at k n h e =
 -- the code of n operations
 
 pub code-again : (codes : List ℕ) (args : List ℤ) (l : List ℕ) {m : List ℕ} (p i n : ℕ) {c w : ℕ} {z : ℤ} → i < n → c ≡ getD codes i 0 → z ≡ getD args i (pos 0) → m ≡ sets l p (opBytes c z)
-    → w ≡ opWidth c → sets m (p + w) (codeFrom codes args (i + 1) (n - (i + 1))) ≡ sets l p (codeFrom codes args i (n - i))
+    → w ≡ widthOf c → sets m (p + w) (codeFrom codes args (i + 1) (n - (i + 1))) ≡ sets l p (codeFrom codes args i (n - i))
 unfolding codeFrom
 code-again codes args l {m} p i n {c} {w} {z} h e d g f =
     let y : n - i ≡ suc (n - (i + 1)) = omega arith in
     rw y (again l m p (p + w) (opBytes (getD codes i 0) (getD args i (pos 0))) (codeFrom codes args (i + 1) (n - (i + 1)))
     (g ∙ ap (λ (q : ℕ). sets l p (opBytes q z)) e ∙ ap (λ (q : ℤ). sets l p (opBytes (getD codes i 0) q)) d)
-    (ap (λ (q : ℕ). p + q) (f ∙ ap (λ (q : ℕ). opWidth q) e ∙ width-op (getD codes i 0) (getD args i (pos 0)))))
+    (ap (λ (q : ℕ). p + q) (f ∙ ap (λ (q : ℕ). widthOf q) e ∙ width-op (getD codes i 0) (getD args i (pos 0)))))
 
 pub code-done : (codes : List ℕ) (args : List ℤ) (l l₀ : List ℕ) (p p₀ i n : ℕ) → n ≤ i → sets l p (codeFrom codes args i (n - i)) ≡ sets l₀ p₀ (codeFrom codes args 0 (n - 0))
     → l ≡ sets l₀ p₀ (codeFrom codes args 0 n)
@@ -79,11 +80,11 @@ code-done codes args l l₀ p p₀ i n h e =
 
 -- the bytes of a run of operations counted
 
-pub width-again : (codes : List ℕ) (i n : ℕ) (a v w : ℕ) → i < n → v ≡ opWidth (getD codes i 0) → a + widthFrom codes i (n - i) ≡ w → a + v + widthFrom codes (i + 1) (n - (i + 1)) ≡ w
+pub width-again : (codes : List ℕ) (i n : ℕ) (a v w : ℕ) → i < n → v ≡ widthOf (getD codes i 0) → a + widthFrom codes i (n - i) ≡ w → a + v + widthFrom codes (i + 1) (n - (i + 1)) ≡ w
 unfolding widthFrom
 width-again codes i n a v w h e g =
     let z : n - i ≡ suc (n - (i + 1)) = omega arith in
-    let g′ : a + (opWidth (getD codes i 0) + widthFrom codes (i + 1) (n - (i + 1))) ≡ w = rw z at g in
+    let g′ : a + (widthOf (getD codes i 0) + widthFrom codes (i + 1) (n - (i + 1))) ≡ w = rw z at g in
     omega arith
 
 pub width-done : (codes : List ℕ) (i n f a : ℕ) → n ≤ i → a + widthFrom codes i (n - i) ≡ 0 + widthFrom codes f (n - f) → a ≡ widthFrom codes f (n - f)

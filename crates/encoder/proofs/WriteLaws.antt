@@ -2,32 +2,32 @@
 use Prim.Native.Nat.{ℕ, zero, suc, _+_, _-_, _*_, _≤_, _<_, min}
 use native.Mathlib.Omega.{arith}
 use mathlib.Core.Path.{_≡_, refl, sym, ap, _∙_}
-use mathlib.Core.Bool.{true, false}
 use mathlib.Core.List.{List, [], _∷_, _++_, append-assoc, append-nil, map}
 use lib.ListN.{length, getD, take, drop, length-append, length-map}
 use lib.Seq.{sets, sets-eq}
-use lib.Dec.{leb}
 use lib.IntN.{ℤ, pos}
-use borrow.Author.Tests.{le-leb, lt-leb}
-use Rattle.design.specs.Types.{Ty, std-logic, integer}
+use Rattle.answers.specs.Answers.{done, refusal}
+use Rattle.design.specs.Types.{Ty, std-logic, integer, typeByte}
 use Rattle.design.specs.Statement.{size}
 use Rattle.design.specs.Process.{Source, Slot, Process, WellFormed, sourceTypes, slotTypes, initials}
 use Rattle.format.specs.Words.{bytes4}
 use Rattle.semantics.specs.Twos.{unsigned32}
 use Rattle.format.specs.Lines.{lines, linesOf, line, reachesOf}
-use Rattle.format.specs.Signature.{typeByte, typeBytes, cellBytes, signatureBytes}
+use Rattle.format.specs.Signature.{typeBytes, cellBytes, signatureBytes}
 use Rattle.format.specs.Image.{rawsOf, rawsBytes, linesCode, pairs, joined, image, form1, sectionsFor, encodeTable}
 use Rattle.format.specs.Encode.{cells, signatureFor, tableOf, encode}
+use Rattle.format.specs.Writing.{writtenInto}
+use Rattle.format.proofs.Writing.{fits-written, short-written}
 use Rattle.format.proofs.Encoded.{raws-length}
 use Rattle.simulation.proofs.Lines.{linesOf-length, linesOf-line}
 use Rattle.simulation.proofs.Reaches.{reachesOf-length}
-use Rattle.ir.specs.Arrays.{typeCode, BodyIn, NamesIn}
+use Rattle.ir.specs.Arrays.{BodyIn, NamesIn}
 use Rattle.ir.proofs.Held.{entries-size, at-whole}
 use Rattle.encoder.specs.declared.Encoded.the-variants.{Written, TooShort}
 use Rattle.links.specs.Followers.{Links, stored, Followed}
 use Rattle.links.specs.Reaches.{Reached}
 use Rattle.encoder.specs.Emitted.{codeFrom, widthFrom, runWidth, linesFrom, typesFrom, cellsFrom, signatureFrom, headerOf}
-use Rattle.encoder.specs.Outcome.{answerFor, bufferFor, LinesStored, Encodes}
+use Rattle.encoder.specs.Outcome.{encodedTold, LinesStored, Encodes}
 use Rattle.links.proofs.Sets.{getD-sets-in}
 use Rattle.links.proofs.ReachesLaws.{link-next-is, link-other-is}
 use Rattle.encoder.proofs.EmittedLaws.{put-after, code-flat, width-code, flatBytes}
@@ -52,25 +52,25 @@ take-cons [] (suc k) n d y ys e = nil-cons e
 take-cons (x ∷ l) zero n d y ys e = (cons-head e, cons-tail e)
 take-cons (x ∷ l) (suc k) n d y ys e = let z : suc k + 1 ≡ suc (k + 1) = omega arith in rw z (take-cons l k n d y ys e)
 
-type-same : (t : Ty) → typeCode t ≡ typeByte t
+type-same : (t : Ty) → typeByte t ≡ typeByte t
 type-same std-logic = refl
 type-same integer = refl
 
 cons-both : {x y : ℕ} {xs ys : List ℕ} → x ≡ y → xs ≡ ys → x ∷ xs ≡ y ∷ ys
 cons-both e g = cc
 
-types-held : (ts : List Ty) (l : List ℕ) (k : ℕ) → take (length ts) (drop k l) ≡ map typeCode ts → typesFrom l k (length ts) ≡ typeBytes ts
+types-held : (ts : List Ty) (l : List ℕ) (k : ℕ) → take (length ts) (drop k l) ≡ map typeByte ts → typesFrom l k (length ts) ≡ typeBytes ts
 unfolding typesFrom typeBytes
 types-held [] l k e = refl
 types-held (t ∷ ts) l k e =
-    let p = take-cons l k (length ts) 0 (typeCode t) (map typeCode ts) e in cons-both (p .0 ∙ type-same t) (types-held ts l (k + 1) (p .1))
+    let p = take-cons l k (length ts) 0 (typeByte t) (map typeByte ts) e in cons-both (p .0 ∙ type-same t) (types-held ts l (k + 1) (p .1))
 
-cells-held : (ss : List Slot) (l : List ℕ) (z : List ℤ) (k : ℕ) → take (length ss) (drop k l) ≡ map typeCode (slotTypes ss) → take (length ss) (drop k z) ≡ initials ss
+cells-held : (ss : List Slot) (l : List ℕ) (z : List ℤ) (k : ℕ) → take (length ss) (drop k l) ≡ map typeByte (slotTypes ss) → take (length ss) (drop k z) ≡ initials ss
     → cellsFrom l z k (length ss) ≡ cellBytes (cells ss)
 unfolding cellsFrom cellBytes
 cells-held [] l z k e g = refl
 cells-held (s ∷ ss) l z k e g =
-    let p = take-cons l k (length ss) 0 (typeCode (s .type)) (map typeCode (slotTypes ss)) e in
+    let p = take-cons l k (length ss) 0 (typeByte (s .type)) (map typeByte (slotTypes ss)) e in
     let q = take-cons z k (length ss) (pos 0) (s .initial) (initials ss) g in
     cons-both (p .0 ∙ type-same (s .type))
     (ap (λ (w : ℤ). bytes4 (unsigned32 w) ++ cellsFrom l z (k + 1) (length ss)) (q .0) ∙ ap (λ (w : List ℕ). bytes4 (unsigned32 (s .initial)) ++ w) (cells-held ss l z (k + 1) (p .1) (q .1)))
@@ -93,10 +93,10 @@ signature-held {p} {is} {os} {vs} {ao} {av} {i} {o} {v} h =
     (ap (λ (w : List ℕ). w ++ (cellsFrom os ao 0 o ++ cellsFrom vs av 0 v)) t ∙ ap (λ (w : List ℕ). typeBytes (sourceTypes (p .inputs)) ++ (w ++ cellsFrom vs av 0 v)) c
     ∙ ap (λ (w : List ℕ). typeBytes (sourceTypes (p .inputs)) ++ (cellBytes (cells (p .outputs)) ++ w)) d)))
   where
-    by-types : (ts : List Ty) (l : List ℕ) (n : ℕ) → length ts ≡ n → take n l ≡ map typeCode ts → typesFrom l 0 n ≡ typeBytes ts
+    by-types : (ts : List Ty) (l : List ℕ) (n : ℕ) → length ts ≡ n → take n l ≡ map typeByte ts → typesFrom l 0 n ≡ typeBytes ts
     by-types ts l n e g = ap (λ (k : ℕ). typesFrom l 0 k) (sym e) ∙ types-held ts l 0 (ap (λ (k : ℕ). take k l) e ∙ g)
 
-    by-cells : (ss : List Slot) (l : List ℕ) (z : List ℤ) (n : ℕ) → length ss ≡ n → take n l ≡ map typeCode (slotTypes ss) → take n z ≡ initials ss → cellsFrom l z 0 n ≡ cellBytes (cells ss)
+    by-cells : (ss : List Slot) (l : List ℕ) (z : List ℤ) (n : ℕ) → length ss ≡ n → take n l ≡ map typeByte (slotTypes ss) → take n z ≡ initials ss → cellsFrom l z 0 n ≡ cellBytes (cells ss)
     by-cells ss l z n e g f =
         ap (λ (k : ℕ). cellsFrom l z 0 k) (sym e) ∙ cells-held ss l z 0 (ap (λ (k : ℕ). take k l) e ∙ g) (ap (λ (k : ℕ). take k z) e ∙ f)
 
@@ -211,16 +211,13 @@ image-stored b {m₁} {m₂} {m₃} {m₄} a l c s r d es er e₁ e₂ e₃ e₄
     ∙ ap (λ (w : List ℕ). sets b 0 (headerOf a l c ++ w)) (append-assoc s r d)
 
 -- the answer, where there is room and where there is not
-written : (i b a : List ℕ) (n : ℕ) → length i ≡ n → n ≤ length b → a ≡ sets b 0 i → (Written n ≡ answerFor i b) × (a ≡ bufferFor i b)
+written : (i b a : List ℕ) (n : ℕ) → length i ≡ n → n ≤ length b → a ≡ sets b 0 i → (encodedTold (Written n) ≡ writtenInto i b .answer) × (a ≡ writtenInto i b .buffer)
 written i b a n e h g =
-    let t : leb (length i) (length b) ≡ true = le-leb (length i) (length b) (omega arith) in
     let z : 0 + length i ≡ length i = omega arith in
-    (rw t (ap Written (sym e)), rw t (g ∙ sets-eq i b 0 (omega arith) ∙ ap (λ (k : ℕ). i ++ drop k b) z))
+    rw (fits-written i b (omega arith)) (ap done (sym e), g ∙ sets-eq i b 0 (omega arith) ∙ ap (λ (k : ℕ). i ++ drop k b) z)
 
-short : (i b : List ℕ) (n : ℕ) → length i ≡ n → length b < n → (TooShort n ≡ answerFor i b) × (b ≡ bufferFor i b)
-short i b n e h =
-    let t : leb (length i) (length b) ≡ false = lt-leb (length i) (length b) (omega arith) in
-    (rw t (ap TooShort (sym e)), rw t)
+short : (i b : List ℕ) (n : ℕ) → length i ≡ n → length b < n → (encodedTold (TooShort n) ≡ writtenInto i b .answer) × (b ≡ writtenInto i b .buffer)
+short i b n e h = rw (short-written i b (omega arith)) (ap (refusal 10) (sym e), refl)
 
 module _ (codes : List ℕ) (args : List ℤ) (k : ℕ) (rows : List ℕ) (n : ℕ) (is os vs : List ℕ) (ao av : List ℤ) (i o v : ℕ) where
   -- The buffer is too short.

@@ -4,7 +4,11 @@ use mathlib.Core.List.{List, [], _∷_, _++_}
 use Prim.Native.Nat.{ℕ, zero, suc, _+_, _-_, _%_, min}
 use lib.IntN.{ℤ, pos}
 use lib.ListN.{getD}
-use lib.Dec.{eqb, ltb}
+use lib.Dec.{eqb}
+use Rattle.codes.specs.Statement as S
+use Rattle.codes.specs.Limit as L
+use Rattle.codes.specs.Image as M
+use Rattle.codes.specs.Operation.{INTEGER, widthOf}
 use Rattle.ir.specs.Arrays.{Row, rowIn}
 use Rattle.format.specs.Words.{bytes2, bytes4}
 use Rattle.semantics.specs.Twos.{unsigned32}
@@ -13,11 +17,7 @@ use Rattle.links.specs.Followers.{Links}
 
 -- the bytes of an operation: "1 integer (4 bytes), 2 std_logic (1 byte), 3 input, 4 variable (1-byte index)", and the operators
 unfoldable pub opBytes : ℕ → ℤ → List ℕ
-opBytes c z = cond (eqb c 1) (c ∷ bytes4 (unsigned32 z)) (cond (ltb c 5) (c ∷ unsigned32 z % 256 ∷ []) (c ∷ []))
-
--- how many they are
-unfoldable pub opWidth : ℕ → ℕ
-opWidth c = cond (eqb c 1) 5 (cond (ltb c 5) 2 1)
+opBytes c z = cond (eqb c INTEGER) (c ∷ bytes4 (unsigned32 z)) (cond (eqb (widthOf c) 1) (c ∷ []) (c ∷ unsigned32 z % 256 ∷ []))
 
 -- the bytes of the operations from index i on, c of them
 unfoldable pub codeFrom : List ℕ → List ℤ → ℕ → ℕ → List ℕ
@@ -27,15 +27,15 @@ codeFrom codes args i (suc c) = opBytes (getD codes i 0) (getD args i (pos 0)) +
 -- how many they are
 unfoldable pub widthFrom : List ℕ → ℕ → ℕ → ℕ
 widthFrom codes i zero = 0
-widthFrom codes i (suc c) = opWidth (getD codes i 0) + widthFrom codes (i + 1) c
+widthFrom codes i (suc c) = widthOf (getD codes i 0) + widthFrom codes (i + 1) c
 
 -- how many of the statement's expression are: its operations stand below index 16384
 abbrev pub runWidth : List ℕ → ℕ → ℕ → ℕ
-runWidth codes from to = widthFrom codes from (min to 16384 - from)
+runWidth codes from to = widthFrom codes from (min to L.TEXT - from)
 
 -- "0 wait, 1 output, 2 variable, 3 branch, 4 null": a while is a branch too
 abbrev pub kindByte : ℕ → ℕ
-kindByte k = cond (eqb k 5) 3 (k % 256)
+kindByte k = cond (eqb k S.WHILE) M.BRANCH (k % 256)
 
 -- the fields of a line, from its statement's row, its code's offset and length, its followers and its reach
 abbrev pub lineAt : Row → ℕ → ℕ → ℕ → ℕ → ℕ → RawLine
@@ -65,4 +65,4 @@ signatureFrom is os vs atOutputs atVariables i o v =
 
 -- "Two-byte form 1, two-byte count 3, then pairs of four-byte offset and length", of sections of these lengths; "the first starts at byte 28, no gaps"
 abbrev pub headerOf : ℕ → ℕ → ℕ → List ℕ
-headerOf s l c = bytes2 1 ++ (bytes2 3 ++ (bytes4 28 ++ (bytes4 s ++ (bytes4 (28 + s) ++ (bytes4 l ++ (bytes4 (28 + s + l) ++ bytes4 c))))))
+headerOf s l c = bytes2 M.FORM-1 ++ (bytes2 M.THREE ++ (bytes4 M.HEADER ++ (bytes4 s ++ (bytes4 (M.HEADER + s) ++ (bytes4 l ++ (bytes4 (M.HEADER + s + l) ++ bytes4 c))))))

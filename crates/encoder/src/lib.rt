@@ -4,6 +4,9 @@ ghost use mathlib.Core.Bool.{false};
 ghost use Prim.Native.Nat.{_<_, _≤_};
 ghost use Rattle.encoder.specs.declared.Encoded.the-variants.{TooShort};
 ghost use Rattle.encoder.specs.Outcome.{LinesStored, Encodes, countsOk};
+use codes::image;
+use codes::limit;
+use codes::statement;
 
 mod bytes;
 mod sections;
@@ -15,23 +18,29 @@ pub enum Encoded {
 }
 
 // The lines section of n statements.
-fn put_body(image: &mut [u8], at: usize, codes: &[u8; 16384], rows: &[u16; 3072], n: usize)
+fn put_body(
+    image: &mut [u8],
+    at: usize,
+    codes: &[u8; limit::TEXT],
+    rows: &[u16; statement::ROWS],
+    n: usize,
+)
     requires { ⌜ (at < 1000) × (n ≤ 512) ⌝ }
     ensures { λ _. ⌜ LinesStored (now (codes .entry)) (now (rows .entry)) n at (now (image .entry)) (now (image .exit)) ⌝ }
 {
-    let mut next = [0u16; 512];
-    let mut other = [0u16; 512];
-    let mut reach = [0u16; 512];
+    let mut next = [0u16; limit::STATEMENTS];
+    let mut other = [0u16; limit::STATEMENTS];
+    let mut reach = [0u16; limit::STATEMENTS];
     links::find(rows, n, &mut next, &mut other, &mut reach);
     sections::put_lines(image, at, codes, rows, n, &next, &other, &reach);
 }
 
 // Encodes a design whose counts are within the limits.
 fn write_counted(
-    codes: &[u8; 16384],
-    args: &[i32; 16384],
+    codes: &[u8; limit::TEXT],
+    args: &[i32; limit::TEXT],
     k: usize,
-    rows: &[u16; 3072],
+    rows: &[u16; statement::ROWS],
     n: usize,
     is: &[u8],
     os: &[u8],
@@ -46,17 +55,17 @@ fn write_counted(
     requires { ⌜ (k ≤ 16384) × (n ≤ 512) × (i ≤ 16) × (o ≤ 16) × (v ≤ 32) ⌝ }
     ensures { λ r. ⌜ Encodes (now (codes .entry)) (now (args .entry)) k (now (rows .entry)) n (now (is .entry)) (now (os .entry)) (now (vs .entry)) (now («at_outputs» .entry)) (now («at_variables» .entry)) i o v (now (image .entry)) (now (image .exit)) r ⌝ }
 {
-    let s = 3 + i + 5 * o + 5 * v;
-    let l = 12 * n;
+    let s = image::COUNTS + i + image::SLOT * o + image::SLOT * v;
+    let l = image::LINE * n;
     let c = sections::run_width(codes, 0, k);
-    let size = 28 + s + l + c;
+    let size = image::HEADER + s + l + c;
     if image.len() < size {
         return Encoded::TooShort(size);
     }
     sections::put_header(image, s, l, c);
     sections::put_signature(image, is, os, vs, at_outputs, at_variables, i, o, v);
-    put_body(image, 28 + s, codes, rows, n);
-    sections::put_code(image, 28 + s + l, codes, args, k);
+    put_body(image, image::HEADER + s, codes, rows, n);
+    sections::put_code(image, image::HEADER + s + l, codes, args, k);
     Encoded::Written(size)
 }
 
@@ -64,28 +73,28 @@ fn write_counted(
 fn within(k: usize, n: usize, i: usize, o: usize, v: usize) -> bool
     ensures { λ r. ⌜ r ≡ countsOk k n i o v ⌝ }
 {
-    if 16384 < k {
+    if limit::TEXT < k {
         return false;
     }
-    if 512 < n {
+    if limit::STATEMENTS < n {
         return false;
     }
-    if 16 < i {
+    if limit::INPUTS < i {
         return false;
     }
-    if 16 < o {
+    if limit::OUTPUTS < o {
         return false;
     }
-    v <= 32
+    v <= limit::VARIABLES
 }
 
 // Encodes a design of k operations, n statements, i inputs, o outputs and v variables; counts past the limits are those of no design, and nothing is
 // written for them.
 pub fn write(
-    codes: &[u8; 16384],
-    args: &[i32; 16384],
+    codes: &[u8; limit::TEXT],
+    args: &[i32; limit::TEXT],
     k: usize,
-    rows: &[u16; 3072],
+    rows: &[u16; statement::ROWS],
     n: usize,
     is: &[u8],
     os: &[u8],

@@ -4,17 +4,21 @@ ghost use Prim.Native.Nat.{_<_, _≤_, min};
 ghost use lib.IntN.{pos};
 ghost use lib.ListN.{getD};
 ghost use lib.Seq.{sets};
+ghost use Rattle.codes.specs.Image.{HEADER};
 ghost use Rattle.ir.specs.Arrays.{rowIn};
 ghost use Rattle.format.specs.Image.{rawBytes, rawsBytes};
 ghost use Rattle.links.specs.Followers.{links};
 ghost use Rattle.encoder.specs.Emitted.{codeFrom, runWidth, kindByte, lineAt, linesFrom, typesFrom, cellsFrom, signatureFrom, headerOf};
-use crate::bytes::op_width;
 use crate::bytes::put;
 use crate::bytes::put_cell;
 use crate::bytes::put_line;
 use crate::bytes::put_op;
 use crate::bytes::put2;
 use crate::bytes::put4;
+use codes::image;
+use codes::limit;
+use codes::operation::width;
+use codes::statement;
 use links::number;
 
 // The value at an index, or 0 past the end.
@@ -29,14 +33,14 @@ pub(crate) fn put_header(image: &mut [u8], s: usize, l: usize, c: usize)
     requires { ⌜ (s < 1000000) × (l < 1000000) × (c < 1000000) ⌝ }
     ensures { λ _. ⌜ now (image .exit) ≡ sets (now (image .entry)) 0 (headerOf s l c) ⌝ }
 {
-    put2(image, 0, 1);
-    put2(image, 2, 3);
-    put4(image, 4, 28);
-    put4(image, 8, s as u32);
-    put4(image, 12, (28 + s) as u32);
-    put4(image, 16, l as u32);
-    put4(image, 20, (28 + s + l) as u32);
-    put4(image, 24, c as u32);
+    put2(image, image::FORM, image::FORM_1);
+    put2(image, image::SECTIONS, image::THREE);
+    put4(image, image::SIGNATURE, image::FIRST);
+    put4(image, image::SIGNATURE_SIZE, s as u32);
+    put4(image, image::LINES, (image::HEADER + s) as u32);
+    put4(image, image::LINES_SIZE, l as u32);
+    put4(image, image::CODE, (image::HEADER + s + l) as u32);
+    put4(image, image::CODE_SIZE, c as u32);
 }
 
 // n type bytes.
@@ -58,7 +62,12 @@ fn put_cells(image: &mut [u8], at: usize, types: &[u8], values: &[i32], n: usize
 {
     let mut k = 0;
     while k < n {
-        put_cell(image, at + 5 * k, words::byte(types, k), value(values, k));
+        put_cell(
+            image,
+            at + image::SLOT * k,
+            words::byte(types, k),
+            value(values, k),
+        );
         k += 1;
     }
 }
@@ -76,25 +85,31 @@ pub(crate) fn put_signature(
     v: usize,
 )
     requires { ⌜ (i ≤ 16) × (o ≤ 16) × (v ≤ 32) ⌝ }
-    ensures { λ _. ⌜ now (image .exit) ≡ sets (now (image .entry)) 28 (signatureFrom (now (is .entry)) (now (os .entry)) (now (vs .entry)) (now («at_outputs» .entry)) (now («at_variables» .entry)) i o v) ⌝ }
+    ensures { λ _. ⌜ now (image .exit) ≡ sets (now (image .entry)) HEADER (signatureFrom (now (is .entry)) (now (os .entry)) (now (vs .entry)) (now («at_outputs» .entry)) (now («at_variables» .entry)) i o v) ⌝ }
 {
-    put(image, 28, i as u8);
-    put(image, 29, o as u8);
-    put(image, 30, v as u8);
-    put_types(image, 31, is, i);
-    put_cells(image, 31 + i, os, at_outputs, o);
-    put_cells(image, 31 + i + 5 * o, vs, at_variables, v);
+    put(image, image::INPUT_COUNT, i as u8);
+    put(image, image::OUTPUT_COUNT, o as u8);
+    put(image, image::VARIABLE_COUNT, v as u8);
+    put_types(image, image::INPUT_TYPES, is, i);
+    put_cells(image, image::INPUT_TYPES + i, os, at_outputs, o);
+    put_cells(
+        image,
+        image::INPUT_TYPES + i + image::SLOT * o,
+        vs,
+        at_variables,
+        v,
+    );
 }
 
 // The lower of a number and 16384.
 fn bounded(n: usize) -> usize
     ensures { λ r. ⌜ r ≡ min n 16384 ⌝ }
 {
-    if n < 16384 { n } else { 16384 }
+    if n < limit::TEXT { n } else { limit::TEXT }
 }
 
 // How many bytes the operations from an index up to another have.
-pub(crate) fn run_width(codes: &[u8; 16384], from: usize, to: usize) -> usize
+pub(crate) fn run_width(codes: &[u8; limit::TEXT], from: usize, to: usize) -> usize
     ensures { λ r. ⌜ r ≡ runWidth (now (codes .entry)) from to ⌝ }
     ensures { λ r. ⌜ r ≤ 81920 ⌝ }
 {
@@ -102,27 +117,30 @@ pub(crate) fn run_width(codes: &[u8; 16384], from: usize, to: usize) -> usize
     let mut i = from;
     let mut w = 0;
     while i < stop {
-        w += op_width(codes[i]);
+        w += width(codes[i]);
         i += 1;
     }
     w
 }
 
+// How many bytes there are.
+const BYTES: u16 = u8::MAX as u16 + 1;
+
 // The kind byte of a line: a loop is a branch.
 fn kind_byte(kind: u16) -> u8
     ensures { λ r. ⌜ r ≡ kindByte kind ⌝ }
 {
-    if kind == 5 {
-        return 3;
+    if kind == statement::WHILE {
+        return image::BRANCH;
     }
-    (kind % 256) as u8
+    (kind % BYTES) as u8
 }
 
 // The line of statement j.
 fn put_row(
     image: &mut [u8],
     at: usize,
-    rows: &[u16; 3072],
+    rows: &[u16; statement::ROWS],
     j: usize,
     offset: usize,
     size: usize,
@@ -133,8 +151,8 @@ fn put_row(
     requires { ⌜ (at < 900000) × (j < 512) × (offset < 50000000) × (size < 100000) ⌝ }
     ensures { λ _. ⌜ now (image .exit) ≡ sets (now (image .entry)) at (rawBytes (lineAt (rowIn (now (rows .entry)) j) offset size next other reach)) ⌝ }
 {
-    let kind = kind_byte(number(rows, 6 * j));
-    let target = (number(rows, 6 * j + 1) % 256) as u8;
+    let kind = kind_byte(number(rows, statement::ROW * j));
+    let target = (number(rows, statement::ROW * j + statement::TARGET) % BYTES) as u8;
     put_line(
         image,
         at,
@@ -152,8 +170,8 @@ fn put_row(
 pub(crate) fn put_lines(
     image: &mut [u8],
     at: usize,
-    codes: &[u8; 16384],
-    rows: &[u16; 3072],
+    codes: &[u8; limit::TEXT],
+    rows: &[u16; statement::ROWS],
     n: usize,
     next: &[u16],
     other: &[u16],
@@ -167,12 +185,12 @@ pub(crate) fn put_lines(
     while j < n {
         let size = run_width(
             codes,
-            number(rows, 6 * j + 2) as usize,
-            number(rows, 6 * j + 3) as usize,
+            number(rows, statement::ROW * j + statement::FROM) as usize,
+            number(rows, statement::ROW * j + statement::TO) as usize,
         );
         put_row(
             image,
-            at + 12 * j,
+            at + image::LINE * j,
             rows,
             j,
             p,
@@ -190,8 +208,8 @@ pub(crate) fn put_lines(
 pub(crate) fn put_code(
     image: &mut [u8],
     at: usize,
-    codes: &[u8; 16384],
-    args: &[i32; 16384],
+    codes: &[u8; limit::TEXT],
+    args: &[i32; limit::TEXT],
     k: usize,
 )
     requires { ⌜ (at < 100000) × (k ≤ 16384) ⌝ }
@@ -202,7 +220,7 @@ pub(crate) fn put_code(
     while i < k {
         let code = codes[i];
         put_op(image, p, code, args[i]);
-        p += op_width(code);
+        p += width(code);
         i += 1;
     }
 }

@@ -9,10 +9,10 @@ use lib.IntN.{ℤ, pos}
 use Rattle.design.specs.Expression.{fault}
 use Rattle.format.specs.Code.{Machine}
 use Rattle.evaluator.specs.Position.{fetchAt, Next, go, stop, nextOf, resume, finish, runAt}
-use Rattle.evaluator.specs.Value.{Cell, codeValue, partValue, tagOf, typeOfTag, evaluatedOf}
+use Rattle.evaluator.specs.Value.{Cell, codeValue, partValue, found, evaluatedOf}
 use Rattle.evaluator.specs.Stack.{cellsOf, Room, Says}
 use Rattle.evaluator.specs.declared.Evaluated.{Evaluated}
-use Rattle.evaluator.specs.declared.Evaluated.the-variants.{Value, Fault}
+use Rattle.evaluator.specs.declared.Evaluated.the-variants.{Fault}
 use Rattle.evaluator.specs.declared.Transition.{Transition}
 use Rattle.evaluator.specs.declared.Transition.the-variants.{Go, Stop}
 use Rattle.evaluator.proofs.StackLaws.{finish-one, finish-other}
@@ -69,8 +69,10 @@ module _ (M : Machine Cell) (s : List ℕ) where
 
     -- no byte left: one value, or not
     pub left-one : (l : ℕ) → Left a t n k l → length s ≤ k → n ≡ 1
-        → Value (tagOf (typeOfTag (getD t 0 0))) (getD a 0 (pos 0)) ≡ evaluatedOf (codeValue M s)
-    left-one l p h e = ap evaluatedOf (sym (run-end M l s k (cellsOf a t n) h ∙ finish-one a t n e) ∙ p .same)
+        → found (getD t 0 0) (getD a 0 (pos 0)) ≡ evaluatedOf (codeValue M s)
+    left-one l p h e =
+        ap (λ (k : ℕ). found k (getD a 0 (pos 0))) (p .room .kinds 0 (omega arith))
+        ∙ ap evaluatedOf (sym (run-end M l s k (cellsOf a t n) h ∙ finish-one a t n e) ∙ p .same)
 
     pub left-other : (l : ℕ) → Left a t n k l → length s ≤ k → (n ≡ 1 → ⊥) → Fault 13 ≡ evaluatedOf (codeValue M s)
     left-other l p h e = ap evaluatedOf (sym (run-end M l s k (cellsOf a t n) h ∙ finish-other a t n e) ∙ p .same)

@@ -16,20 +16,20 @@ use Rattle.semantics.specs.Evaluation.{leafValue}
 use Rattle.format.specs.Words.{word4At}
 use Rattle.semantics.specs.Twos.{signed32}
 use Rattle.format.specs.Code.{bitOf, withType}
-use Rattle.format.specs.Signature.{typeByte}
+use Rattle.design.specs.Types.{typeByte}
 use Rattle.signed.proofs.Range.{range-fits}
 use Rattle.evaluator.specs.Position.{intAt, bitAt, nameAt, pushing, Next, stop, pushedWithin, nextOf, fetchAt}
-use Rattle.evaluator.specs.Value.{Cell, typeFor, typesFor, machineFor, evaluatedOf}
+use Rattle.evaluator.specs.Value.{Cell, typeFor, typesFor, machineFor, found, evaluatedOf}
 use Rattle.evaluator.specs.Operators.{operators, leafOf, namedAt}
-use Rattle.evaluator.specs.declared.Evaluated.the-variants.{Value, Fault}
+use Rattle.evaluator.specs.declared.Evaluated.the-variants.{Fault}
 
 -- an integer literal: every 32-bit number is an integer
-int-value : (z : ℤ) → SFits w32 z → Value 1 z ≡ evaluatedOf (operators .ofLeaf (int z))
+int-value : (z : ℤ) → SFits w32 z → found 1 z ≡ evaluatedOf (operators .ofLeaf (int z))
 unfolding leafType leafValue withType bind
 int-value z h = rw (range-fits z h)
 
 module _ (s : List ℕ) (k : ℕ) where
-  pub int-found : (z : ℤ) → k + 5 ≤ length s → SFits w32 z → z ≡ signed32 (word4At s (k + 1)) → Value 1 z ≡ evaluatedOf (leafOf operators (intAt s k))
+  pub int-found : (z : ℤ) → k + 5 ≤ length s → SFits w32 z → z ≡ signed32 (word4At s (k + 1)) → found 1 z ≡ evaluatedOf (leafOf operators (intAt s k))
   int-found z h f e = rw (le-leb _ _ h) (int-value z f ∙ ap (λ (y : ℤ). evaluatedOf (operators .ofLeaf (int y))) e)
 
   pub int-short : length s < k + 5 → Fault 13 ≡ evaluatedOf (leafOf operators (intAt s k))
@@ -38,11 +38,11 @@ module _ (s : List ℕ) (k : ℕ) where
   pub bit-short : length s < k + 2 → Fault 13 ≡ evaluatedOf (leafOf operators (bitAt s k))
   bit-short h = rw (lt-leb _ _ h)
 
-  pub bit-zero : k + 2 ≤ length s → getD s (k + 1) 0 ≡ 0 → Value 0 (pos 0) ≡ evaluatedOf (leafOf operators (bitAt s k))
+  pub bit-zero : k + 2 ≤ length s → getD s (k + 1) 0 ≡ 0 → found 0 (pos 0) ≡ evaluatedOf (leafOf operators (bitAt s k))
   unfolding leafType leafValue withType bind
   bit-zero h e = rw (le-leb _ _ h, e)
 
-  pub bit-one : k + 2 ≤ length s → getD s (k + 1) 0 ≡ 1 → Value 0 (pos 1) ≡ evaluatedOf (leafOf operators (bitAt s k))
+  pub bit-one : k + 2 ≤ length s → getD s (k + 1) 0 ≡ 1 → found 0 (pos 1) ≡ evaluatedOf (leafOf operators (bitAt s k))
   unfolding leafType leafValue withType bind
   bit-one h e = rw (le-leb _ _ h, e)
 
@@ -71,7 +71,7 @@ module _ (s : List ℕ) (k : ℕ) (l : List ℕ) (row : List ℤ) where
   name-unknown h e = rw (le-leb _ _ h, types-short l (getD s (k + 1) 0) e)
 
   pub name-found : k + 2 ≤ length s → getD s (k + 1) 0 < length l
-      → Value (typeByte (typeFor (getD l (getD s (k + 1) 0) 0))) (getD row (getD s (k + 1) 0) (pos 0)) ≡ evaluatedOf (namedAt s k (typesFor l) row)
+      → found (typeByte (typeFor (getD l (getD s (k + 1) 0) 0))) (getD row (getD s (k + 1) 0) (pos 0)) ≡ evaluatedOf (namedAt s k (typesFor l) row)
   unfolding plainly withType bind
   name-found h e = rw (le-leb _ _ h, types-found l (getD s (k + 1) 0) e)
 

@@ -11,6 +11,10 @@ use Rattle.format.specs.Words.{word4At}
 use Rattle.semantics.specs.Twos.{signed32}
 use Rattle.format.specs.Code.{Operation, push, apply1, apply2, bitOf, operator, Machine}
 
+-- "1 to 64 operations", and so many values on the stack
+abbrev pub ROOM : ℕ
+ROOM = 64
+
 -- "1 integer (4 bytes)": the literal whose operation starts at the byte k
 abbrev pub intAt : List ℕ → ℕ → Option Leaf
 intAt s k = cond (leb (k + 5) (length s)) (some (int (signed32 (word4At s (k + 1))))) none

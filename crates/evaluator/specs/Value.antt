@@ -5,12 +5,12 @@ use Prim.Native.Nat.{ℕ, _+_}
 use lib.ListN.{length, take, drop}
 use lib.IntN.{ℤ}
 use lib.Dec.{leb, eqb}
-use Rattle.design.specs.Types.{Ty, std-logic, integer, ExprTy, plain, boolean}
+use Rattle.design.specs.Types.{Ty, std-logic, integer, ExprTy}
 use Rattle.design.specs.Expression.{Out, fine, fault}
 use Rattle.semantics.specs.Evaluation.{values}
+use Rattle.codes.specs.Types.{tagOf}
 use Rattle.format.specs.Code.{Machine, typed}
-use Rattle.format.specs.Signature.{typeByte}
-use Rattle.evaluator.specs.Position.{runAt}
+use Rattle.evaluator.specs.Position.{ROOM, runAt}
 use Rattle.evaluator.specs.declared.Evaluated.{Evaluated}
 use Rattle.evaluator.specs.declared.Evaluated.the-variants.{Value, Fault}
 
@@ -32,22 +32,17 @@ machineFor is vs i v = typed (typesFor is) (typesFor vs) (values i v)
 
 -- "1 to 64 operations": the value of code bytes by that machine, with room for 64 values; a refusal is given where its operation is reached
 unfoldable pub codeValue : Machine Cell → List ℕ → Out Cell
-codeValue M s = runAt M 64 64 s 0 []
+codeValue M s = runAt M ROOM ROOM s 0 []
 
 -- the value of the n code bytes from the byte k on; 13 where the code section has not so many
 unfoldable pub partValue : Machine Cell → List ℕ → ℕ → ℕ → Out Cell
 partValue M s k n = cond (leb (k + n) (length s)) (codeValue M (take n (drop k s))) (fault 13)
 
--- a type as the code holds it: the type byte, or 255 for boolean
-abbrev pub tagOf : ExprTy → ℕ
-tagOf (plain t) = typeByte t
-tagOf boolean = 255
+-- a value, with the number of its type
+abbrev pub found : ℕ → ℤ → Evaluated
+found k z = Value (record { kind = k; value = z })
 
--- the type that a tag stands for
-abbrev pub typeOfTag : ℕ → ExprTy
-typeOfTag k = cond (eqb k 0) (plain std-logic) (cond (eqb k 1) (plain integer) boolean)
-
--- the answer for an outcome: the value with its type, or the refusal's number
+-- the answer for an outcome: the value with the number of its type, or the refusal's number
 abbrev pub evaluatedOf : Out Cell → Evaluated
-evaluatedOf (fine x) = Value (tagOf (x .0)) (x .1)
+evaluatedOf (fine x) = found (tagOf (x .0)) (x .1)
 evaluatedOf (fault q) = Fault q

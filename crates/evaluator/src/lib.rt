@@ -1,20 +1,29 @@
-// Evaluates the postfix code of a line on a stack of 64 values, each a number with its type.
+// Evaluates the postfix code of a line on a stack of values, each a number with its type.
 mod operand;
-mod operators;
 
 ghost use mathlib.Core.Path.{_≡_};
 ghost use Prim.Native.Nat.{_+_, _<_};
 ghost use lib.ListN.{length};
-ghost use Rattle.format.specs.Code.{operator};
-ghost use Rattle.evaluator.specs.Position.{nextOf, fetchAt, pushed, pushedWithin};
-ghost use Rattle.evaluator.specs.Value.{machineFor, codeValue, partValue, evaluatedOf, tagOf, typeOfTag};
-ghost use Rattle.evaluator.specs.Operators.{unaryNext, binaryNext};
-ghost use Rattle.evaluator.specs.Stack.{cellsOf, outcomeOf, Room, Says};
+ghost use Rattle.design.specs.Expression.{Out};
+ghost use Rattle.codes.specs.Operation.{unaryFor, binaryFor};
+ghost use Rattle.evaluator.specs.Position.{ROOM, nextOf, fetchAt, pushed, pushedWithin};
+ghost use Rattle.evaluator.specs.Value.{Cell, machineFor, codeValue, partValue, evaluatedOf};
+ghost use Rattle.evaluator.specs.Operators.{valuedOf, unaryNext, binaryNext};
+ghost use Rattle.evaluator.specs.Stack.{cellsOf, Room, Says};
+use codes::limit;
+use codes::operation;
+use codes::refusal;
+use signed::Checked;
 
-// The value of an expression: its type (the type byte, or 255 for boolean) and its number. Or the refusal's number: 16 or 18 by an operator, or 13
-// where the bytes are no expression.
+// The value of an expression: the number of its type, and its number.
+pub struct Found {
+    pub kind: u8,
+    pub value: i32,
+}
+
+// What an expression comes to: a value, or the refusal's number, 16 or 18 by an operator, or 13 where the bytes are no expression.
 pub enum Evaluated {
-    Value(u8, i32),
+    Value(Found),
     Fault(u8),
 }
 
@@ -25,12 +34,21 @@ enum Transition {
 }
 
 // Puts an answer on the stack at element i, the last there.
-fn keep(stack: &mut [i32; 64], tags: &mut [u8; 64], i: usize, e: Evaluated, at: usize) -> Transition
-    requires { ⌜ Room (now stack) (now tags) (i + 1) ⌝ }
-    ensures { λ r. ⌜ Says (now (stack .exit)) (now (tags .exit)) r (pushed (outcomeOf e) at (cellsOf (now (stack .entry)) (now (tags .entry)) i)) ⌝ }
+fn keep(
+    stack: &mut [i32; limit::ITEMS],
+    tags: &mut [u8; limit::ITEMS],
+    i: usize,
+    e: Evaluated,
+    at: usize,
+) -> Transition
+    requires { ⌜ Room (now stack) (now tags) i × (i < ROOM) ⌝ }
+    ensures { λ r. ⌜ ((o : Out Cell) → e ≡ evaluatedOf o
+        → Says (now (stack .exit)) (now (tags .exit)) r (pushed o at (cellsOf (now (stack .entry)) (now (tags .entry)) i))) ⌝ }
 {
     match e {
-        Evaluated::Value(t, v) => {
+        Evaluated::Value(f) => {
+            let v = f.value;
+            let t = f.kind;
             stack[i] = v;
             tags[i] = t;
             Transition::Go(i + 1, at)
@@ -41,57 +59,75 @@ fn keep(stack: &mut [i32; 64], tags: &mut [u8; 64], i: usize, e: Evaluated, at: 
 
 // Pushes an operand.
 fn push(
-    stack: &mut [i32; 64],
-    tags: &mut [u8; 64],
+    stack: &mut [i32; limit::ITEMS],
+    tags: &mut [u8; limit::ITEMS],
     depth: usize,
     e: Evaluated,
     at: usize,
 ) -> Transition
     requires { ⌜ Room (now stack) (now tags) depth ⌝ }
-    ensures { λ r. ⌜ Says (now (stack .exit)) (now (tags .exit)) r (pushedWithin 64 (outcomeOf e) at (cellsOf (now (stack .entry)) (now (tags .entry)) depth)) ⌝ }
+    ensures { λ r. ⌜ ((o : Out Cell) → e ≡ evaluatedOf o
+        → Says (now (stack .exit)) (now (tags .exit)) r (pushedWithin ROOM o at (cellsOf (now (stack .entry)) (now (tags .entry)) depth))) ⌝ }
 {
-    if 64 <= depth {
-        return Transition::Stop(13);
+    if limit::ITEMS <= depth {
+        return Transition::Stop(refusal::BAD_LINE);
     }
     keep(stack, tags, depth, e, at)
 }
 
+// An operator's answer as a value of the type t.
+fn valued(t: u8, c: Checked) -> Evaluated
+    ensures { λ r. ⌜ r ≡ valuedOf t c ⌝ }
+{
+    match c {
+        Checked::Value(v) => Evaluated::Value(Found { kind: t, value: v }),
+        Checked::Refused(q) => Evaluated::Fault(q),
+    }
+}
+
 // Applies an operator of one operand.
 fn apply_unary(
-    stack: &mut [i32; 64],
-    tags: &mut [u8; 64],
+    stack: &mut [i32; limit::ITEMS],
+    tags: &mut [u8; limit::ITEMS],
     depth: usize,
     op: u8,
     at: usize,
 ) -> Transition
     requires { ⌜ Room (now stack) (now tags) depth ⌝ }
-    ensures { λ r. ⌜ Says (now (stack .exit)) (now (tags .exit)) r (unaryNext (operator op) at (cellsOf (now (stack .entry)) (now (tags .entry)) depth)) ⌝ }
+    ensures { λ r. ⌜ Says (now (stack .exit)) (now (tags .exit)) r (unaryNext (unaryFor op) at (cellsOf (now (stack .entry)) (now (tags .entry)) depth)) ⌝ }
 {
     if depth < 1 {
-        return Transition::Stop(13);
+        return Transition::Stop(refusal::BAD_LINE);
     }
     let i = depth - 1;
-    let e = operators::unary(op, tags[i], stack[i]);
+    let t = tags[i];
+    let c = operators::unary(op, t, stack[i]);
+    let e = valued(operators::result(op, t), c);
     keep(stack, tags, i, e, at)
 }
 
 // Applies an operator of two operands; the left one lies below the right one.
 fn apply_binary(
-    stack: &mut [i32; 64],
-    tags: &mut [u8; 64],
+    stack: &mut [i32; limit::ITEMS],
+    tags: &mut [u8; limit::ITEMS],
     depth: usize,
     op: u8,
     at: usize,
 ) -> Transition
     requires { ⌜ Room (now stack) (now tags) depth ⌝ }
-    ensures { λ r. ⌜ Says (now (stack .exit)) (now (tags .exit)) r (binaryNext (operator op) at (cellsOf (now (stack .entry)) (now (tags .entry)) depth)) ⌝ }
+    ensures { λ r. ⌜ Says (now (stack .exit)) (now (tags .exit)) r (binaryNext (binaryFor op) at (cellsOf (now (stack .entry)) (now (tags .entry)) depth)) ⌝ }
 {
-    if depth < 2 {
-        return Transition::Stop(13);
+    if depth <= 1 {
+        return Transition::Stop(refusal::BAD_LINE);
     }
-    let i = depth - 2;
     let j = depth - 1;
-    let e = operators::binary(op, tags[i], stack[i], tags[j], stack[j]);
+    let i = j - 1;
+    let t = tags[i];
+    if t != tags[j] {
+        return Transition::Stop(refusal::BAD_LINE);
+    }
+    let c = operators::binary(op, t, stack[i], stack[j]);
+    let e = valued(operators::result(op, t), c);
     keep(stack, tags, i, e, at)
 }
 
@@ -103,54 +139,71 @@ fn step(
     input_types: &[u8],
     variables: &[i32],
     variable_types: &[u8],
-    stack: &mut [i32; 64],
-    tags: &mut [u8; 64],
+    stack: &mut [i32; limit::ITEMS],
+    tags: &mut [u8; limit::ITEMS],
     depth: usize,
 ) -> Transition
     requires { ⌜ Room (now stack) (now tags) depth × (at < length (now code)) ⌝ }
     ensures { λ r. ⌜ Says (now (stack .exit)) (now (tags .exit)) r
-        (nextOf (machineFor (now («input_types» .entry)) (now («variable_types» .entry)) (now (inputs .entry)) (now (variables .entry))) 64
+        (nextOf (machineFor (now («input_types» .entry)) (now («variable_types» .entry)) (now (inputs .entry)) (now (variables .entry))) ROOM
         (fetchAt (now (code .entry)) at) at (cellsOf (now (stack .entry)) (now (tags .entry)) depth)) ⌝ }
 {
     let op = code[at];
-    if op == 1 {
+    if op == operation::INTEGER {
         let e = operand::integer(code, at);
-        return push(stack, tags, depth, e, at + 5);
+        return push(
+            stack,
+            tags,
+            depth,
+            e,
+            at + operation::width(operation::INTEGER),
+        );
     }
-    if op == 2 {
+    if op == operation::STD_LOGIC {
         let e = operand::bit(code, at);
-        return push(stack, tags, depth, e, at + 2);
+        return push(
+            stack,
+            tags,
+            depth,
+            e,
+            at + operation::width(operation::STD_LOGIC),
+        );
     }
-    if op == 3 {
+    if op == operation::INPUT {
         let e = operand::named(code, at, input_types, inputs);
-        return push(stack, tags, depth, e, at + 2);
+        return push(
+            stack,
+            tags,
+            depth,
+            e,
+            at + operation::width(operation::INPUT),
+        );
     }
-    if op == 4 {
+    if op == operation::VARIABLE {
         let e = operand::named(code, at, variable_types, variables);
-        return push(stack, tags, depth, e, at + 2);
+        return push(
+            stack,
+            tags,
+            depth,
+            e,
+            at + operation::width(operation::VARIABLE),
+        );
     }
-    if op < 18 {
+    if operation::operands(op) == 1 {
         return apply_unary(stack, tags, depth, op, at + 1);
     }
     apply_binary(stack, tags, depth, op, at + 1)
 }
 
-// The type of a value on the stack, as it is answered.
-fn plain_tag(t: u8) -> u8
-    ensures { λ r. ⌜ r ≡ tagOf (typeOfTag t) ⌝ }
-{
-    if t < 2 { t } else { 255 }
-}
-
-// Runs the operations of the code over a lent stack, at most 64 of them.
+// Runs the operations of the code over a lent stack, no more of them than an expression has.
 fn run(
     code: &[u8],
     inputs: &[i32],
     input_types: &[u8],
     variables: &[i32],
     variable_types: &[u8],
-    stack: &mut [i32; 64],
-    tags: &mut [u8; 64],
+    stack: &mut [i32; limit::ITEMS],
+    tags: &mut [u8; limit::ITEMS],
 ) -> Evaluated
     requires { ⌜ Room (now stack) (now tags) 0 ⌝ }
     ensures { λ r. ⌜ r ≡ evaluatedOf
@@ -158,10 +211,10 @@ fn run(
 {
     let mut depth: usize = 0;
     let mut at: usize = 0;
-    let mut left: usize = 64;
+    let mut left: usize = limit::ITEMS;
     while at < code.len() {
         if left == 0 {
-            return Evaluated::Fault(13);
+            return Evaluated::Fault(refusal::BAD_LINE);
         }
         let next = step(
             code,
@@ -186,9 +239,12 @@ fn run(
         }
     }
     if depth == 1 {
-        return Evaluated::Value(plain_tag(tags[0]), stack[0]);
+        return Evaluated::Value(Found {
+            kind: tags[0],
+            value: stack[0],
+        });
     }
-    Evaluated::Fault(13)
+    Evaluated::Fault(refusal::BAD_LINE)
 }
 
 // The value of the code of a line: `size` bytes of the code section from the byte `start` on, over the input row and the variables with their type
@@ -206,14 +262,14 @@ pub fn evaluate(
         (partValue (machineFor (now («input_types» .entry)) (now («variable_types» .entry)) (now (inputs .entry)) (now (variables .entry))) (now (code .entry)) start size) ⌝ }
 {
     if code.len() < start {
-        return Evaluated::Fault(13);
+        return Evaluated::Fault(refusal::BAD_LINE);
     }
     if code.len() - start < size {
-        return Evaluated::Fault(13);
+        return Evaluated::Fault(refusal::BAD_LINE);
     }
     let end = start + size;
-    let mut stack = [0i32; 64];
-    let mut tags = [0u8; 64];
+    let mut stack = [0i32; limit::ITEMS];
+    let mut tags = [0u8; limit::ITEMS];
     run(
         &code[start..end],
         inputs,

@@ -3,21 +3,29 @@ ghost use mathlib.Core.Path.{_≡_};
 ghost use Prim.Native.Nat.{_+_, _<_};
 ghost use lib.ListN.{length, getD};
 ghost use lib.IntN.{pos};
-ghost use Rattle.format.specs.Signature.{typeByte};
+ghost use Rattle.design.specs.Types.{typeByte};
 ghost use Rattle.evaluator.specs.Position.{intAt, bitAt};
 ghost use Rattle.evaluator.specs.Value.{typeFor, typesFor, evaluatedOf};
 ghost use Rattle.evaluator.specs.Operators.{operators, leafOf, namedAt};
 use crate::Evaluated;
+use crate::Found;
+use codes::operation;
+use codes::refusal;
+use codes::types;
 
 // An integer literal.
 pub(crate) fn integer(code: &[u8], at: usize) -> Evaluated
     requires { ⌜ at < length (now code) ⌝ }
     ensures { λ r. ⌜ r ≡ evaluatedOf (leafOf operators (intAt (now (code .entry)) at)) ⌝ }
 {
-    if at + 5 <= code.len() {
-        Evaluated::Value(1, signed::from_bits(words::word4(code, at + 1)))
+    if at + operation::width(operation::INTEGER) <= code.len() {
+        let v = signed::from_bits(words::word4(code, at + 1));
+        Evaluated::Value(Found {
+            kind: types::INTEGER,
+            value: v,
+        })
     } else {
-        Evaluated::Fault(13)
+        Evaluated::Fault(refusal::BAD_LINE)
     }
 }
 
@@ -26,24 +34,34 @@ pub(crate) fn bit(code: &[u8], at: usize) -> Evaluated
     requires { ⌜ at < length (now code) ⌝ }
     ensures { λ r. ⌜ r ≡ evaluatedOf (leafOf operators (bitAt (now (code .entry)) at)) ⌝ }
 {
-    if code.len() < at + 2 {
-        return Evaluated::Fault(13);
+    if code.len() < at + operation::width(operation::STD_LOGIC) {
+        return Evaluated::Fault(refusal::BAD_LINE);
     }
     let b = code[at + 1];
     if b == 0 {
-        return Evaluated::Value(0, 0);
+        return Evaluated::Value(Found {
+            kind: types::STD_LOGIC,
+            value: 0,
+        });
     }
     if b == 1 {
-        return Evaluated::Value(0, 1);
+        return Evaluated::Value(Found {
+            kind: types::STD_LOGIC,
+            value: 1,
+        });
     }
-    Evaluated::Fault(13)
+    Evaluated::Fault(refusal::BAD_LINE)
 }
 
 // The type of a type byte.
 fn tag(b: u8) -> u8
     ensures { λ r. ⌜ r ≡ typeByte (typeFor b) ⌝ }
 {
-    if b == 0 { 0 } else { 1 }
+    if b == types::STD_LOGIC {
+        types::STD_LOGIC
+    } else {
+        types::INTEGER
+    }
 }
 
 // The k-th number of a row.
@@ -54,16 +72,18 @@ fn number(row: &[i32], k: usize) -> i32
 }
 
 // A data input or a variable, by the index at the next byte.
-pub(crate) fn named(code: &[u8], at: usize, types: &[u8], row: &[i32]) -> Evaluated
+pub(crate) fn named(code: &[u8], at: usize, kinds: &[u8], row: &[i32]) -> Evaluated
     requires { ⌜ at < length (now code) ⌝ }
-    ensures { λ r. ⌜ r ≡ evaluatedOf (namedAt (now (code .entry)) at (typesFor (now (types .entry))) (now (row .entry))) ⌝ }
+    ensures { λ r. ⌜ r ≡ evaluatedOf (namedAt (now (code .entry)) at (typesFor (now (kinds .entry))) (now (row .entry))) ⌝ }
 {
-    if code.len() < at + 2 {
-        return Evaluated::Fault(13);
+    if code.len() < at + operation::width(operation::INPUT) {
+        return Evaluated::Fault(refusal::BAD_LINE);
     }
     let k = words::wide(code[at + 1]) as usize;
-    if types.len() <= k {
-        return Evaluated::Fault(13);
+    if kinds.len() <= k {
+        return Evaluated::Fault(refusal::BAD_LINE);
     }
-    Evaluated::Value(tag(types[k]), number(row, k))
+    let t = tag(kinds[k]);
+    let v = number(row, k);
+    Evaluated::Value(Found { kind: t, value: v })
 }

@@ -8,7 +8,7 @@ use lib.IntN.{ℤ, pos, negsuc}
 use Rattle.design.specs.Types as Types
 use Rattle.design.specs.Expression as Expression
 use Rattle.design.specs.Statement as Statement
-use Rattle.language.specs.Verdict.{Verdict, accepted, refused, verdict}
+use Rattle.language.specs.Verdict.{onAccepted, verdict}
 use Rattle.language.proofs.Computing.{computed}
 use Rattle.language.proofs.Examples.{stmts}
 use Rattle.language.proofs.ExamplesReadings.{tallyText, gcdText}
@@ -21,11 +21,7 @@ use Rattle.semantics.specs.Rows as Rows
 
 -- the rows of a text, if it is accepted
 unfoldable pub rowsOf : List ℕ → List Call → Option (List (Outcome × Kept))
-rowsOf b cs = onVerdict (verdict b)
-  where
-    onVerdict : Verdict → Option (List (Outcome × Kept))
-    onVerdict (accepted p) = some (rows p cs)
-    onVerdict (refused n k) = none
+rowsOf b cs = onAccepted (λ p. some (rows p cs)) (λ n k. none) (verdict b)
 
 -- opens all that rows compute by
 unfoldable pub opened : List ℕ → List Call → Option (List (Outcome × Kept))

@@ -35,11 +35,12 @@ use Rattle.format.specs.Cycle as Cycle
 use Rattle.format.specs.Cycle.{callsOf, cycleOf}
 use Rattle.semantics.specs.Calls.{Call, Called, performed, not-performed}
 use Rattle.format.specs.Encode as Encode
-use Rattle.theorems.specs.Compile.{Compile, written, not-compiled, compileOf, written-into}
+use Rattle.format.specs.Writing.{Writing, writtenInto}
+use Rattle.theorems.specs.Compile.{written, not-compiled, compileOf}
 
 -- opens all that a compile, an opening and a call compute by
-unfoldable pub opened : List ℕ → List ℕ → Compile
-unfolding computed compileOf written-into andThen Types.inRange Types.inType Expression.items Expression.nth Expression.plainly Expression.bind Expression.fold Expression.leafType Expression.given Expression.given2 Expression.typeOf Statement.size Statement.has Process.isType Process.fits Process.typedAct Evaluation.unaryResult Evaluation.binaryResult Evaluation.asInteger Evaluation.applyUnary Evaluation.applyBinary Evaluation.leafValue Evaluation.evaluate Division.byNonzero Equations.perform Equations.holds Equations.log Equations.then Equations.acted Equations.tested Rows.wrongValue Lines.lines Lines.linesOf Lines.entry Lines.reaches Lines.reachesOf Walk.step Walk.walk Walk.from Walk.tableCycle Code.post Code.operationBytes Code.code Code.operations Code.onto Code.run Code.runOperations Code.runCode Code.withType Code.valueOf Code.decode Signature.typeBytes Signature.cellBytes Signature.signatureBytes Signature.readTypes Signature.readCells Signature.signatureOf Image.rawsBytes Image.lineCode Image.linesCode Image.rawOf Image.rawsOf Image.pairs Image.joined Image.image Image.form1 Image.sectionsFor Image.encodeTable Good.goodLine Opening.readSections Opening.readImage Opening.wholeLines Opening.sectionsOf Opening.raws Opening.lineOf Opening.openLine Opening.openLines Opening.openTable Opening.openSections Opening.openOf Records.zeros Records.slotsOk S.placeOk S.stateOk Records.pad Records.stateFor S.memoryOf S.freshTable S.freshOf Cycle.rowPlace Cycle.tableRow Cycle.rowOf Cycle.cycleOf Cycle.callsOf Encode.signatureFor Encode.tableOf Encode.encode
+unfoldable pub opened : List ℕ → List ℕ → Writing
+unfolding computed compileOf writtenInto andThen Types.inRange Types.inType Expression.items Expression.nth Expression.plainly Expression.bind Expression.fold Expression.leafType Expression.given Expression.given2 Expression.typeOf Statement.size Statement.has Process.isType Process.fits Process.typedAct Evaluation.unaryResult Evaluation.binaryResult Evaluation.asInteger Evaluation.applyUnary Evaluation.applyBinary Evaluation.leafValue Evaluation.evaluate Division.byNonzero Equations.perform Equations.holds Equations.log Equations.then Equations.acted Equations.tested Rows.wrongValue Lines.lines Lines.linesOf Lines.entry Lines.reaches Lines.reachesOf Walk.step Walk.walk Walk.from Walk.tableCycle Code.post Code.operationBytes Code.code Code.operations Code.onto Code.run Code.runOperations Code.runCode Code.withType Code.valueOf Code.decode Signature.typeBytes Signature.cellBytes Signature.signatureBytes Signature.readTypes Signature.readCells Signature.signatureOf Image.rawsBytes Image.lineCode Image.linesCode Image.rawOf Image.rawsOf Image.pairs Image.joined Image.image Image.form1 Image.sectionsFor Image.encodeTable Good.goodLine Opening.readSections Opening.readImage Opening.wholeLines Opening.sectionsOf Opening.raws Opening.lineOf Opening.openLine Opening.openLines Opening.openTable Opening.openSections Opening.openOf Records.zeros Records.slotsOk S.placeOk S.stateOk Records.pad Records.stateFor S.memoryOf S.freshTable S.freshOf Cycle.rowPlace Cycle.tableRow Cycle.rowOf Cycle.cycleOf Cycle.callsOf Encode.signatureFor Encode.tableOf Encode.encode
 opened text buffer = compileOf text buffer
 
 -- tally's 134 bytes

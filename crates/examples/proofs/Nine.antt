@@ -6,10 +6,11 @@ use Prim.Native.Nat.{ℕ}
 use lib.ListN.{length, replicate, take}
 use lib.IntN.{ℤ, pos, negsuc}
 use Rattle.grammar.specs.Limits.{Each}
+use Rattle.answers.specs.Answers.{Told, done, refusal}
 use Rattle.answers.specs.declared.State.{State}
 use Rattle.language.specs.Bytes.{bytes}
 use Rattle.language.specs.Lexer.{tokenAt}
-use Rattle.language.specs.Verdict.{Verdict, accepted, refused, verdict, isAccepted}
+use Rattle.language.specs.Verdict.{Verdict, refused, onAccepted, verdict, isAccepted}
 use Rattle.language.proofs.Examples.{plain, place, whole, stdPorts, stdVars, stmts, vars, passes}
 use Rattle.language.proofs.ExamplesReadings.{tallyText}
 use Rattle.semantics.specs.Equations as Equations
@@ -24,13 +25,13 @@ use Rattle.behaviour.specs.Direct.{directOf, directFresh, directCalls}
 use Rattle.format.specs.Words.{word2At, word4At}
 use Rattle.format.specs.State.{freshOf}
 use Rattle.format.specs.Cycle.{callsOf}
-use Rattle.theorems.specs.Compile.{Compiled, written, not-compiled, compileOf}
+use Rattle.theorems.specs.Compile.{compileOf}
 use Rattle.examples.proofs.Images.{opened, stateAt, did, rowOf, twoBits}
 
 -- the image that a compile into 200 bytes writes; none where it is refused
-abbrev writtenIn : Compiled → List ℕ → List ℕ
-writtenIn (written n) b = take n b
-writtenIn (not-compiled q k) b = []
+abbrev writtenIn : Told ℕ → List ℕ → List ℕ
+writtenIn (done n) b = take n b
+writtenIn (refusal q k) b = []
 
 unfoldable pub imageOf : List ℕ → List ℕ
 imageOf text = let r = compileOf text (replicate 200 0) in writtenIn (r .answer) (r .buffer)
@@ -49,8 +50,7 @@ directTrace text cs = fromStart (directFresh text) (λ s. directCalls text s cs)
 
 -- .. and of the equations
 abbrev onVerdict : Verdict → List Call → List Called
-onVerdict (accepted p) cs = equationCalls p (atFirst p) cs
-onVerdict (refused n k) cs = []
+onVerdict v cs = onAccepted (λ p. equationCalls p (atFirst p) cs) (λ n k. []) v
 
 unfoldable pub equationTrace : List ℕ → List Call → List Called
 equationTrace text cs = onVerdict (verdict text) cs

@@ -11,7 +11,7 @@ use Rattle.semantics.specs.Equations.{Run, Result, passed, reached, refused, th
 use Rattle.ir.specs.Entries.{Single, single-act, single-wait, single-if, single-else, single-while, Block, only, andThen}
 use Rattle.ir.specs.Arrays.{Row}
 use Rattle.ir.proofs.Held.{at-output, at-variable, at-null, at-wait, at-if, at-while, at-else, at-first, at-rest}
-use Rattle.execution.specs.Holding.{Short, HeldIn, HeldRest, startRest}
+use Rattle.execution.specs.Holding.{Ready, HeldIn, HeldRest, startRest}
 use Rattle.execution.specs.Standing.{run, Stands}
 use Rattle.execution.specs.declared.Progress.{Progress}
 use Rattle.execution.specs.declared.Progress.the-variants.{Passed, Reached, Refused}
@@ -60,12 +60,12 @@ module _ (codes : List ℕ) (args : List ℤ) (rows : List ℕ) where
     pub high : next ≤ e
 
   pub first-held : {a b : Stmt} (j e : ℕ) → HeldIn codes args rows (seq a b) j e → HeldIn codes args rows a j (j + size a)
-  unfolding Short
-  first-held j e h = record { m = h .m; lies = at-first (h .lies); short = h .short .0; end = refl }
+  unfolding Ready
+  first-held j e h = record { m = h .m; lies = at-first (h .lies); ready = h .ready .0; end = refl }
 
   pub rest-held : {a b : Stmt} (j e : ℕ) → HeldIn codes args rows (seq a b) j e → HeldIn codes args rows b (j + size a) e
-  unfolding Short size
-  rest-held j e h = record { m = _; lies = at-rest (h .lies); short = h .short .1; end = let n = h .end in omega arith }
+  unfolding Ready size
+  rest-held j e h = record { m = _; lies = at-rest (h .lies); ready = h .ready .1; end = let n = h .end in omega arith }
 
   front-of : {s : Stmt} (j e : ℕ) → Block s → HeldIn codes args rows s j e → Front (some s) j (getD rows (6 * j + 5) 0) e
   unfolding then start

@@ -9,7 +9,7 @@ use native.Mathlib.Numerals.{add-one}
 use native.Mathlib.Omega.{arith}
 use lib.ListN.{length, set}
 use lib.IntN.{ℤ}
-use Rattle.design.specs.Expression.{Expr, items, Out, fine, fault, bind}
+use Rattle.design.specs.Expression.{Expr, Out, fine, fault, bind}
 use Rattle.design.specs.Statement.{output, variable, null, Stmt, act, wait, if-then, if-else, while, size}
 use Rattle.semantics.specs.Evaluation.{isOne, evaluate}
 use Rattle.semantics.specs.Equations.{Run, Result, passed, reached, refused, perform, holds, log, acted, tested, start}
@@ -17,9 +17,9 @@ use Rattle.ir.specs.Operations.{ops}
 use Rattle.ir.specs.Entries.{Single, single-act, single-wait, single-if, single-else, single-while, Block}
 use Rattle.ir.specs.Arrays.{opsFrom, Row, rowIn, At}
 use Rattle.ir.proofs.Held.{at-output, at-variable, at-null, at-wait, at-if, at-while, at-else}
-use Rattle.operations.specs.Machine.{valueIn}
+use Rattle.operations.specs.Machine.{valueIn, Performable}
 use Rattle.execution.specs.Effects.{branchOf, effectOf, effectIn, storedOf, storedIn}
-use Rattle.execution.specs.Holding.{Short, HeldIn, HeldRest, startRest}
+use Rattle.execution.specs.Holding.{Ready, HeldIn, HeldRest, startRest}
 use Rattle.execution.specs.Standing.{run}
 use Rattle.execution.specs.declared.Effect.{Effect}
 use Rattle.execution.specs.declared.Effect.the-variants.{Waits, Performed, Refuses}
@@ -51,18 +51,18 @@ module _ (codes : List ℕ) (args : List ℤ) (rows : List ℕ) (i : List ℤ) w
     alone R o′ v′ h e = record { block = none; held = refl; low = omega arith; mid = omega arith; high = omega arith; same = e }
 
     -- the value of an expression that the arrays hold
-    valued : (m : ℕ) (e : Expr) (P : Out ℤ → Type 0) → opsFrom codes args m (length (ops e)) ≡ ops e → items e ≤ 64 → P (evaluate e i v) → P (valueIn codes args m (m + length (ops e)) i v)
+    valued : (m : ℕ) (e : Expr) (P : Out ℤ → Type 0) → opsFrom codes args m (length (ops e)) ≡ ops e → Performable e → P (evaluate e i v) → P (valueIn codes args m (m + length (ops e)) i v)
     valued m e P h n p = subst (λ (r : Out ℤ). P r) (sym (value-expr i v codes args m e h n)) p
 
     output-says : (k : ℕ) (e : Expr) → HeldIn codes args rows (act (output k e)) j next → By j next w (start (act (output k e)) j i (run w o v)) o v (rowIn rows j)
-    unfolding Short size start acted perform bind
+    unfolding Ready size start acted perform bind
     output-says k e h =
         let own = at-output (h .lies) in
         let n = h .end in
         subst (λ (r : Row). By j next w (start (act (output k e)) j i (run w o v)) o v r) (sym (own .line))
         (valued (h .m) e
         (λ (r : Out ℤ). EffectSays j next w (start (act (output k e)) j i (run w o v)) (effectOf 1 r j (j + 1 + 0) (j + 1 + 0)) (storedOf 1 1 k r o) (storedOf 2 1 k r v))
-        (own .code) (h .short) (go (evaluate e i v) (omega arith)))
+        (own .code) (h .ready) (go (evaluate e i v) (omega arith)))
       where
         go : (r : Out ℤ) → j < next
             → EffectSays j next w (acted (bind r (λ z. fine (record { outputs = set o k z; variables = v }))) j (run w o v)) (effectOf 1 r j (j + 1 + 0) (j + 1 + 0)) (storedOf 1 1 k r o) (storedOf 2 1 k r v)
@@ -70,14 +70,14 @@ module _ (codes : List ℕ) (args : List ℤ) (rows : List ℕ) (i : List ℤ) w
         go (fault q) l = refl
 
     variable-says : (k : ℕ) (e : Expr) → HeldIn codes args rows (act (variable k e)) j next → By j next w (start (act (variable k e)) j i (run w o v)) o v (rowIn rows j)
-    unfolding Short size start acted perform bind
+    unfolding Ready size start acted perform bind
     variable-says k e h =
         let own = at-variable (h .lies) in
         let n = h .end in
         subst (λ (r : Row). By j next w (start (act (variable k e)) j i (run w o v)) o v r) (sym (own .line))
         (valued (h .m) e
         (λ (r : Out ℤ). EffectSays j next w (start (act (variable k e)) j i (run w o v)) (effectOf 2 r j (j + 1 + 0) (j + 1 + 0)) (storedOf 1 2 k r o) (storedOf 2 2 k r v))
-        (own .code) (h .short) (go (evaluate e i v) (omega arith)))
+        (own .code) (h .ready) (go (evaluate e i v) (omega arith)))
       where
         go : (r : Out ℤ) → j < next
             → EffectSays j next w (acted (bind r (λ z. fine (record { outputs = o; variables = set v k z }))) j (run w o v)) (effectOf 2 r j (j + 1 + 0) (j + 1 + 0)) (storedOf 1 2 k r o) (storedOf 2 2 k r v)
@@ -104,12 +104,12 @@ module _ (codes : List ℕ) (args : List ℤ) (rows : List ℕ) (i : List ℤ) w
         go (fault q) = refl
 
     -- the first part of an if or a while, the second part of an if, and none
-    first-part : (a : Stmt) (m : ℕ) (R : Result) → At codes args rows a (j + 1) m → Short a → Block a → j + 1 + size a ≤ next
+    first-part : (a : Stmt) (m : ℕ) (R : Result) → At codes args rows a (j + 1) m → Ready a → Block a → j + 1 + size a ≤ next
         → R ≡ start a (suc j) i (run (w ++ (j ∷ [])) o v) → Inner j next w R (j + 1) (j + 1 + size a) o v
     first-part a m R p s k h e =
         record {
           block = some a;
-          held = (record { m = m; lies = p; short = s; end = refl }, k);
+          held = (record { m = m; lies = p; ready = s; end = refl }, k);
           low = omega arith;
           mid = omega arith;
           high = h;
@@ -129,16 +129,16 @@ module _ (codes : List ℕ) (args : List ℤ) (rows : List ℕ) (i : List ℤ) w
     none-part a R l h e = record { block = none; held = refl; low = l; mid = omega arith; high = h; same = e }
 
     if-says : (e : Expr) (a : Stmt) → Block a → HeldIn codes args rows (if-then e a) j next → By j next w (start (if-then e a) j i (run w o v)) o v (rowIn rows j)
-    unfolding Short size start holds bind tested
+    unfolding Ready size start holds bind tested
     if-says e a k h =
         let p = at-if (h .lies) in
         let n = h .end in
         subst (λ (r : Row). By j next w (start (if-then e a) j i (run w o v)) o v r) (sym (p .0 .line))
         (valued (h .m) e
         (λ (r : Out ℤ). EffectSays j next w (start (if-then e a) j i (run w o v)) (effectOf 3 r j (j + 1 + size a) (j + 1 + size a)) (storedOf 1 3 0 r o) (storedOf 2 3 0 r v))
-        (p .0 .code) (h .short .0)
+        (p .0 .code) (h .ready .0)
         (go (evaluate e i v)
-        (first-part a _ (start a (suc j) i (run (w ++ (j ∷ [])) o v)) (p .1) (h .short .1) k (omega arith) refl)
+        (first-part a _ (start a (suc j) i (run (w ++ (j ∷ [])) o v)) (p .1) (h .ready .1) k (omega arith) refl)
         (none-part (j + 1 + size a) (passed (run (w ++ (j ∷ [])) o v)) (omega arith) (omega arith) refl)))
       where
         go : (r : Out ℤ) → Inner j next w (start a (suc j) i (run (w ++ (j ∷ [])) o v)) (j + 1) (j + 1 + size a) o v
@@ -149,16 +149,16 @@ module _ (codes : List ℕ) (args : List ℤ) (rows : List ℕ) (i : List ℤ) w
         go (fault q) p p′ = refl
 
     while-says : (e : Expr) (a : Stmt) → Block a → HeldIn codes args rows (while e a) j next → By j next w (start (while e a) j i (run w o v)) o v (rowIn rows j)
-    unfolding Short size start holds bind tested
+    unfolding Ready size start holds bind tested
     while-says e a k h =
         let p = at-while (h .lies) in
         let n = h .end in
         subst (λ (r : Row). By j next w (start (while e a) j i (run w o v)) o v r) (sym (p .0 .line))
         (valued (h .m) e
         (λ (r : Out ℤ). EffectSays j next w (start (while e a) j i (run w o v)) (effectOf 5 r j (j + 1 + size a) (j + 1 + size a)) (storedOf 1 5 0 r o) (storedOf 2 5 0 r v))
-        (p .0 .code) (h .short .0)
+        (p .0 .code) (h .ready .0)
         (go (evaluate e i v)
-        (first-part a _ (start a (suc j) i (run (w ++ (j ∷ [])) o v)) (p .1) (h .short .1) k (omega arith) refl)
+        (first-part a _ (start a (suc j) i (run (w ++ (j ∷ [])) o v)) (p .1) (h .ready .1) k (omega arith) refl)
         (none-part (j + 1 + size a) (passed (run (w ++ (j ∷ [])) o v)) (omega arith) (omega arith) refl)))
       where
         go : (r : Out ℤ) → Inner j next w (start a (suc j) i (run (w ++ (j ∷ [])) o v)) (j + 1) (j + 1 + size a) o v
@@ -169,12 +169,12 @@ module _ (codes : List ℕ) (args : List ℤ) (rows : List ℕ) (i : List ℤ) w
         go (fault q) p p′ = refl
 
     -- the second part of an if
-    second-part : (b : Stmt) (m a c : ℕ) (R : Result) → At codes args rows b a m → Short b → Block b → c ≡ a + size b → j < a → c ≤ next
+    second-part : (b : Stmt) (m a c : ℕ) (R : Result) → At codes args rows b a m → Ready b → Block b → c ≡ a + size b → j < a → c ≤ next
         → R ≡ start b a i (run (w ++ (j ∷ [])) o v) → Inner j next w R a c o v
     second-part b m a c R p s k n l h e =
         record {
           block = some b;
-          held = (record { m = m; lies = p; short = s; end = n }, k);
+          held = (record { m = m; lies = p; ready = s; end = n }, k);
           low = l;
           mid = omega arith;
           high = h;
@@ -183,7 +183,7 @@ module _ (codes : List ℕ) (args : List ℤ) (rows : List ℕ) (i : List ℤ) w
 
     else-says : (e : Expr) (a b : Stmt) → Block a → Block b → HeldIn codes args rows (if-else e a b) j next
         → By j next w (start (if-else e a b) j i (run w o v)) o v (rowIn rows j)
-    unfolding Short size start holds bind tested
+    unfolding Ready size start holds bind tested
     else-says e a b k l h =
         let p = at-else (h .lies) in
         let n = h .end in
@@ -191,10 +191,10 @@ module _ (codes : List ℕ) (args : List ℤ) (rows : List ℕ) (i : List ℤ) w
         subst (λ (r : Row). By j next w (start (if-else e a b) j i (run w o v)) o v r) (sym (p .0 .line))
         (valued (h .m) e
         (λ (r : Out ℤ). EffectSays j next w (start (if-else e a b) j i (run w o v)) (effectOf 3 r j (j + 1 + size a) (j + 1 + (size a + size b))) (storedOf 1 3 0 r o) (storedOf 2 3 0 r v))
-        (p .0 .code) (h .short .0)
+        (p .0 .code) (h .ready .0)
         (go (evaluate e i v)
-        (first-part a _ (start a (suc j) i (run (w ++ (j ∷ [])) o v)) (p .1 .0) (h .short .1 .0) k (omega arith) refl)
-        (second-part b _ (j + 1 + size a) (j + 1 + (size a + size b)) (start b (suc j + size a) i (run (w ++ (j ∷ [])) o v)) (p .1 .1) (h .short .1 .1) l (omega arith) (omega arith) (omega arith) (rw z))))
+        (first-part a _ (start a (suc j) i (run (w ++ (j ∷ [])) o v)) (p .1 .0) (h .ready .1 .0) k (omega arith) refl)
+        (second-part b _ (j + 1 + size a) (j + 1 + (size a + size b)) (start b (suc j + size a) i (run (w ++ (j ∷ [])) o v)) (p .1 .1) (h .ready .1 .1) l (omega arith) (omega arith) (omega arith) (rw z))))
       where
         go : (r : Out ℤ) → Inner j next w (start a (suc j) i (run (w ++ (j ∷ [])) o v)) (j + 1) (j + 1 + size a) o v
             → Inner j next w (start b (suc j + size a) i (run (w ++ (j ∷ [])) o v)) (j + 1 + size a) (j + 1 + (size a + size b)) o v

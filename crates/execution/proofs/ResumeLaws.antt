@@ -19,7 +19,7 @@ use Rattle.ir.specs.Operations.{ops}
 use Rattle.ir.specs.Entries.{entries, entryOps, Single, single-act, single-wait, single-if, single-else, single-while, Block, only, andThen}
 use Rattle.ir.specs.Arrays.{Row, At}
 use Rattle.ir.proofs.Held.{at-wait, at-if, at-while, at-else}
-use Rattle.execution.specs.Holding.{Short, HeldIn, HeldRest, startRest, Part}
+use Rattle.execution.specs.Holding.{Ready, HeldIn, HeldRest, startRest, Part}
 use Rattle.execution.specs.Standing.{run, Stands}
 use Rattle.execution.specs.declared.Progress.{Progress}
 use Rattle.execution.specs.declared.Progress.the-variants.{Passed, Reached, Refused}
@@ -199,12 +199,12 @@ module _ (codes : List ℕ) (args : List ℤ) (rows : List ℕ) where
       Whole f = (σ : Run) → resume s first p i σ ≡ then (resume f at p i σ) (λ τ. startRest rest next i τ)
 
       -- a part of f that has the wait, behind which f is passed
-      passing : (f b : Stmt) (a c m : ℕ) → Whole f → At codes args rows b a m → Short b → Block b → has b a p ≡ true → c ≡ a + size b → at < a → c ≤ next
+      passing : (f b : Stmt) (a c m : ℕ) → Whole f → At codes args rows b a m → Ready b → Block b → has b a p ≡ true → c ≡ a + size b → at < a → c ≤ next
           → ((σ : Run) → resume f at p i σ ≡ resume b a p i σ) → Within i next a c next
       passing f b a c m w l s k x n h g q =
           record {
             block = b;
-            held = record { m = m; lies = l; short = s; end = n };
+            held = record { m = m; lies = l; ready = s; end = n };
             is-block = k;
             waits = x;
             low = h;
@@ -217,25 +217,25 @@ module _ (codes : List ℕ) (args : List ℤ) (rows : List ℕ) where
 
       if-within : (c : Expr) (a : Stmt) → Whole (if-then c a) → HeldIn codes args rows (if-then c a) at next → Block a → has (if-then c a) at p ≡ true
           → getD rows (6 * at + 4) 0 ≡ other → Within i next (picked other (at + 1) other) (picked other other next) next
-      unfolding has size Short resume
+      unfolding has size Ready resume
       if-within c a w h k x o =
           let q = at-if (h .lies) in
           let n = h .end in
           let y : other ≡ at + 1 + size a = sym o ∙ ap (λ (r : Row). r .other) (q .0 .line) in
           let b = has-below a (suc at) p x in
           rw (lt-ltb p other (omega arith))
-          (passing (if-then c a) a (at + 1) other _ w (q .1) (h .short .1) k (rw add-one x) y (omega arith) (omega arith) (λ σ. rw add-one))
+          (passing (if-then c a) a (at + 1) other _ w (q .1) (h .ready .1) k (rw add-one x) y (omega arith) (omega arith) (λ σ. rw add-one))
 
       else-within : (c : Expr) (a b : Stmt) → Whole (if-else c a b) → HeldIn codes args rows (if-else c a b) at next → Block a → Block b → has (if-else c a b) at p ≡ true
           → getD rows (6 * at + 4) 0 ≡ other → (t : Bool) → ltb p other ≡ t → Within i next (cond t (at + 1) other) (cond t other next) next
-      unfolding has size Short resume pick
+      unfolding has size Ready resume pick
       else-within c a b w h k l x o true u =
           let q = at-else (h .lies) in
           let n = h .end in
           let y : other ≡ at + 1 + size a = sym o ∙ ap (λ (r : Row). r .other) (q .0 .line) in
           let g = ltb-true p other u in
           let f = first-of (has a (suc at) p) (has b (suc at + size a) p) (not-below b (suc at + size a) p (omega arith)) x in
-          passing (if-else c a b) a (at + 1) other _ w (q .1 .0) (h .short .1 .0) k (rw add-one f) y (omega arith) (omega arith) (λ σ. rw (f, add-one))
+          passing (if-else c a b) a (at + 1) other _ w (q .1 .0) (h .ready .1 .0) k (rw add-one f) y (omega arith) (omega arith) (λ σ. rw (f, add-one))
       else-within c a b w h k l x o false u =
           let q = at-else (h .lies) in
           let n = h .end in
@@ -244,13 +244,13 @@ module _ (codes : List ℕ) (args : List ℤ) (rows : List ℕ) where
           let z : suc at + size a ≡ other = omega arith in
           let f = not-above a (suc at) p (omega arith) in
           let d = or-other (has a (suc at) p) (has b (suc at + size a) p) f x in
-          passing (if-else c a b) b other next (h .m + length (ops c) + length (entryOps (entries a))) w (rw y (q .1 .1)) (h .short .1 .1) l (rw z at d) (omega arith) (omega arith) (omega arith) (λ σ. rw (f, z))
+          passing (if-else c a b) b other next (h .m + length (ops c) + length (entryOps (entries a))) w (rw y (q .1 .1)) (h .ready .1 .1) l (rw z at d) (omega arith) (omega arith) (omega arith) (λ σ. rw (f, z))
 
       -- "Resumed, it resumes its body. Whenever its body is passed, it tests again.": what comes after is the while itself, with all behind it
       while-within : (c : Expr) (b t : Stmt) → Whole (while c b) → HeldIn codes args rows (while c b) at next → Block b → has (while c b) at p ≡ true
           → getD rows (6 * at + 4) 0 ≡ other → HeldIn codes args rows t at e → Block t
           → ((σ : Run) → start t at i σ ≡ then (start (while c b) at i σ) (λ τ. startRest rest next i τ)) → Within i next (picked other (at + 1) other) (picked other other next) at
-      unfolding has size Short resume
+      unfolding has size Ready resume
       while-within c b t w h k x o ht kt st =
           let q = at-while (h .lies) in
           let n = h .end in
@@ -259,7 +259,7 @@ module _ (codes : List ℕ) (args : List ℤ) (rows : List ℕ) where
           rw (lt-ltb p other (omega arith))
           (record {
             block = b;
-            held = record { m = _; lies = q .1; short = h .short .1; end = y };
+            held = record { m = _; lies = q .1; ready = h .ready .1; end = y };
             is-block = k;
             waits = rw add-one x;
             low = omega arith;

@@ -5,6 +5,7 @@ use Prim.Native.Nat.{ℕ, _+_}
 use lib.ListN.{set}
 use lib.IntN.{ℤ}
 use lib.Dec.{eqb}
+use Rattle.codes.specs.Statement as S
 use Rattle.design.specs.Expression.{Out, fine, fault}
 use Rattle.semantics.specs.Evaluation.{isOne}
 use Rattle.ir.specs.Arrays.{Row}
@@ -21,11 +22,11 @@ branchOf false j other end = Performed other end
 -- what follows the value of a statement of kind k: 3 an if, 5 a while, else an assignment
 abbrev pub valuedOf : ℕ → Out ℤ → ℕ → ℕ → ℕ → Effect
 valuedOf k (fault q) j other end = Refuses q
-valuedOf k (fine z) j other end = cond (eqb k 3) (branchOf (isOne z) j other end) (cond (eqb k 5) (branchOf (isOne z) j other end) (Performed (j + 1) (j + 1)))
+valuedOf k (fine z) j other end = cond (eqb k S.IF) (branchOf (isOne z) j other end) (cond (eqb k S.WHILE) (branchOf (isOne z) j other end) (Performed (j + 1) (j + 1)))
 
 -- 0 is a wait and 4 is null
 abbrev pub effectOf : ℕ → Out ℤ → ℕ → ℕ → ℕ → Effect
-effectOf k e j other end = cond (eqb k 0) Waits (cond (eqb k 4) (Performed (j + 1) (j + 1)) (valuedOf k e j other end))
+effectOf k e j other end = cond (eqb k S.WAIT) Waits (cond (eqb k S.NULL) (Performed (j + 1) (j + 1)) (valuedOf k e j other end))
 
 -- the statement j with the row r, over the input row i and the variables v
 abbrev pub effectIn : List ℕ → List ℤ → List ℤ → List ℤ → ℕ → Row → Effect

@@ -3,31 +3,32 @@ use mathlib.Core.Path.{_≡_}
 use mathlib.Core.Bool.{true}
 use mathlib.Core.Option.{Option, none, some}
 use mathlib.Core.List.{List}
-use Prim.Native.Nat.{ℕ, _+_, _*_, _≤_, _<_}
+use Prim.Native.Nat.{ℕ, _+_, _*_, _<_}
 use lib.ListN.{getD}
 use lib.IntN.{ℤ}
-use Rattle.design.specs.Expression.{items}
+use Rattle.codes.specs.Statement as S
 use Rattle.design.specs.Statement.{output, variable, null, Stmt, act, wait, if-then, if-else, while, seq, size, has}
 use Rattle.semantics.specs.Equations.{Run, Result, passed, start, resume}
+use Rattle.operations.specs.Machine.{Performable}
 use Rattle.ir.specs.Entries.{Block}
 use Rattle.ir.specs.Arrays.{At}
 
--- "64 literals, names and operators in an expression": no expression of a statement has more
-unfoldable pub Short : Stmt → Type 0
-Short (act (output k e)) = items e ≤ 64
-Short (act (variable k e)) = items e ≤ 64
-Short (act null) = Unit {0}
-Short wait = Unit {0}
-Short (if-then e a) = (items e ≤ 64) × Short a
-Short (if-else e a b) = (items e ≤ 64) × (Short a × Short b)
-Short (while e b) = (items e ≤ 64) × Short b
-Short (seq a b) = Short a × Short b
+-- every expression of a statement can be performed
+unfoldable pub Ready : Stmt → Type 0
+Ready (act (output k e)) = Performable e
+Ready (act (variable k e)) = Performable e
+Ready (act null) = Unit {0}
+Ready wait = Unit {0}
+Ready (if-then e a) = Performable e × Ready a
+Ready (if-else e a b) = Performable e × (Ready a × Ready b)
+Ready (while e b) = Performable e × Ready b
+Ready (seq a b) = Ready a × Ready b
 
 -- the rows from j up to e are those of the statement s; m operations stand before its own
 pub record HeldIn (codes : List ℕ) (args : List ℤ) (rows : List ℕ) (s : Stmt) (j e : ℕ) : Type 0 where
   pub m : ℕ
   pub lies : At codes args rows s j m
-  pub short : Short s
+  pub ready : Ready s
   pub end : e ≡ j + size s
 
 -- the rows from j up to e are those of a block, or there are none
@@ -47,5 +48,5 @@ pub record Part (codes : List ℕ) (args : List ℤ) (rows : List ℕ) (s : Stmt
   pub held : HeldIn codes args rows from-it r e
   pub block : Block from-it
   pub waits : has from-it r p ≡ true
-  pub inside : p < getD rows (6 * r + 5) 0
+  pub inside : p < getD rows (S.ROW * r + S.END) 0
   pub same : (i : List ℤ) (σ : Run) → resume s first p i σ ≡ resume from-it r p i σ

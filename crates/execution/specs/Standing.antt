@@ -5,6 +5,7 @@ use mathlib.Core.List.{List}
 use Prim.Native.Nat.{ℕ, _+_, _-_, _≤_}
 use lib.ListN.{length}
 use lib.IntN.{ℤ}
+use Rattle.codes.specs.Limit as L
 use Rattle.semantics.specs.Equations.{Run, Result, passed, reached, refused}
 use Rattle.execution.specs.declared.Progress.{Progress}
 use Rattle.execution.specs.declared.Progress.the-variants.{Passed, Reached, Refused}
@@ -32,5 +33,5 @@ pub record Stands (R : Result) (r : Progress) (o v : List ℤ) : Type 0 where
 -- the rows first .. end are rows of the array, and the count has room for them
 pub record Bounds (first end count : ℕ) : Type 0 where
   pub order : first ≤ end
-  pub few : end ≤ 512
+  pub few : end ≤ L.STATEMENTS
   pub room : count + (end - first) ≤ 1000000

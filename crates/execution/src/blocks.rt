@@ -7,6 +7,7 @@ ghost use Prim.Native.Nat.{ℕ, _+_, _-_, _*_, _≤_, _<_};
 ghost use lib.ListN.{length, getD, set};
 ghost use lib.IntN.{ℤ};
 ghost use lib.Dec.{eqb, ltb, leb};
+ghost use Rattle.codes.specs.Statement as S;
 ghost use Rattle.design.specs.Statement.{Stmt, has};
 ghost use Rattle.semantics.specs.Evaluation.{isOne};
 ghost use Rattle.semantics.specs.Equations.{Result, then, start as startOf, resume as resumeOf};
@@ -17,6 +18,8 @@ ghost use Rattle.execution.specs.Holding.{HeldIn, HeldRest, startRest, P
 ghost use Rattle.execution.specs.Standing.{run, counted, Stands, Bounds};
 use crate::Effect;
 use crate::Progress;
+use codes::kind;
+use codes::statement as row;
 use operations::evaluation::evaluate;
 use signed::Checked;
 
@@ -65,31 +68,41 @@ fn perform(
 ) -> Effect
     requires { ⌜ at < 512 ⌝ }
     ensures { λ r. ⌜ r ≡ effectIn (now (codes .entry)) (now (args .entry)) (now (inputs .entry)) (now (variables .entry)) at (rowIn (now (rows .entry)) at) ⌝ }
-    ensures { λ _. ⌜ now (outputs .exit) ≡ storedIn 1 (now (codes .entry)) (now (args .entry)) (now (inputs .entry)) (now (variables .entry)) (rowIn (now (rows .entry)) at) (now (outputs .entry)) ⌝ }
-    ensures { λ _. ⌜ now (variables .exit) ≡ storedIn 2 (now (codes .entry)) (now (args .entry)) (now (inputs .entry)) (now (variables .entry)) (rowIn (now (rows .entry)) at) (now (variables .entry)) ⌝ }
+    ensures { λ _. ⌜ now (outputs .exit) ≡ storedIn S.OUTPUT (now (codes .entry)) (now (args .entry)) (now (inputs .entry)) (now (variables .entry)) (rowIn (now (rows .entry)) at) (now (outputs .entry)) ⌝ }
+    ensures { λ _. ⌜ now (variables .exit) ≡ storedIn S.VARIABLE (now (codes .entry)) (now (args .entry)) (now (inputs .entry)) (now (variables .entry)) (rowIn (now (rows .entry)) at) (now (variables .entry)) ⌝ }
 {
-    let k = entry(rows, 6 * at);
-    if k == 0 {
+    let k = entry(rows, row::ROW * at);
+    if k == kind::WAIT {
         return Effect::Waits;
     }
-    if k == 4 {
+    if k == kind::NULL {
         return Effect::Performed(at + 1, at + 1);
     }
-    let from = entry(rows, 6 * at + 2);
-    let to = entry(rows, 6 * at + 3);
+    let from = entry(rows, row::ROW * at + row::FROM);
+    let to = entry(rows, row::ROW * at + row::TO);
     let e = evaluate(codes, args, from, to, inputs, variables);
     match e {
         Checked::Refused(q) => Effect::Refuses(q),
         Checked::Value(v) => {
-            if k == 3 {
-                return branch(at, entry(rows, 6 * at + 4), entry(rows, 6 * at + 5), v);
+            if k == kind::IF {
+                return branch(
+                    at,
+                    entry(rows, row::ROW * at + row::OTHER),
+                    entry(rows, row::ROW * at + row::END),
+                    v,
+                );
             }
-            if k == 5 {
-                return branch(at, entry(rows, 6 * at + 4), entry(rows, 6 * at + 5), v);
+            if k == kind::WHILE {
+                return branch(
+                    at,
+                    entry(rows, row::ROW * at + row::OTHER),
+                    entry(rows, row::ROW * at + row::END),
+                    v,
+                );
             }
-            let n = entry(rows, 6 * at + 1);
-            store(outputs, 1, k, n, v);
-            store(variables, 2, k, n, v);
+            let n = entry(rows, row::ROW * at + row::TARGET);
+            store(outputs, kind::OUTPUT, k, n, v);
+            store(variables, kind::VARIABLE, k, n, v);
             Effect::Performed(at + 1, at + 1)
         }
     }
@@ -169,7 +182,7 @@ pub(crate) fn start(
     let mut at = first;
     let mut n = count;
     while at < end {
-        let next = entry(rows, 6 * at + 5);
+        let next = entry(rows, row::ROW * at + row::END);
         if next <= at {
             return Progress::Passed(n);
         }
@@ -227,7 +240,7 @@ fn part(rows: &[u16], first: usize, end: usize, place: usize) -> usize
 {
     let mut at = first;
     while at < end {
-        let next = entry(rows, 6 * at + 5);
+        let next = entry(rows, row::ROW * at + row::END);
         if place < next {
             return at;
         }
@@ -248,9 +261,9 @@ fn pick(place: usize, other: usize, x: usize, y: usize) -> usize
 
 // Where a resumed statement goes on once its part is passed: a while tests again, any other statement is passed.
 fn again(kind: usize, at: usize, next: usize) -> usize
-    ensures { λ r. ⌜ r ≡ cond (eqb kind 5) at next ⌝ }
+    ensures { λ r. ⌜ r ≡ cond (eqb kind S.WHILE) at next ⌝ }
 {
-    if kind == 5 { at } else { next }
+    if kind == kind::WHILE { at } else { next }
 }
 
 // The statements whose rows are first .. end resumed at their wait `place`: the one with the wait is resumed, then those behind it are started.
@@ -273,15 +286,15 @@ pub(crate) fn resume(
         → Stands (resumeOf s first place (now (inputs .entry)) (run w (now (outputs .entry)) (now (variables .entry)))) r (now (outputs .exit)) (now (variables .exit))) ⌝ }
 {
     let at = part(rows, first, end, place);
-    let next = entry(rows, 6 * at + 5);
+    let next = entry(rows, row::ROW * at + row::END);
     if next <= at {
         return Progress::Passed(count);
     }
     if end < next {
         return Progress::Passed(count);
     }
-    let kind = entry(rows, 6 * at);
-    if kind == 0 {
+    let kind = entry(rows, row::ROW * at);
+    if kind == kind::WAIT {
         return start(
             codes,
             args,
@@ -294,7 +307,7 @@ pub(crate) fn resume(
             count,
         );
     }
-    let other = entry(rows, 6 * at + 4);
+    let other = entry(rows, row::ROW * at + row::OTHER);
     let a = pick(place, other, at + 1, other);
     let b = pick(place, other, other, next);
     let right = nested(at, a, b, next);

@@ -4,6 +4,7 @@ ghost use mathlib.Core.Bool.{true, _||_};
 ghost use mathlib.Core.List.{[]};
 ghost use Prim.Native.Nat.{_*_, _≤_};
 ghost use lib.Dec.{eqb};
+ghost use Rattle.codes.specs.Limit.{BEGINNING};
 ghost use Rattle.design.specs.Statement.{Stmt, has};
 ghost use Rattle.semantics.specs.Equations.{enter as enterOf, cycle as cycleOf};
 ghost use Rattle.ir.specs.Entries.{Block};
@@ -14,6 +15,7 @@ use crate::Progress;
 use crate::blocks::go_on;
 use crate::blocks::resume;
 use crate::blocks::start;
+use codes::limit;
 
 // "the body is started, or resumed at the wait that is the place": 512 is the beginning.
 fn enter(
@@ -28,10 +30,10 @@ fn enter(
 ) -> Progress
     requires { ⌜ size ≤ 512 ⌝ }
     ensures { λ r. ⌜ counted r ≤ 512 * size ⌝ }
-    ensures { λ r. ⌜ ((s : Stmt) → HeldIn (now (codes .entry)) (now (args .entry)) (now (rows .entry)) s 0 size → Block s → (eqb place 512 || has s 0 place) ≡ true
+    ensures { λ r. ⌜ ((s : Stmt) → HeldIn (now (codes .entry)) (now (args .entry)) (now (rows .entry)) s 0 size → Block s → (eqb place BEGINNING || has s 0 place) ≡ true
         → Stands (enterOf s (placeFor place) (now (inputs .entry)) (run [] (now (outputs .entry)) (now (variables .entry)))) r (now (outputs .exit)) (now (variables .exit))) ⌝ }
 {
-    if place == 512 {
+    if place == limit::BEGINNING {
         return start(codes, args, rows, 0, size, inputs, outputs, variables, 0);
     }
     resume(
@@ -60,10 +62,10 @@ pub fn cycle(
     variables: &mut [i32],
 ) -> Progress
     ensures { λ r. ⌜ ((s : Stmt) → HeldIn (now (codes .entry)) (now (args .entry)) (now (rows .entry)) s 0 size → Block s → size ≤ 512
-        → (eqb place 512 || has s 0 place) ≡ true
+        → (eqb place BEGINNING || has s 0 place) ≡ true
         → Stands (cycleOf s (placeFor place) (now (inputs .entry)) (run [] (now (outputs .entry)) (now (variables .entry)))) r (now (outputs .exit)) (now (variables .exit))) ⌝ }
 {
-    if 512 < size {
+    if limit::STATEMENTS < size {
         return Progress::Passed(0);
     }
     let r = enter(codes, args, rows, size, place, inputs, outputs, variables);

@@ -5,7 +5,7 @@ use mathlib.Core.List.{List}
 use Prim.Native.Nat.{ℕ, _≤_}
 use native.Mathlib.Omega.{arith}
 use lib.ListN.{length}
-use Rattle.answers.specs.Answers.{Told, compileTold, openTold, freshTold, cycleTold}
+use Rattle.answers.specs.Answers.{Told, done, refusal, compileTold, openTold, freshTold, cycleTold}
 use Rattle.answers.specs.declared.Sections.{Sections}
 use Rattle.answers.specs.declared.State.{State}
 use Rattle.answers.specs.declared.Compiled as declared
@@ -19,7 +19,7 @@ use Rattle.format.specs.Words.{Bytes}
 use Rattle.format.specs.Opening.{Opened, opened, not-opened, openOf}
 use Rattle.format.specs.State.{freshOf}
 use Rattle.behaviour.specs.Direct.{directOf, directFresh}
-use Rattle.theorems.specs.Compile.{Compiled, written, not-compiled, compileOf, compileAnswer}
+use Rattle.theorems.specs.Compile.{compileOf}
 use Rattle.images.proofs.Places.{open-place}
 use Rattle.theorems.proofs.Places.{compile-place, compile-count, fresh-place, direct-place, direct-count, direct-fresh-place}
 use Rattle.loader.specs.Open.{openAnswer}
@@ -32,12 +32,12 @@ cycled-narrow (performed w) f g = let h = f w refl in done-narrow (length w) (om
 cycled-narrow (not-performed q k) f g = let h = g q k refl in refused-narrow q k (omega arith)
 
 -- a compile
-pub compile-narrow : (text buffer : List ℕ) (x : declared.Compiled) → compileTold x ≡ compileAnswer (compileOf text buffer .answer) → Narrow (compiledNumbers x)
+pub compile-narrow : (text buffer : List ℕ) (x : declared.Compiled) → compileTold x ≡ compileOf text buffer .answer → Narrow (compiledNumbers x)
 compile-narrow text buffer x e = narrowed numbersOf (sym e) (on (compileOf text buffer .answer) refl)
   where
-    on : (a : Compiled) → compileOf text buffer .answer ≡ a → Narrow (numbersOf (compileAnswer a))
-    on (written n) f = done-narrow n (compile-count text buffer n f)
-    on (not-compiled q k) f = refused-narrow q k (compile-place text buffer q k f)
+    on : (a : Told ℕ) → compileOf text buffer .answer ≡ a → Narrow (numbersOf a)
+    on (done n) f = done-narrow n (compile-count text buffer n f)
+    on (refusal q k) f = refused-narrow q k (compile-place text buffer q k f)
 
 -- images
 module _ (image : List ℕ) (h : Bytes image) where

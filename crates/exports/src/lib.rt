@@ -4,10 +4,12 @@ mod record;
 
 ghost use mathlib.Core.Path.{_≡_};
 ghost use Rattle.theorems.specs.CInterface.{compileInC, openInC, freshInC, cycleInC, batchInC, directFreshInC, directInC, tokenInC};
+use codes::record::ANSWER;
+use codes::record::STATE;
 
 // A text to an image in the caller's buffer.
 #[no_mangle]
-pub extern "C" fn rabtishu_compile(text: &[u8], image: &mut [u8], answer: &mut [u32; 3])
+pub extern "C" fn rabtishu_compile(text: &[u8], image: &mut [u8], answer: &mut [u32; ANSWER])
     ensures { λ _. ⌜ (now (answer .exit) ≡ compileInC (now (text .entry)) (now (image .entry)) .0) × (now (image .exit) ≡ compileInC (now (text .entry)) (now (image .entry)) .1) ⌝ }
 {
     let c = compiler::compile(text, image);
@@ -17,7 +19,7 @@ pub extern "C" fn rabtishu_compile(text: &[u8], image: &mut [u8], answer: &mut [
 
 // Any bytes checked as an image.
 #[no_mangle]
-pub extern "C" fn rabtishu_open(image: &[u8], answer: &mut [u32; 3])
+pub extern "C" fn rabtishu_open(image: &[u8], answer: &mut [u32; ANSWER])
     ensures { λ _. ⌜ now (answer .exit) ≡ openInC (now (image .entry)) ⌝ }
 {
     let o = loader::open(image);
@@ -27,7 +29,7 @@ pub extern "C" fn rabtishu_open(image: &[u8], answer: &mut [u32; 3])
 
 // The fresh state of an image.
 #[no_mangle]
-pub extern "C" fn rabtishu_fresh(image: &[u8], state: &mut [i32; 49], answer: &mut [u32; 3])
+pub extern "C" fn rabtishu_fresh(image: &[u8], state: &mut [i32; STATE], answer: &mut [u32; ANSWER])
     ensures { λ _. ⌜ (now (answer .exit) ≡ freshInC (now (image .entry)) (now (state .entry)) .0) × (now (state .exit) ≡ freshInC (now (image .entry)) (now (state .entry)) .1) ⌝ }
 {
     let f = runtime::fresh(image);
@@ -45,10 +47,10 @@ pub extern "C" fn rabtishu_fresh(image: &[u8], state: &mut [i32; 49], answer: &m
 #[no_mangle]
 pub extern "C" fn rabtishu_cycle(
     image: &[u8],
-    state: &mut [i32; 49],
+    state: &mut [i32; STATE],
     inputs: &[i32],
     row: &mut [i32],
-    answer: &mut [u32; 3],
+    answer: &mut [u32; ANSWER],
 )
     ensures { λ _. ⌜ (now (answer .exit) ≡ cycleInC (now (image .entry)) (now (state .entry)) (now (inputs .entry)) (now (row .entry)) .answer)
         × (now (state .exit) ≡ cycleInC (now (image .entry)) (now (state .entry)) (now (inputs .entry)) (now (row .entry)) .slots)
@@ -71,12 +73,12 @@ pub extern "C" fn rabtishu_cycle(
 #[no_mangle]
 pub extern "C" fn rabtishu_cycles(
     image: &[u8],
-    state: &mut [i32; 49],
+    state: &mut [i32; STATE],
     count: usize,
     inputs: &[i32],
     outputs: &mut [i32],
     answers: &mut [u32],
-    answer: &mut [u32; 3],
+    answer: &mut [u32; ANSWER],
 )
     ensures { λ _. ⌜ (now (answer .exit) ≡ batchInC (now (image .entry)) (now (state .entry)) count (now (inputs .entry)) (now (outputs .entry)) (now (answers .entry)) .answer)
         × (now (state .exit) ≡ batchInC (now (image .entry)) (now (state .entry)) count (now (inputs .entry)) (now (outputs .entry)) (now (answers .entry)) .slots)
@@ -98,7 +100,11 @@ pub extern "C" fn rabtishu_cycles(
 
 // The fresh state of a text.
 #[no_mangle]
-pub extern "C" fn rabtishu_direct_fresh(text: &[u8], state: &mut [i32; 49], answer: &mut [u32; 3])
+pub extern "C" fn rabtishu_direct_fresh(
+    text: &[u8],
+    state: &mut [i32; STATE],
+    answer: &mut [u32; ANSWER],
+)
     ensures { λ _. ⌜ (now (answer .exit) ≡ directFreshInC (now (text .entry)) (now (state .entry)) .0) × (now (state .exit) ≡ directFreshInC (now (text .entry)) (now (state .entry)) .1) ⌝ }
 {
     let f = interpreter::fresh(text);
@@ -116,10 +122,10 @@ pub extern "C" fn rabtishu_direct_fresh(text: &[u8], state: &mut [i32; 49], answ
 #[no_mangle]
 pub extern "C" fn rabtishu_direct(
     text: &[u8],
-    state: &mut [i32; 49],
+    state: &mut [i32; STATE],
     inputs: &[i32],
     row: &mut [i32],
-    answer: &mut [u32; 3],
+    answer: &mut [u32; ANSWER],
 )
     ensures { λ _. ⌜ (now (answer .exit) ≡ directInC (now (text .entry)) (now (state .entry)) (now (inputs .entry)) (now (row .entry)) .answer)
         × (now (state .exit) ≡ directInC (now (text .entry)) (now (state .entry)) (now (inputs .entry)) (now (row .entry)) .slots)

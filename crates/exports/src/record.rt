@@ -4,13 +4,18 @@ ghost use lib.ListN.{length};
 ghost use lib.IntN.{pos};
 ghost use Rattle.theorems.specs.CInterface.{placeOfC, stateOfC, cOfState};
 use answers::State;
+use codes::limit;
+use codes::record as numbers;
+
+// How many numbers a place can be.
+const PLACES: u32 = u16::MAX as u32 + 1;
 
 // A place; a number outside 0 to 65535 is read as 65535, which no state may have.
 fn place_from(x: i32) -> u16
     ensures { λ r. ⌜ r ≡ placeOfC x ⌝ }
 {
     let bits = signed::to_bits(x);
-    if bits < 65536 { bits as u16 } else { 65535 }
+    if bits < PLACES { bits as u16 } else { u16::MAX }
 }
 
 // A place as a number.
@@ -33,14 +38,14 @@ fn copy(from: &[i32], to: &mut [i32])
 }
 
 // The state record of 49 numbers.
-pub(crate) fn to_state(slots: [i32; 49]) -> State
+pub(crate) fn to_state(slots: [i32; numbers::STATE]) -> State
     ensures { λ r. ⌜ r ≡ stateOfC slots ⌝ }
 {
-    let place = place_from(slots[0]);
-    let mut outputs = [0i32; 16];
-    copy(&slots[1..17], &mut outputs);
-    let mut variables = [0i32; 32];
-    copy(&slots[17..49], &mut variables);
+    let place = place_from(slots[numbers::PLACE]);
+    let mut outputs = [0i32; limit::OUTPUTS];
+    copy(&slots[numbers::OUTPUTS..numbers::VARIABLES], &mut outputs);
+    let mut variables = [0i32; limit::VARIABLES];
+    copy(&slots[numbers::VARIABLES..numbers::STATE], &mut variables);
     State {
         place,
         outputs,
@@ -49,22 +54,22 @@ pub(crate) fn to_state(slots: [i32; 49]) -> State
 }
 
 // 49 numbers.
-fn blank() -> [i32; 49]
+fn blank() -> [i32; numbers::STATE]
     ensures { λ r. ⌜ length r ≡ 49 ⌝ }
 {
-    [0i32; 49]
+    [0i32; numbers::STATE]
 }
 
 // The 49 numbers of a state record.
-pub(crate) fn from_state(s: State) -> [i32; 49]
+pub(crate) fn from_state(s: State) -> [i32; numbers::STATE]
     ensures { λ r. ⌜ r ≡ cOfState s ⌝ }
 {
     let place = place_number(s.place);
     let outputs = s.outputs;
     let variables = s.variables;
     let mut slots = blank();
-    slots[0] = place;
-    copy(&outputs, &mut slots[1..17]);
-    copy(&variables, &mut slots[17..49]);
+    slots[numbers::PLACE] = place;
+    copy(&outputs, &mut slots[numbers::OUTPUTS..numbers::VARIABLES]);
+    copy(&variables, &mut slots[numbers::VARIABLES..numbers::STATE]);
     slots
 }

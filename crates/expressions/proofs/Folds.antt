@@ -2,23 +2,26 @@
 -- instance; later stages cite the law for their own states and claims, and have no induction over `postfix`. Assumes nothing.
 use mathlib.Core.Path.{_≡_, refl, subst, sym}
 use mathlib.Core.List.{List, [], _∷_, _++_, append-assoc, append-nil}
-use Prim.Native.Nat.{_+_}
+use mathlib.Core.Bool.{false}
+use Prim.Native.Nat.{ℕ, _+_, _<_}
 use native.Mathlib.Omega.{arith}
-use borrow.Author.Tests.{ne-eqb}
+use lib.Dec.{eqb}
+use Rattle.codes.specs.Item as I
+use Rattle.codes.specs.Operation.{SIGN, NOT, PLUS, operationOf}
+use Rattle.codes.proofs.OperationLaws.{operation-apart}
 use Rattle.grammar.specs.Token.{Token}
 use Rattle.grammar.specs.Tree as T
 use Rattle.grammar.specs.Tree.{Expr}
-use Rattle.expressions.specs.Postfix.{Item, itemOf, operatorCode, binaryItem, postfix, Algebra, fold, one, two, stepItem, exec}
-use Rattle.expressions.proofs.Codes.{code-above}
+use Rattle.expressions.specs.Postfix.{Item, itemOf, binaryItem, postfix, Algebra, fold, one, two, stepItem, exec}
 
 -- For each construct: an item before k, in the state that its operands leave, claims what k claims in the state that the whole leaves. `Fits e w` is what an
 -- expression needs of the state it is met in, `effect e w` the state it leaves, `Claim k w` any claim about the items k, met in w.
 pub record Steps {W : Type 0} (Fits : Expr → W → Type 0) (effect : Expr → W → W) (Claim : List Item → W → Type 0) : Type 0 where
-  pub number : (x : Token) (w : W) (k : List Item) → Fits (T.number x) w → Claim k (effect (T.number x) w) → Claim (itemOf 2 x ∷ k) w
-  pub bit : (x : Token) (w : W) (k : List Item) → Fits (T.bit x) w → Claim k (effect (T.bit x) w) → Claim (itemOf 3 x ∷ k) w
-  pub name : (x : Token) (w : W) (k : List Item) → Fits (T.name x) w → Claim k (effect (T.name x) w) → Claim (itemOf 1 x ∷ k) w
-  pub sign : (x : Token) (a : Expr) (w : W) (k : List Item) → Fits (T.sign x a) w → Fits a w × (Claim k (effect (T.sign x a) w) → Claim (itemOf 4 x ∷ k) (effect a w))
-  pub negate : (x : Token) (a : Expr) (w : W) (k : List Item) → Fits (T.negate x a) w → Fits a w × (Claim k (effect (T.negate x a) w) → Claim (itemOf 5 x ∷ k) (effect a w))
+  pub number : (x : Token) (w : W) (k : List Item) → Fits (T.number x) w → Claim k (effect (T.number x) w) → Claim (itemOf I.NUMBER x ∷ k) w
+  pub bit : (x : Token) (w : W) (k : List Item) → Fits (T.bit x) w → Claim k (effect (T.bit x) w) → Claim (itemOf I.BIT x ∷ k) w
+  pub name : (x : Token) (w : W) (k : List Item) → Fits (T.name x) w → Claim k (effect (T.name x) w) → Claim (itemOf I.NAME x ∷ k) w
+  pub sign : (x : Token) (a : Expr) (w : W) (k : List Item) → Fits (T.sign x a) w → Fits a w × (Claim k (effect (T.sign x a) w) → Claim (itemOf SIGN x ∷ k) (effect a w))
+  pub negate : (x : Token) (a : Expr) (w : W) (k : List Item) → Fits (T.negate x a) w → Fits a w × (Claim k (effect (T.negate x a) w) → Claim (itemOf NOT x ∷ k) (effect a w))
   pub binary : (x : Token) (a b : Expr) (w : W) (k : List Item) → Fits (T.binary x a b) w
       → Fits a w × Fits b (effect a w) × (Claim k (effect (T.binary x a b) w) → Claim (binaryItem x ∷ k) (effect b (effect a w)))
   pub parens : (a : Expr) (w : W) (k : List Item) → Fits (T.parens a) w → Fits a w × (Claim k (effect (T.parens a) w) → Claim k (effect a w))
@@ -32,10 +35,10 @@ module _ {W : Type 0} {Fits : Expr → W → Type 0} {effect : Expr → W → W}
   postfix-law (T.name x) w k f c = S .name x w k f c
   postfix-law (T.sign x a) w k f c =
       let p = S .sign x a w k f in
-      subst (λ (l : List Item). Claim l w) (sym (append-assoc (postfix a) (itemOf 4 x ∷ []) k)) (postfix-law a w (itemOf 4 x ∷ k) (p .0) (p .1 c))
+      subst (λ (l : List Item). Claim l w) (sym (append-assoc (postfix a) (itemOf SIGN x ∷ []) k)) (postfix-law a w (itemOf SIGN x ∷ k) (p .0) (p .1 c))
   postfix-law (T.negate x a) w k f c =
       let p = S .negate x a w k f in
-      subst (λ (l : List Item). Claim l w) (sym (append-assoc (postfix a) (itemOf 5 x ∷ []) k)) (postfix-law a w (itemOf 5 x ∷ k) (p .0) (p .1 c))
+      subst (λ (l : List Item). Claim l w) (sym (append-assoc (postfix a) (itemOf NOT x ∷ []) k)) (postfix-law a w (itemOf NOT x ∷ k) (p .0) (p .1 c))
   postfix-law (T.binary x a b) w k f c =
       let p = S .binary x a b w k f in
       subst (λ (l : List Item). Claim l w) (sym (append-assoc (postfix a) (postfix b ++ (binaryItem x ∷ [])) k))
@@ -49,11 +52,13 @@ module _ {W : Type 0} {Fits : Expr → W → Type 0} {effect : Expr → W → W}
 
 -- WITH A STACK
 
-step-binary : {A : Type 0} (g : Algebra A) (x : Token) (a b : A) (s : List A) → stepItem g (operatorCode (x .kind)) x (b ∷ (a ∷ s)) ≡ g .onBinary x a b ∷ s
+step-binary : {A : Type 0} (g : Algebra A) (x : Token) (a b : A) (s : List A) → stepItem g (operationOf (x .kind)) x (b ∷ (a ∷ s)) ≡ g .onBinary x a b ∷ s
 unfolding stepItem two
 step-binary g x a b s =
-    let h = code-above (x .kind) in
-    rw (ne-eqb (operatorCode (x .kind)) 1 (λ z. omega arith), ne-eqb (operatorCode (x .kind)) 2 (λ z. omega arith), ne-eqb (operatorCode (x .kind)) 3 (λ z. omega arith), ne-eqb (operatorCode (x .kind)) 4 (λ z. omega arith), ne-eqb (operatorCode (x .kind)) 5 (λ z. omega arith))
+    rw (apart I.NAME (omega arith) (omega arith), apart I.NUMBER (omega arith) (omega arith), apart I.BIT (omega arith) (omega arith), apart SIGN (omega arith) (omega arith), apart NOT (omega arith) (omega arith))
+  where
+    apart : (c : ℕ) → 0 < c → c < PLUS → eqb (operationOf (x .kind)) c ≡ false
+    apart c l h = operation-apart (x .kind) c l h
 
 stack-steps : {A : Type 0} (g : Algebra A) (r : List A) → Steps (λ (e : Expr) (s : List A). Unit {0}) (λ (e : Expr) (s : List A). fold g e ∷ s) (λ (k : List Item) (s : List A). exec g k s ≡ r)
 unfolding exec stepItem one fold

@@ -1,4 +1,3 @@
-pub mod Codes
 pub mod Folds
 pub mod Items
 pub mod Behind

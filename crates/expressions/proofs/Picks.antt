@@ -3,18 +3,18 @@ use mathlib.Core.Path.{_≡_, refl, sym, _∙_, ap}
 use mathlib.Core.Bool.{Bool, true, false, _||_}
 use mathlib.Core.Logic.{_⊎_, inl, inr}
 use mathlib.Core.List.{List, [], _∷_, _++_}
-use Prim.Native.Nat.{ℕ, suc, _≤_, _<_}
+use Prim.Native.Nat.{ℕ}
 use native.Mathlib.Omega.{arith}
-use native.Mathlib.Decide.{decLt}
 use borrow.Author.Tests.{ne-eqb}
 use lib.Dec.{T, eqb}
-use Rattle.grammar.specs.Token.{Token, NAME, NUMBER, ZERO, ONE, LP, RP, MINUS, EQ, GE, AND, OR, XOR, NOT}
+use Rattle.grammar.specs.Token.{Token}
 use Rattle.grammar.specs.Tree.{Expr, number, bit, name, sign, negate, binary, parens}
 use Rattle.grammar.specs.Grammar.{NonTerminal, expression, chain, ands, ors, xors, relation, compared, simple, terms, term, factors, factor, primary, Says, Sym, tk, nt, Fun, item, opens, closes, Production, productions, _↠_}
 use Rattle.grammar.specs.Derivation.{_∈_, here, there}
 use Rattle.grammar.specs.Reader.{choose, elem, first, firsts, follow, nullable, nullables, chosen, Pick, take, no-rule, pick}
 use Rattle.cursor.proofs.Steps.{Into}
-use Rattle.expressions.specs.Tests.{isAdding, isScaling}
+use Rattle.codes.specs.Token.{oneOf, operands, adding, multiplying, relational, NAME, NUMBER, ZERO, ONE, LP, RP, MINUS, AND, OR, XOR, NOT}
+use Rattle.codes.proofs.TokenLaws.{each}
 
 -- the productions
 abbrev pub leafRule : (k : ℕ) → (Token → Expr) → Production primary
@@ -76,10 +76,9 @@ pub pick-sign : pick (productions simple) MINUS ≡ take signRule
 unfolding pick productions chosen firsts nullables first nullable follow elem
 pick-sign = refl
 
-pub pick-term : (k : ℕ) → isAdding k → pick (productions terms) k ≡ take (termRule k)
+pub pick-term : (k : ℕ) → oneOf k adding ≡ true → pick (productions terms) k ≡ take (termRule k)
 unfolding pick productions chosen firsts nullables first nullable follow elem
-pick-term k (inl e) = rw e
-pick-term k (inr e) = rw e
+pick-term = each (λ (k : ℕ). pick (productions terms) k ≡ take (termRule k)) adding (refl, (refl, tt))
 
 pub pick-and : (k : ℕ) → k ≡ AND → pick (productions ands) k ≡ take (andRule k)
 unfolding pick productions chosen firsts nullables first nullable follow elem
@@ -106,79 +105,15 @@ pub chain-xor : (k : ℕ) → k ≡ XOR → pick (productions chain) k ≡ take 
 unfolding pick productions chosen firsts nullables first nullable follow elem
 chain-xor k e = rw e
 
--- a kind within bounds, one after the other
-at-or-above : (j k : ℕ) → j ≤ k → (k ≡ j) ⊎ (suc j ≤ k)
-at-or-above j k h = elim (decLt j k) [ yes l ↦ inr l | no l ↦ inl (omega arith) ]
-
 -- an operator of a product
-pub pick-factor : (k : ℕ) → isScaling k → pick (productions factors) k ≡ take (factorRule k)
+pub pick-factor : (k : ℕ) → oneOf k multiplying ≡ true → pick (productions factors) k ≡ take (factorRule k)
 unfolding pick productions chosen firsts nullables first nullable follow elem
-pick-factor k w = from44 (at-or-above 44 k (w .0))
-  where
-    Goal : Type 0
-    Goal = pick (productions factors) k ≡ take (factorRule k)
-
-    from47 : (k ≡ 47) ⊎ (48 ≤ k) → Goal
-    from47 (inl e) = rw e
-    from47 (inr h) = absurd (omega arith)
-
-    from46 : (k ≡ 46) ⊎ (47 ≤ k) → Goal
-    from46 (inl e) = rw e
-    from46 (inr h) = from47 (at-or-above 47 k h)
-
-    from45 : (k ≡ 45) ⊎ (46 ≤ k) → Goal
-    from45 (inl e) = rw e
-    from45 (inr h) = from46 (at-or-above 46 k h)
-
-    from44 : (k ≡ 44) ⊎ (45 ≤ k) → Goal
-    from44 (inl e) = rw e
-    from44 (inr h) = from45 (at-or-above 45 k h)
+pick-factor = each (λ (k : ℕ). pick (productions factors) k ≡ take (factorRule k)) multiplying (refl, (refl, (refl, (refl, tt))))
 
 -- a comparison
-pub pick-compared : (k : ℕ) → EQ ≤ k → k ≤ GE → pick (productions compared) k ≡ take (comparedRule k)
+pub pick-compared : (k : ℕ) → oneOf k relational ≡ true → pick (productions compared) k ≡ take (comparedRule k)
 unfolding pick productions chosen firsts nullables first nullable follow elem
-pick-compared k a b = from13 (at-or-above 13 k a)
-  where
-    Goal : Type 0
-    Goal = pick (productions compared) k ≡ take (comparedRule k)
-
-    from18 : (k ≡ 18) ⊎ (19 ≤ k) → Goal
-    from18 (inl e) = rw e
-    from18 (inr h) = absurd (omega arith)
-
-    from17 : (k ≡ 17) ⊎ (18 ≤ k) → Goal
-    from17 (inl e) = rw e
-    from17 (inr h) = from18 (at-or-above 18 k h)
-
-    from16 : (k ≡ 16) ⊎ (17 ≤ k) → Goal
-    from16 (inl e) = rw e
-    from16 (inr h) = from17 (at-or-above 17 k h)
-
-    from15 : (k ≡ 15) ⊎ (16 ≤ k) → Goal
-    from15 (inl e) = rw e
-    from15 (inr h) = from16 (at-or-above 16 k h)
-
-    from14 : (k ≡ 14) ⊎ (15 ≤ k) → Goal
-    from14 (inl e) = rw e
-    from14 (inr h) = from15 (at-or-above 15 k h)
-
-    from13 : (k ≡ 13) ⊎ (14 ≤ k) → Goal
-    from13 (inl e) = rw e
-    from13 (inr h) = from14 (at-or-above 14 k h)
-
--- none of the kinds of a primary
-pub no-primary : (k : ℕ) → (k ≡ 0) ⊎ (5 < k) → pick (productions primary) k ≡ no-rule
-unfolding pick productions chosen firsts nullables first nullable follow elem
-no-primary k h = rw (ne-eqb k 2 (away 2 h (omega arith) (omega arith)), ne-eqb k 3 (away 3 h (omega arith) (omega arith)), ne-eqb k 4 (away 4 h (omega arith) (omega arith)), ne-eqb k 1 (away 1 h (omega arith) (omega arith)), ne-eqb k 5 (away 5 h (omega arith) (omega arith)))
-  where
-    away : (j : ℕ) → (k ≡ 0) ⊎ (5 < k) → 0 < j → j ≤ 5 → k ≡ j → ⊥
-    away j (inl z) p r e = omega arith
-    away j (inr z) p r e = omega arith
-
--- The parts that begin with another part: where the other can begin, so can they.
-pub tests : {M A : NonTerminal} (r : Production M) (p : Pick A) (b : Bool) → (b ≡ false → p ≡ no-rule) → (choose b (take r) no-rule ≡ take r) ⊎ ((choose b (take r) no-rule ≡ no-rule) × (p ≡ no-rule))
-tests r p true h = inl refl
-tests r p false h = inr (refl, h refl)
+pick-compared = each (λ (k : ℕ). pick (productions compared) k ≡ take (comparedRule k)) relational (refl, (refl, (refl, (refl, (refl, (refl, tt))))))
 
 pub or-left : (a b : Bool) → a || b ≡ false → a ≡ false
 or-left true b e = e
@@ -187,6 +122,26 @@ or-left false b e = refl
 pub or-right : (a b : Bool) → a || b ≡ false → b ≡ false
 or-right true b e = absurd (let z : _≡_ {A = ℕ} 0 1 = cc in omega arith)
 or-right false b e = e
+
+-- none of the kinds of a primary
+pub no-primary : (k : ℕ) → (k ≡ LP → ⊥) → oneOf k operands ≡ false → pick (productions primary) k ≡ no-rule
+unfolding pick productions chosen firsts nullables first nullable follow elem oneOf
+no-primary k l e =
+    let a = or-right (eqb k NAME) (oneOf k (NUMBER ∷ ZERO ∷ ONE ∷ [])) e in
+    let b = or-right (eqb k NUMBER) (oneOf k (ZERO ∷ ONE ∷ [])) a in
+    let c = or-right (eqb k ZERO) (oneOf k (ONE ∷ [])) b in
+    rw (
+      or-left (eqb k NUMBER) (oneOf k (ZERO ∷ ONE ∷ [])) a,
+      or-left (eqb k ZERO) (oneOf k (ONE ∷ [])) b,
+      or-left (eqb k ONE) false c,
+      or-left (eqb k NAME) (oneOf k (NUMBER ∷ ZERO ∷ ONE ∷ [])) e,
+      ne-eqb k LP l,
+    )
+
+-- The parts that begin with another part: where the other can begin, so can they.
+pub tests : {M A : NonTerminal} (r : Production M) (p : Pick A) (b : Bool) → (b ≡ false → p ≡ no-rule) → (choose b (take r) no-rule ≡ take r) ⊎ ((choose b (take r) no-rule ≡ no-rule) × (p ≡ no-rule))
+tests r p true h = inl refl
+tests r p false h = inr (refl, h refl)
 
 pub into-relation : (k : ℕ) → Into expression relation (nt chain ∷ []) (λ a f. f a) k
 unfolding pick productions chosen firsts nullables first nullable follow elem

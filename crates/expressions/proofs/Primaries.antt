@@ -7,9 +7,11 @@ use Prim.Native.Nat.{ℕ, zero, suc, _+_, _≤_, _<_}
 use native.Mathlib.Omega.{arith}
 use native.Mathlib.Numerals.{add-one}
 use borrow.Author.Tests.{le-ltb, lt-ltb, eqb-true, eqb-false}
-use lib.Dec.{eqb, ltb}
+use lib.Dec.{eqb, ltb, lit<}
+use Rattle.codes.specs.Token.{oneOf, operands, NAME, NUMBER, ZERO, ONE, LP, RP}
+use Rattle.codes.proofs.TokenLaws.{each}
 use lib.ListN.{length}
-use Rattle.grammar.specs.Token.{Token, NAME, NUMBER, ZERO, ONE, LP, RP}
+use Rattle.grammar.specs.Token.{Token}
 use Rattle.grammar.specs.Tree.{Expr, number, bit, name, parens}
 use Rattle.grammar.specs.Grammar.{NonTerminal, expression, primary, Says, Sym, tk, nt, Fun, item, opens, closes, plain, Production, productions}
 use Rattle.grammar.specs.Meter.{InHeading, Meter, over, tick, zeroes}
@@ -70,12 +72,12 @@ module _ (s l : ℕ) (h : InHeading) (f : Fine s h) (d : ℕ) (x : Token) (i : �
 
 module _ {kinds long : List ℕ} {n : ℕ} {q : Pos} {d : ℕ} (asks : Asks n q) (low : d ≤ 16) (clear : q .fault ≡ 0) where
   -- no primary
-  pub primary-refused : (b : Arrays) → (kindIn kinds n (q .at) ≡ 0) ⊎ (5 < kindIn kinds n (q .at)) → ReadsOver primary postfix kinds long n q d b (refuse 3 q) b
-  primary-refused b e = record {
+  pub primary-refused : (b : Arrays) → (kindIn kinds n (q .at) ≡ LP → ⊥) → oneOf (kindIn kinds n (q .at)) operands ≡ false → ReadsOver primary postfix kinds long n q d b (refuse 3 q) b
+  primary-refused b p e = record {
     moves = refuse-moves n q 3 asks clear;
     reads = λ ts holds. record {
       value = number noToken;
-      goes = λ S s l h fine γ κ o. refused-at ts S s l h q d primary γ γ κ (κ (number noToken)) s l d h (no-primary (tokenAt ts (q .at) .kind) (subst (λ (k : ℕ). (k ≡ 0) ⊎ (5 < k)) (kind-is holds (q .at)) e)) clear;
+      goes = λ S s l h fine γ κ o. refused-at ts S s l h q d primary γ γ κ (κ (number noToken)) s l d h (no-primary (tokenAt ts (q .at) .kind) (λ z. p (kind-is holds (q .at) ∙ z)) (subst (λ (k : ℕ). oneOf k operands ≡ false) (kind-is holds (q .at)) e)) clear;
       wrote = λ z. absurd (let g : 3 ≡ 0 = z in omega arith);
     };
   }
@@ -108,21 +110,24 @@ module _ {kinds long : List ℕ} {n : ℕ} {q : Pos} {d : ℕ} (asks : Asks n q)
       wrote : (ts : List Token) → r .fault ≡ 0 → Wrote ts (q .n) (r .n) before after (postfix (f (tokenAt ts (q .at))))
       wrote ts z = subst (λ (m : ℕ). Wrote ts m (r .n) before after (postfix (f (tokenAt ts (q .at))))) (item-taken q a (flagIn long (q .at)) ea .same) (rw (flat (tokenAt ts (q .at))) (wrote-put put z ts))
 
-  pub primary-leaf : (k : ℕ) → 0 < k → k ≤ 4 → kindIn kinds n (q .at) ≡ k
+  pub primary-leaf : (k : ℕ) → oneOf k operands ≡ true → kindIn kinds n (q .at) ≡ k
       → (a r : Pos) → a ≡ itemAt (flagIn long (q .at)) q → {before after : Arrays} → Put a (leafCode k) (q .at) before r after → ReadsOver primary postfix kinds long n q d before r after
   unfolding postfix
-  primary-leaf k pos up e a r ea {before} {after} put = go k pos up e put
+  primary-leaf k op e a r ea {before} {after} put =
+      each (λ (j : ℕ). kindIn kinds n (q .at) ≡ j → Put a (leafCode j) (q .at) before r after → ReadsOver primary postfix kinds long n q d before r after) operands (
+        (λ z w. leaf NAME (λ x. name x) _ pick-name (λ x. refl) (inside NAME (lit< tt) z) z a r ea w),
+        (
+          (λ z w. leaf NUMBER (λ x. number x) _ pick-number (λ x. refl) (inside NUMBER (lit< tt) z) z a r ea w),
+          (
+            (λ z w. leaf ZERO (λ x. bit x) _ pick-zero (λ x. refl) (inside ZERO (lit< tt) z) z a r ea w),
+            ((λ z w. leaf ONE (λ x. bit x) _ pick-one (λ x. refl) (inside ONE (lit< tt) z) z a r ea w), tt),
+          ),
+        ),
+      )
+      k op e put
     where
       inside : (j : ℕ) → 0 < j → kindIn kinds n (q .at) ≡ j → q .at < n
       inside j p z = kind-inside kinds n (q .at) j z p
-
-      go : (j : ℕ) → 0 < j → j ≤ 4 → kindIn kinds n (q .at) ≡ j → Put a (leafCode j) (q .at) before r after → ReadsOver primary postfix kinds long n q d before r after
-      go zero p u z w = absurd (omega arith)
-      go (suc zero) p u z w = leaf 1 (λ x. name x) 1 pick-name (λ x. refl) (inside 1 p z) z a r ea w
-      go (suc (suc zero)) p u z w = leaf 2 (λ x. number x) 2 pick-number (λ x. refl) (inside 2 p z) z a r ea w
-      go (suc (suc (suc zero))) p u z w = leaf 3 (λ x. bit x) 3 pick-zero (λ x. refl) (inside 3 p z) z a r ea w
-      go (suc (suc (suc (suc zero)))) p u z w = leaf 4 (λ x. bit x) 3 pick-one (λ x. refl) (inside 4 p z) z a r ea w
-      go (suc (suc (suc (suc (suc m))))) p u z w = absurd (omega arith)
 
   -- ( e ), where 16 are open already
   pub parens-full : (b : Arrays) → 16 ≤ d → kindIn kinds n (q .at) ≡ 5 → ReadsOver primary postfix kinds long n q d b (refuse 4 q) b

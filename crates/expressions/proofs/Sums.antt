@@ -1,14 +1,16 @@
 -- The returns of the readers of factors, products, sums and relations: each follows the grammar's reader by its laws. Assumes nothing.
 use mathlib.Core.Path.{_≡_, refl, sym, _∙_, ap, subst}
-use mathlib.Core.Bool.{Bool, true, false, _||_}
+use mathlib.Core.Bool.{Bool, true, false, _||_, not}
 use mathlib.Core.Logic.{_⊎_, inl, inr}
 use mathlib.Core.List.{List, [], _∷_, _++_, append-assoc, append-nil}
 use Prim.Native.Nat.{ℕ, zero, suc, _+_, _-_, _≤_, _<_}
 use native.Mathlib.Omega.{arith}
 use borrow.Author.Tests.{ne-eqb, eqb-true, eqb-false, lt-ltb, le-ltb, ltb-true, ltb-false}
-use lib.Dec.{T, eqb, ltb}
+use lib.Dec.{T, eqb, ltb, lit<}
 use lib.ListN.{length}
-use Rattle.grammar.specs.Token.{Token, PLUS, MINUS, EQ, GE, AND, OR, XOR, TIMES, DIVIDE, MOD, REM}
+use Rattle.codes.specs.Operation as O
+use Rattle.codes.specs.Operation.{operationOf}
+use Rattle.grammar.specs.Token.{Token}
 use Rattle.grammar.specs.Tree.{Expr, sign, negate, binary}
 use Rattle.grammar.specs.Grammar.{NonTerminal, expression, chain, ands, ors, xors, relation, compared, simple, terms, term, factors, factor, primary, Says, Sym, tk, nt, Fun, item, Production, productions, _↠_}
 use Rattle.grammar.specs.Meter.{InHeading}
@@ -21,9 +23,11 @@ use Rattle.cursor.specs.Tokens.{tokenAt, kindIn, Holds}
 use Rattle.cursor.specs.Reading.{from, Fine, Asks, Moves}
 use Rattle.cursor.proofs.Measures.{turn-falls}
 use Rattle.cursor.proofs.Steps.{kind-is, kind-inside, from-stays, rule-at, left-at, into-at}
-use Rattle.expressions.specs.Postfix.{Item, itemOf, operatorCode, binaryItem, postfix}
+use Rattle.expressions.specs.Postfix.{Item, itemOf, binaryItem, postfix}
 use Rattle.expressions.specs.Written.{Arrays, Wrote}
-use Rattle.expressions.specs.Tests.{isAdding, isScaling, isLogical, moreTerms, moreFactors, goesOn}
+use Rattle.expressions.specs.Tests.{moreTerms, moreFactors, goesOn}
+use Rattle.codes.specs.Token.{oneOf, operands, adding, multiplying, relational, logical, PLUS, MINUS, EQ, GE, AND, OR, XOR, TIMES, DIVIDE, MOD, REM, NOT}
+use Rattle.codes.proofs.TokenLaws.{each, some-kind, not-one}
 use Rattle.expressions.specs.Readers.{Reads, ReadsOver, Tail, sum, product, and-chain, or-chain, xor-chain, tailOf, wholeOf, ofTail, ofWhole, operatorOf, Partly, PartlyOver, Turn, TurnOver, OneTurn}
 use Rattle.expressions.proofs.Items.{wrote-none, wrote-then}
 use Rattle.expressions.proofs.Behind.{Behind, BehindOver}
@@ -60,7 +64,7 @@ module _ {kinds long : List ℕ} {n : ℕ} {q : Pos} {d : ℕ} where
     };
   }
 
-  pub factor-not : {before after : Arrays} {r : Pos} → kindIn kinds n (q .at) ≡ 22 → BehindOver primary postfix 22 5 kinds long n q d before r after → ReadsOver factor postfix kinds long n q d before r after
+  pub factor-not : {before after : Arrays} {r : Pos} → kindIn kinds n (q .at) ≡ 22 → BehindOver primary postfix NOT O.NOT kinds long n q d before r after → ReadsOver factor postfix kinds long n q d before r after
   unfolding compose postfix
   factor-not e b = record {
     moves = b .moves;
@@ -99,7 +103,7 @@ module _ {kinds long : List ℕ} {n : ℕ} {q : Pos} {d : ℕ} where
     };
   }
 
-  pub signed-sign : {before after : Arrays} {r : Pos} → kindIn kinds n (q .at) ≡ 12 → BehindOver term postfix 12 4 kinds long n q d before r after → PartlyOver sum kinds long n q d before r after
+  pub signed-sign : {before after : Arrays} {r : Pos} → kindIn kinds n (q .at) ≡ 12 → BehindOver term postfix MINUS O.SIGN kinds long n q d before r after → PartlyOver sum kinds long n q d before r after
   unfolding compose postfix
   signed-sign e b = record {
     moves = b .moves;
@@ -110,11 +114,20 @@ module _ {kinds long : List ℕ} {n : ℕ} {q : Pos} {d : ℕ} where
     };
   }
 
+-- an operator of a chain is none of a sum or of a product
+logical-alone : (k : ℕ) → oneOf k logical ≡ true → (oneOf k adding ≡ true → ⊥) × (oneOf k multiplying ≡ true → ⊥)
+unfolding oneOf
+logical-alone =
+    each (λ (k : ℕ). (oneOf k adding ≡ true → ⊥) × (oneOf k multiplying ≡ true → ⊥)) logical ((no-clash, no-clash), ((no-clash, no-clash), ((no-clash, no-clash), tt)))
+  where
+    no-clash : false ≡ true → ⊥
+    no-clash e = let z : _≡_ {A = ℕ} 0 1 = cc in omega arith
+
 -- an operator with two operands is written with the code of its kind
-binary-items : (q : Pos) {kinds long : List ℕ} {n : ℕ} {ts : List Token} {m p : ℕ} {before after : Arrays} → Holds ts kinds long n → (k : ℕ) → kindIn kinds n (q .at) ≡ k → {code : ℕ} → code ≡ operatorCode k → (xs : List Item)
+binary-items : (q : Pos) {kinds long : List ℕ} {n : ℕ} {ts : List Token} {m p : ℕ} {before after : Arrays} → Holds ts kinds long n → (k : ℕ) → kindIn kinds n (q .at) ≡ k → {code : ℕ} → code ≡ operationOf k → (xs : List Item)
     → Wrote ts m p before after (xs ++ (itemOf code (tokenAt ts (q .at)) ∷ [])) → Wrote ts m p before after (xs ++ (binaryItem (tokenAt ts (q .at)) ∷ []))
 binary-items q {ts = ts} {m} {p} {before} {after} holds k e c xs w =
-    subst (λ (j : ℕ). Wrote ts m p before after (xs ++ (itemOf j (tokenAt ts (q .at)) ∷ []))) (c ∙ ap operatorCode (sym e ∙ kind-is holds (q .at))) w
+    subst (λ (j : ℕ). Wrote ts m p before after (xs ++ (itemOf j (tokenAt ts (q .at)) ∷ []))) (c ∙ ap operationOf (sym e ∙ kind-is holds (q .at))) w
 
 -- Where the lists go on, and where they end.
 -- a list's operands, and an operand's tree
@@ -132,7 +145,7 @@ treeOf and-chain v = v
 treeOf or-chain v = v
 treeOf xor-chain v = v
 
-module _ {kinds long : List ℕ} {n : ℕ} {q : Pos} {d : ℕ} (k : ℕ) (e : kindIn kinds n (q .at) ≡ k) {code : ℕ} (is-code : code ≡ operatorCode k) where
+module _ {kinds long : List ℕ} {n : ℕ} {q : Pos} {d : ℕ} (k : ℕ) (e : kindIn kinds n (q .at) ≡ k) {code : ℕ} (is-code : code ≡ operationOf k) where
   one-turn : (t : Tail) {before after : Arrays} {r : Pos} (b : BehindOver (operandOf t) (λ (v : Says (operandOf t)). postfix (treeOf t v)) k code kinds long n q d before r after)
       → ((ts : List Token) (holds : Holds ts kinds long n) → (a : Expr) (S : NonTerminal) (s l : ℕ) (h : InHeading) → Fine s h → (γ : List Sym) (κ : Expr → Fun γ (Says S)) → Ok (nt (tailOf t) ∷ γ)
       → from ts S s l h q d (nt (tailOf t) ∷ γ) (ofTail t S γ κ a) ≡ from ts S s l h r d (nt (tailOf t) ∷ γ) (ofTail t S γ κ (binary (tokenAt ts (q .at)) a (treeOf t (b .reads ts holds .value)))))
@@ -164,10 +177,9 @@ module _ {kinds long : List ℕ} {n : ℕ} {q : Pos} {d : ℕ} (k : ℕ) (e : ki
   list-turn xor-chain op b = one-turn xor-chain b (λ ts holds a S s l h fine γ κ o. taken xors relation postfix (nt xors ∷ []) (λ x v f a. f (binary x a v)) e (pick-xor k op) b ts holds S s l h fine γ (λ f. κ (f a)) o)
 
   -- the same of whichever chain has this operator
-  pub joined-turn : {before after : Arrays} {r : Pos} → isLogical k → (t : Tail) → operatorOf t k → BehindOver relation postfix k code kinds long n q d before r after → OneTurn t kinds long n q d before r after
-  joined-turn w sum (inl op) b = absurd (omega arith)
-  joined-turn w sum (inr op) b = absurd (omega arith)
-  joined-turn w product op b = absurd (omega arith)
+  pub joined-turn : {before after : Arrays} {r : Pos} → oneOf k logical ≡ true → (t : Tail) → operatorOf t k → BehindOver relation postfix k code kinds long n q d before r after → OneTurn t kinds long n q d before r after
+  joined-turn w sum op b = absurd (logical-alone k w .0 op)
+  joined-turn w product op b = absurd (logical-alone k w .1 op)
   joined-turn w and-chain op b = list-turn and-chain op b
   joined-turn w or-chain op b = list-turn or-chain op b
   joined-turn w xor-chain op b = list-turn xor-chain op b
@@ -217,16 +229,20 @@ ok-factors : (γ : List Sym) → Ok (nt term ∷ γ) → Ok (nt factors ∷ γ)
 unfolding productions
 ok-factors γ o = ok-of {r = nt factor ∷ nt factors ∷ [] ↠ λ a f. f a} γ here o .2
 
-no-scaling : (k : ℕ) → (isScaling k → ⊥) → T (elem k (first factors)) → ⊥
-unfolding first elem
-no-scaling k f t = rw (ne-eqb k TIMES (λ z. f (omega arith)), ne-eqb k DIVIDE (λ z. f (omega arith)), ne-eqb k MOD (λ z. f (omega arith)), ne-eqb k REM (λ z. f (omega arith))) at t
+no-term : (k : ℕ) → oneOf k adding ≡ false → T (elem k (first terms)) → ⊥
+unfolding first elem oneOf
+no-term k e t = subst T e t
+
+no-factor : (k : ℕ) → oneOf k multiplying ≡ false → T (elem k (first factors)) → ⊥
+unfolding first elem oneOf
+no-factor k e t = subst T e t
 
 -- a list ends where its operator does not stand, or where the reader has refused
 tail-end : (t : Tail) (ts : List Token) (S : NonTerminal) (s l : ℕ) (h : InHeading) (r : Pos) (d : ℕ) → (operatorOf t (tokenAt ts (r .at) .kind) → ⊥) → (γ : List Sym) (κ : Expr → Fun γ (Says S)) (a : Expr) → Ok (nt (tailOf t) ∷ γ)
     → from ts S s l h r d (nt (tailOf t) ∷ γ) (ofTail t S γ κ a) ≡ from ts S s l h r d γ (κ a)
 unfolding productions first elem
-tail-end sum ts S s l h r d f γ κ a o = left-at ts S s l h r d terms γ (λ g. κ (g a)) o (λ b. b) here (λ z. rw (ne-eqb (tokenAt ts (r .at) .kind) PLUS (λ w. f (inl w)), ne-eqb (tokenAt ts (r .at) .kind) MINUS (λ w. f (inr w))) at z)
-tail-end product ts S s l h r d f γ κ a o = left-at ts S s l h r d factors γ (λ g. κ (g a)) o (λ b. b) here (no-scaling (tokenAt ts (r .at) .kind) f)
+tail-end sum ts S s l h r d f γ κ a o = left-at ts S s l h r d terms γ (λ g. κ (g a)) o (λ b. b) here (no-term (tokenAt ts (r .at) .kind) (not-one _ _ f))
+tail-end product ts S s l h r d f γ κ a o = left-at ts S s l h r d factors γ (λ g. κ (g a)) o (λ b. b) here (no-factor (tokenAt ts (r .at) .kind) (not-one _ _ f))
 tail-end and-chain ts S s l h r d f γ κ a o = left-at ts S s l h r d ands γ (λ g. κ (g a)) o (λ b. b) here (λ z. rw (ne-eqb (tokenAt ts (r .at) .kind) AND f) at z)
 tail-end or-chain ts S s l h r d f γ κ a o = left-at ts S s l h r d ors γ (λ g. κ (g a)) o (λ b. b) here (λ z. rw (ne-eqb (tokenAt ts (r .at) .kind) OR f) at z)
 tail-end xor-chain ts S s l h r d f γ κ a o = left-at ts S s l h r d xors γ (λ g. κ (g a)) o (λ b. b) here (λ z. rw (ne-eqb (tokenAt ts (r .at) .kind) XOR f) at z)
@@ -240,32 +256,31 @@ tail-over t ts S s l h r d f γ κ a o = go (eqb (r .fault) 0) refl
     go false e = from-stays ts S s l s l h h r r d d (nt (tailOf t) ∷ γ) γ (ofTail t S γ κ a) (κ a) (eqb-false (r .fault) 0 e) refl refl
 
 -- the tests of the loops
-pub more-terms-true : (f k : ℕ) → moreTerms f k ≡ true → (f ≡ 0) × isAdding k
-unfolding moreTerms
-more-terms-true f k e = go (eqb f 0) refl (eqb k 11) refl e
+pub more-true : (f : ℕ) (b : Bool) → choose (eqb f 0) b false ≡ true → (f ≡ 0) × (b ≡ true)
+more-true f b e = go (eqb f 0) refl e
   where
-    go : (a : Bool) → eqb f 0 ≡ a → (b : Bool) → eqb k 11 ≡ b → choose a (choose b true (eqb k 12)) false ≡ true → (f ≡ 0) × isAdding k
-    go true u true v z = (eqb-true f 0 u, inl (eqb-true k 11 v))
-    go true u false v z = (eqb-true f 0 u, inr (eqb-true k 12 z))
-    go false u b v z = absurd (let y : _≡_ {A = ℕ} 0 1 = cc in omega arith)
+    go : (a : Bool) → eqb f 0 ≡ a → choose a b false ≡ true → (f ≡ 0) × (b ≡ true)
+    go true u z = (eqb-true f 0 u, z)
+    go false u z = absurd (let y : _≡_ {A = ℕ} 0 1 = cc in omega arith)
 
-pub more-terms-false : (f k : ℕ) → moreTerms f k ≡ false → f ≡ 0 → isAdding k → ⊥
+more-false : (f : ℕ) (b : Bool) → choose (eqb f 0) b false ≡ false → f ≡ 0 → b ≡ true → ⊥
+more-false f b e z w = let y : true ≡ false = (rw (z, w) at e) in let x : _≡_ {A = ℕ} 0 1 = cc in omega arith
+
+pub more-terms-true : (f k : ℕ) → moreTerms f k ≡ true → (f ≡ 0) × (oneOf k adding ≡ true)
 unfolding moreTerms
-more-terms-false f k e z (inl w) = let y : true ≡ false = (rw (z, w) at e) in let x : _≡_ {A = ℕ} 0 1 = cc in omega arith
-more-terms-false f k e z (inr w) = let y : true ≡ false = (rw (z, w) at e) in let x : _≡_ {A = ℕ} 0 1 = cc in omega arith
+more-terms-true f k e = more-true f (oneOf k adding) e
 
-pub more-factors-true : (f k : ℕ) → moreFactors f k ≡ true → (f ≡ 0) × isScaling k
-unfolding moreFactors
-more-factors-true f k e = go (eqb f 0) refl (ltb k 44) refl e
-  where
-    go : (a : Bool) → eqb f 0 ≡ a → (b : Bool) → ltb k 44 ≡ b → choose a (choose b false (ltb k 48)) false ≡ true → (f ≡ 0) × isScaling k
-    go true u true v z = absurd (let y : _≡_ {A = ℕ} 0 1 = cc in omega arith)
-    go true u false v z = (eqb-true f 0 u, (ltb-false k 44 v, let w = ltb-true k 48 z in omega arith))
-    go false u b v z = absurd (let y : _≡_ {A = ℕ} 0 1 = cc in omega arith)
+pub more-terms-false : (f k : ℕ) → moreTerms f k ≡ false → f ≡ 0 → oneOf k adding ≡ true → ⊥
+unfolding moreTerms
+more-terms-false f k e = more-false f (oneOf k adding) e
 
-pub more-factors-false : (f k : ℕ) → moreFactors f k ≡ false → f ≡ 0 → isScaling k → ⊥
+pub more-factors-true : (f k : ℕ) → moreFactors f k ≡ true → (f ≡ 0) × (oneOf k multiplying ≡ true)
 unfolding moreFactors
-more-factors-false f k e z w = let y : true ≡ false = (rw (z, le-ltb k 44 (w .0), lt-ltb k 48 (omega arith)) at e) in let x : _≡_ {A = ℕ} 0 1 = cc in omega arith
+more-factors-true f k e = more-true f (oneOf k multiplying) e
+
+pub more-factors-false : (f k : ℕ) → moreFactors f k ≡ false → f ≡ 0 → oneOf k multiplying ≡ true → ⊥
+unfolding moreFactors
+more-factors-false f k e = more-false f (oneOf k multiplying) e
 
 pub goes-on-true : (f k o : ℕ) → goesOn f k o ≡ true → (f ≡ 0) × (k ≡ o)
 unfolding goesOn
@@ -309,24 +324,16 @@ product-read {kinds} {n = n} {r = r} u v e =
     }
 
 -- a relation
-no-comparison : (k : ℕ) → (k < 13) ⊎ (18 < k) → T (elem k (first compared)) → ⊥
-unfolding first elem
-no-comparison k h t = rw (ne-eqb k 13 (away 13 h (omega arith) (omega arith)), ne-eqb k 14 (away 14 h (omega arith) (omega arith)), ne-eqb k 15 (away 15 h (omega arith) (omega arith)), ne-eqb k 16 (away 16 h (omega arith) (omega arith)), ne-eqb k 17 (away 17 h (omega arith) (omega arith)), ne-eqb k 18 (away 18 h (omega arith) (omega arith))) at t
-  where
-    away : (j : ℕ) → (k < 13) ⊎ (18 < k) → 13 ≤ j → j ≤ 18 → k ≡ j → ⊥
-    away j (inl z) p r e = omega arith
-    away j (inr z) p r e = omega arith
+no-comparison : (k : ℕ) → oneOf k relational ≡ false → T (elem k (first compared)) → ⊥
+unfolding first elem oneOf
+no-comparison k e t = subst T e t
 
-no-chain : (k : ℕ) → (k < 19) ⊎ (21 < k) → T (elem k (first chain)) → ⊥
-unfolding first elem
-no-chain k h t = rw (ne-eqb k 19 (away 19 h (omega arith) (omega arith)), ne-eqb k 20 (away 20 h (omega arith) (omega arith)), ne-eqb k 21 (away 21 h (omega arith) (omega arith))) at t
-  where
-    away : (j : ℕ) → (k < 19) ⊎ (21 < k) → 19 ≤ j → j ≤ 21 → k ≡ j → ⊥
-    away j (inl z) p r e = omega arith
-    away j (inr z) p r e = omega arith
+no-chain : (k : ℕ) → oneOf k logical ≡ false → T (elem k (first chain)) → ⊥
+unfolding first elem oneOf
+no-chain k e t = subst T e t
 
 module _ {kinds long : List ℕ} {n : ℕ} {q : Pos} {d : ℕ} where
-  pub relation-plain : {before after : Arrays} {r : Pos} → ReadsOver simple postfix kinds long n q d before r after → (kindIn kinds n (r .at) < 13) ⊎ (18 < kindIn kinds n (r .at)) → ReadsOver relation postfix kinds long n q d before r after
+  pub relation-plain : {before after : Arrays} {r : Pos} → ReadsOver simple postfix kinds long n q d before r after → oneOf (kindIn kinds n (r .at)) relational ≡ false → ReadsOver relation postfix kinds long n q d before r after
   unfolding compose productions
   relation-plain {r = r} p f = record {
     moves = p .moves;
@@ -337,15 +344,15 @@ module _ {kinds long : List ℕ} {n : ℕ} {q : Pos} {d : ℕ} where
           into-at ts S s l h q d relation simple (nt compared ∷ []) (λ a f. f a) γ κ (into-simple (tokenAt ts (q .at) .kind))
           ∙ (p .reads ts holds .goes S s l h fine (nt compared ∷ γ) (λ a f. κ (f a)) ok
           ∙ left-at ts S s l h r d compared γ (λ f. κ (f (p .reads ts holds .value))) (ok .2) (λ a. a) here
-          (no-comparison (tokenAt ts (r .at) .kind) (subst (λ (k : ℕ). (k < 13) ⊎ (18 < k)) (kind-is holds (r .at)) f)));
+          (no-comparison (tokenAt ts (r .at) .kind) (subst (λ (k : ℕ). oneOf k relational ≡ false) (kind-is holds (r .at)) f)));
       wrote = p .reads ts holds .wrote;
     };
   }
 
-  pub relation-compared : {before middle after : Arrays} {a r : Pos} (k : ℕ) → ReadsOver simple postfix kinds long n q d before a middle → EQ ≤ k → k ≤ GE → kindIn kinds n (a .at) ≡ k
-      → {code : ℕ} → code ≡ operatorCode k → BehindOver simple postfix k code kinds long n a d middle r after → ReadsOver relation postfix kinds long n q d before r after
+  pub relation-compared : {before middle after : Arrays} {a r : Pos} (k : ℕ) → ReadsOver simple postfix kinds long n q d before a middle → oneOf k relational ≡ true → kindIn kinds n (a .at) ≡ k
+      → {code : ℕ} → code ≡ operationOf k → BehindOver simple postfix k code kinds long n a d middle r after → ReadsOver relation postfix kinds long n q d before r after
   unfolding compose productions postfix
-  relation-compared {before} {middle} {after} {a} {r} k p low high e is-code b = record {
+  relation-compared {before} {middle} {after} {a} {r} k p op e is-code b = record {
     moves = moves-then (p .moves) (b .moves);
     reads = λ ts holds.
         let x = p .reads ts holds in
@@ -356,13 +363,13 @@ module _ {kinds long : List ℕ} {n : ℕ} {q : Pos} {d : ℕ} where
               let ok : Ok (nt simple ∷ nt compared ∷ γ) = ok-of {r = nt simple ∷ nt compared ∷ [] ↠ λ a f. f a} γ here o in
               into-at ts S s l h q d relation simple (nt compared ∷ []) (λ a f. f a) γ κ (into-simple (tokenAt ts (q .at) .kind))
               ∙ (x .goes S s l h fine (nt compared ∷ γ) (λ a f. κ (f a)) ok
-              ∙ taken compared simple postfix [] (λ t v c. binary t c v) e (pick-compared k low high) b ts holds S s l h fine γ (λ f. κ (f (x .value))) (ok .2));
+              ∙ taken compared simple postfix [] (λ t v c. binary t c v) e (pick-compared k op) b ts holds S s l h fine γ (λ f. κ (f (x .value))) (ok .2));
           wrote = λ z. wrote-then (x .wrote (b .moves .began z)) (binary-items a holds k e is-code (postfix (y .value)) (y .wrote z));
         };
   }
 
   -- an expression
-  pub expression-plain : {before after : Arrays} {r : Pos} → ReadsOver relation postfix kinds long n q d before r after → (kindIn kinds n (r .at) < 19) ⊎ (21 < kindIn kinds n (r .at)) → ReadsOver expression postfix kinds long n q d before r after
+  pub expression-plain : {before after : Arrays} {r : Pos} → ReadsOver relation postfix kinds long n q d before r after → oneOf (kindIn kinds n (r .at)) logical ≡ false → ReadsOver expression postfix kinds long n q d before r after
   unfolding compose productions
   expression-plain {r = r} p f = record {
     moves = p .moves;
@@ -373,18 +380,17 @@ module _ {kinds long : List ℕ} {n : ℕ} {q : Pos} {d : ℕ} where
           into-at ts S s l h q d expression relation (nt chain ∷ []) (λ a f. f a) γ κ (into-relation (tokenAt ts (q .at) .kind))
           ∙ (p .reads ts holds .goes S s l h fine (nt chain ∷ γ) (λ a f. κ (f a)) ok
           ∙ left-at ts S s l h r d chain γ (λ f. κ (f (p .reads ts holds .value))) (ok .2) (λ a. a) here
-          (no-chain (tokenAt ts (r .at) .kind) (subst (λ (k : ℕ). (k < 19) ⊎ (21 < k)) (kind-is holds (r .at)) f)));
+          (no-chain (tokenAt ts (r .at) .kind) (subst (λ (k : ℕ). oneOf k logical ≡ false) (kind-is holds (r .at)) f)));
       wrote = p .reads ts holds .wrote;
     };
   }
 
 -- at an operator a chain is a chain of that operator
-chain-start : (q : Pos) (d : ℕ) (t : Tail) (k : ℕ) → isLogical k → operatorOf t k → {kinds long : List ℕ} {n : ℕ} {ts : List Token} → Holds ts kinds long n → kindIn kinds n (q .at) ≡ k → (S : NonTerminal) (s l : ℕ) (h : InHeading) (γ : List Sym) (κ : Expr → Fun γ (Says S)) (a : Expr)
+chain-start : (q : Pos) (d : ℕ) (t : Tail) (k : ℕ) → oneOf k logical ≡ true → operatorOf t k → {kinds long : List ℕ} {n : ℕ} {ts : List Token} → Holds ts kinds long n → kindIn kinds n (q .at) ≡ k → (S : NonTerminal) (s l : ℕ) (h : InHeading) (γ : List Sym) (κ : Expr → Fun γ (Says S)) (a : Expr)
     → from ts S s l h q d (nt chain ∷ γ) (λ f. κ (f a)) ≡ from ts S s l h q d (nt (tailOf t) ∷ γ) (ofTail t S γ κ a)
 unfolding compose
-chain-start q d sum k w (inl op) holds e S s l h γ κ a = absurd (omega arith)
-chain-start q d sum k w (inr op) holds e S s l h γ κ a = absurd (omega arith)
-chain-start q d product k w op holds e S s l h γ κ a = absurd (omega arith)
+chain-start q d sum k w op holds e S s l h γ κ a = absurd (logical-alone k w .0 op)
+chain-start q d product k w op holds e S s l h γ κ a = absurd (logical-alone k w .1 op)
 chain-start q d and-chain k w op {kinds} {long} {n} {ts} holds e S s l h γ κ a =
     let i : q .at < length ts = (let z = holds .count in let w = kind-inside kinds n (q .at) k e (omega arith) in omega arith) in
     let z = sym (kind-is holds (q .at)) ∙ e in
@@ -401,37 +407,30 @@ chain-start q d xor-chain k w op {kinds} {long} {n} {ts} holds e S s l h γ κ a
     rule-at ts S s l h q d chain γ (λ f. κ (f a)) (xorRule k .rhs ↠ xorRule k .says) (ap (pick (productions chain)) z ∙ chain-xor k op) i
     ∙ sym (rule-at ts S s l h q d xors γ (λ f. κ (f a)) (xorRule k) (ap (pick (productions xors)) z ∙ pick-xor k op) i)
 
-ok-chain : (t : Tail) (k : ℕ) → isLogical k → operatorOf t k → (γ : List Sym) → Ok (nt chain ∷ γ) → Ok (nt (tailOf t) ∷ γ)
-ok-chain sum k w (inl op) γ o = absurd (omega arith)
-ok-chain sum k w (inr op) γ o = absurd (omega arith)
-ok-chain product k w op γ o = absurd (omega arith)
+ok-chain : (t : Tail) (k : ℕ) → oneOf k logical ≡ true → operatorOf t k → (γ : List Sym) → Ok (nt chain ∷ γ) → Ok (nt (tailOf t) ∷ γ)
+ok-chain sum k w op γ o = absurd (logical-alone k w .0 op)
+ok-chain product k w op γ o = absurd (logical-alone k w .1 op)
 ok-chain and-chain k w op γ o = ok-of γ (pick-rule (andRule k .rhs ↠ andRule k .says) k (chain-and k op)) o .2
 ok-chain or-chain k w op γ o = ok-of γ (pick-rule (orRule k .rhs ↠ orRule k .says) k (chain-or k op)) o .2
 ok-chain xor-chain k w op γ o = ok-of γ (pick-rule (xorRule k .rhs ↠ xorRule k .says) k (chain-xor k op)) o .2
 
-not-operator : (t : Tail) (k j : ℕ) → isLogical k → operatorOf t k → (j ≡ k → ⊥) → operatorOf t j → ⊥
-not-operator sum k j w (inl op) f z = omega arith
-not-operator sum k j w (inr op) f z = omega arith
-not-operator product k j w op f z = omega arith
+not-operator : (t : Tail) (k j : ℕ) → oneOf k logical ≡ true → operatorOf t k → (j ≡ k → ⊥) → operatorOf t j → ⊥
+not-operator sum k j w op f z = logical-alone k w .0 op
+not-operator product k j w op f z = logical-alone k w .1 op
 not-operator and-chain k j w op f z = f (z ∙ sym op)
 not-operator or-chain k j w op f z = f (z ∙ sym op)
 not-operator xor-chain k j w op f z = f (z ∙ sym op)
 
 -- an operator of a chain
-pub which : (k : ℕ) → 19 ≤ k → k ≤ 21 → (t : Tail) × operatorOf t k
-which k a b = go (eqb k 19) refl (eqb k 20) refl
-  where
-    go : (u : Bool) → eqb k 19 ≡ u → (v : Bool) → eqb k 20 ≡ v → (t : Tail) × operatorOf t k
-    go true u v w = (and-chain, eqb-true k 19 u)
-    go false u true w = (or-chain, eqb-true k 20 w)
-    go false u false w = (xor-chain, let x = eqb-false k 19 u in let y = eqb-false k 20 w in omega arith)
+pub which : (k : ℕ) → oneOf k logical ≡ true → (t : Tail) × operatorOf t k
+which = each (λ (k : ℕ). (t : Tail) × operatorOf t k) logical ((and-chain, refl), ((or-chain, refl), ((xor-chain, refl), tt)))
 
-pub expression-chain : {kinds long : List ℕ} {n : ℕ} {q a r : Pos} {d : ℕ} {before middle after : Arrays} (k : ℕ) → 19 ≤ k → k ≤ 21 → ReadsOver relation postfix kinds long n q d before a middle → kindIn kinds n (a .at) ≡ k
+pub expression-chain : {kinds long : List ℕ} {n : ℕ} {q a r : Pos} {d : ℕ} {before middle after : Arrays} (k : ℕ) → oneOf k logical ≡ true → ReadsOver relation postfix kinds long n q d before a middle → kindIn kinds n (a .at) ≡ k
     → ((t : Tail) → operatorOf t k → TurnOver t kinds long n a d middle r after) → goesOn (r .fault) (kindIn kinds n (r .at)) k ≡ false → ReadsOver expression postfix kinds long n q d before r after
 unfolding compose productions
-expression-chain {kinds} {long} {n} {q} {a} {r} {d} {before} {middle} {after} k low high p e turns stop =
-    let t : Tail = which k low high .0 in
-    let op : operatorOf t k = which k low high .1 in
+expression-chain {kinds} {long} {n} {q} {a} {r} {d} {before} {middle} {after} k w p e turns stop =
+    let t : Tail = which k w .0 in
+    let op : operatorOf t k = which k w .1 in
     let v = turns t op in
     record {
       moves = moves-then (p .moves) (v .moves);
@@ -442,12 +441,12 @@ expression-chain {kinds} {long} {n} {q} {a} {r} {d} {before} {middle} {after} k 
             value = y .grow (x .value);
             goes = λ S s l h fine γ κ o.
                 let ok : Ok (nt relation ∷ nt chain ∷ γ) = ok-of {r = nt relation ∷ nt chain ∷ [] ↠ λ a f. f a} γ here o in
-                let on : Ok (nt (tailOf t) ∷ γ) = ok-chain t k (low, high) op γ (ok .2) in
+                let on : Ok (nt (tailOf t) ∷ γ) = ok-chain t k w op γ (ok .2) in
                 into-at ts S s l h q d expression relation (nt chain ∷ []) (λ a f. f a) γ κ (into-relation (tokenAt ts (q .at) .kind))
                 ∙ (x .goes S s l h fine (nt chain ∷ γ) (λ a f. κ (f a)) ok
-                ∙ (chain-start a d t k (low, high) op holds e S s l h γ κ (x .value)
+                ∙ (chain-start a d t k w op holds e S s l h γ κ (x .value)
                 ∙ (y .goes (x .value) S s l h fine γ κ on
-                ∙ tail-over t ts S s l h r d (λ z. not-operator t k (tokenAt ts (r .at) .kind) (low, high) op (λ w. goes-on-false (r .fault) (kindIn kinds n (r .at)) k stop z (kind-is holds (r .at) ∙ w))) γ κ (y .grow (x .value)) on)));
+                ∙ tail-over t ts S s l h r d (λ z. not-operator t k (tokenAt ts (r .at) .kind) w op (λ w. goes-on-false (r .fault) (kindIn kinds n (r .at)) k stop z (kind-is holds (r .at) ∙ w))) γ κ (y .grow (x .value)) on)));
             wrote = λ z. subst (λ (l : List Item). Wrote ts (q .n) (r .n) before after l) (sym (y .grows (x .value))) (wrote-then (x .wrote (v .moves .began z)) (y .wrote z));
           };
     }
@@ -456,9 +455,31 @@ expression-chain {kinds} {long} {n} {q} {a} {r} {d} {before} {middle} {after} k 
 pub asks-after : {n : ℕ} {q a : Pos} → Asks n q → Moves n q a → Asks n a
 asks-after u v = record { short = omega arith; inside = omega arith; room = omega arith; few = omega arith }
 
-pub adding-bounds : (k : ℕ) → isAdding k → (0 < k) × (k ≤ 12)
-adding-bounds k (inl e) = omega arith
-adding-bounds k (inr e) = omega arith
+-- a test that is turned round
+pub denied : (b : Bool) → not b ≡ true → b ≡ false
+denied true e = sym e
+denied false e = refl
+
+pub affirmed : (b : Bool) → not b ≡ false → b ≡ true
+affirmed true e = refl
+affirmed false e = sym e
+
+-- a name or a literal is not `not`
+pub operand-not : (k : ℕ) → oneOf k operands ≡ true → k ≡ NOT → ⊥
+operand-not = each (λ (k : ℕ). k ≡ NOT → ⊥) operands ((λ e. omega arith), ((λ e. omega arith), ((λ e. omega arith), ((λ e. omega arith), tt))))
+
+-- an operator is no end of the text
+pub adding-kind : (k : ℕ) → oneOf k adding ≡ true → 0 < k
+adding-kind = some-kind adding (lit< tt, (lit< tt, tt))
+
+pub multiplying-kind : (k : ℕ) → oneOf k multiplying ≡ true → 0 < k
+multiplying-kind = some-kind multiplying (lit< tt, (lit< tt, (lit< tt, (lit< tt, tt))))
+
+pub relational-kind : (k : ℕ) → oneOf k relational ≡ true → 0 < k
+relational-kind = some-kind relational (lit< tt, (lit< tt, (lit< tt, (lit< tt, (lit< tt, (lit< tt, tt))))))
+
+pub logical-kind : (k : ℕ) → oneOf k logical ≡ true → 0 < k
+logical-kind = some-kind logical (lit< tt, (lit< tt, (lit< tt, tt)))
 
 -- a turn brings the loop nearer to its end: it gets further, or refuses
 pub loop-falls : (n : ℕ) (a r : Pos) → a .at ≤ n → a .fault ≡ 0 → Moves n a r → (r .fault ≡ 0 → a .at < r .at) → (n - r .at) + (1 - r .fault) < (n - a .at) + (1 - a .fault)
@@ -473,18 +494,18 @@ pub chained-none : {k : ℕ} {kinds long : List ℕ} {n : ℕ} {q : Pos} {d : �
 chained-none {n = n} {q} b a = record { moves = stay-moves n q a; turns = λ t op. turn-none t b a }
 
 -- one turn more, at the operator j
-pub chained-again : {k : ℕ} {kinds long : List ℕ} {n : ℕ} {q a r : Pos} {d : ℕ} {before middle after : Arrays} → (j : ℕ) → 19 ≤ k → k ≤ 21 → j ≡ k → Chained k kinds long n q d before a middle
+pub chained-again : {k : ℕ} {kinds long : List ℕ} {n : ℕ} {q a r : Pos} {d : ℕ} {before middle after : Arrays} → (j : ℕ) → oneOf k logical ≡ true → j ≡ k → Chained k kinds long n q d before a middle
     → ((t : Tail) → operatorOf t j → OneTurn t kinds long n a d middle r after) → Chained k kinds long n q d before r after
-chained-again {k} j low high e c f =
-    let w = which k low high in
+chained-again {k} j l e c f =
+    let w = which k l in
     record {
       moves = moves-then (c .moves) (f (w .0) (subst (operatorOf (w .0)) (sym e) (w .1)) .turn .moves);
       turns = λ t op. turn-then (c .turns t op) (f t (subst (operatorOf t) (sym e) op) .turn);
     }
 
-pub chained-falls : {k : ℕ} {kinds long : List ℕ} {n : ℕ} {a r : Pos} {d : ℕ} {middle after : Arrays} → (j : ℕ) → 19 ≤ k → k ≤ 21 → j ≡ k → a .at ≤ n → a .fault ≡ 0
+pub chained-falls : {k : ℕ} {kinds long : List ℕ} {n : ℕ} {a r : Pos} {d : ℕ} {middle after : Arrays} → (j : ℕ) → oneOf k logical ≡ true → j ≡ k → a .at ≤ n → a .fault ≡ 0
     → ((t : Tail) → operatorOf t j → OneTurn t kinds long n a d middle r after) → (n - r .at) + (1 - r .fault) < (n - a .at) + (1 - a .fault)
-chained-falls {k} {n = n} {a} {r} j low high e i z f =
-    let w = which k low high in
+chained-falls {k} {n = n} {a} {r} j l e i z f =
+    let w = which k l in
     let o = f (w .0) (subst (operatorOf (w .0)) (sym e) (w .1)) in
     loop-falls n a r i z (o .turn .moves) (o .further)

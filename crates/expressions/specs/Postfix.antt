@@ -1,8 +1,10 @@
 -- Expressions as lists of items, each behind its operands, and the same fold on the tree and on the items. Assumes nothing.
 use mathlib.Core.List.{List, [], _∷_, _++_}
-use Prim.Native.Nat.{ℕ, _+_, _-_}
-use lib.Dec.{eqb, ltb}
-use Rattle.grammar.specs.Token.{Token, TIMES}
+use Prim.Native.Nat.{ℕ}
+use lib.Dec.{eqb}
+use Rattle.codes.specs.Item as I
+use Rattle.codes.specs.Operation.{SIGN, NOT, operationOf}
+use Rattle.grammar.specs.Token.{Token}
 use Rattle.grammar.specs.Tree.{Expr, number, bit, name, sign, negate, binary, parens}
 use Rattle.grammar.specs.Reader.{choose}
 
@@ -14,20 +16,17 @@ pub record Item : Type 0 where
 abbrev pub itemOf : ℕ → Token → Item
 itemOf c x = record { code = c; token = x }
 
--- the codes: 1 a name, 2 a number, 3 '0' or '1', 4 a sign, 5 not; an operator with two operands by its token's kind, 18 for + up to 28 for xor, 29 for * up to 32 for rem
-unfoldable pub operatorCode : ℕ → ℕ
-operatorCode k = choose (ltb k TIMES) (k + 7) (k - 15)
-
+-- an operator with two operands has the code of its operation, by its token's kind
 abbrev pub binaryItem : Token → Item
-binaryItem x = itemOf (operatorCode (x .kind)) x
+binaryItem x = itemOf (operationOf (x .kind)) x
 
 -- "Code is postfix, left operand first": parentheses are dropped
 unfoldable pub postfix : Expr → List Item
-postfix (number x) = itemOf 2 x ∷ []
-postfix (bit x) = itemOf 3 x ∷ []
-postfix (name x) = itemOf 1 x ∷ []
-postfix (sign x a) = postfix a ++ (itemOf 4 x ∷ [])
-postfix (negate x a) = postfix a ++ (itemOf 5 x ∷ [])
+postfix (number x) = itemOf I.NUMBER x ∷ []
+postfix (bit x) = itemOf I.BIT x ∷ []
+postfix (name x) = itemOf I.NAME x ∷ []
+postfix (sign x a) = postfix a ++ (itemOf SIGN x ∷ [])
+postfix (negate x a) = postfix a ++ (itemOf NOT x ∷ [])
 postfix (binary x a b) = postfix a ++ (postfix b ++ (binaryItem x ∷ []))
 postfix (parens a) = postfix a
 
@@ -63,8 +62,8 @@ two f (b ∷ (a ∷ s)) = f a b ∷ s
 -- one item, by its code
 unfoldable pub stepItem : {A : Type 0} → Algebra A → ℕ → Token → List A → List A
 stepItem g c x s =
-    choose (eqb c 1) (g .onName x ∷ s) (choose (eqb c 2) (g .onNumber x ∷ s) (choose (eqb c 3) (g .onBit x ∷ s)
-    (choose (eqb c 4) (one (g .onSign x) s) (choose (eqb c 5) (one (g .onNot x) s) (two (g .onBinary x) s)))))
+    choose (eqb c I.NAME) (g .onName x ∷ s) (choose (eqb c I.NUMBER) (g .onNumber x ∷ s) (choose (eqb c I.BIT) (g .onBit x ∷ s)
+    (choose (eqb c SIGN) (one (g .onSign x) s) (choose (eqb c NOT) (one (g .onNot x) s) (two (g .onBinary x) s)))))
 
 -- all items, from the first on
 unfoldable pub exec : {A : Type 0} → Algebra A → List Item → List A → List A

@@ -1,9 +1,11 @@
 -- What a reader of a part of an expression answers and writes, against the grammar's reader: whatever comes after the part, the grammar's reader goes on
 -- where the reader left off, with the part's tree; and the items written are the postfix of that tree. Assumes nothing.
 use mathlib.Core.Path.{_≡_}
+use mathlib.Core.Bool.{true}
 use mathlib.Core.List.{List, [], _∷_, _++_}
 use Prim.Native.Nat.{ℕ, _+_, _<_, _≤_}
-use Rattle.grammar.specs.Token.{Token, AND, OR, XOR}
+use Rattle.codes.specs.Token.{oneOf, adding, multiplying, AND, OR, XOR}
+use Rattle.grammar.specs.Token.{Token}
 use Rattle.grammar.specs.Tree.{Expr}
 use Rattle.grammar.specs.Grammar.{NonTerminal, expression, ands, ors, xors, simple, terms, term, factors, Says, Sym, nt, Fun}
 use Rattle.grammar.specs.Meter.{InHeading}
@@ -13,7 +15,6 @@ use Rattle.cursor.specs.Tokens.{Holds}
 use Rattle.cursor.specs.Reading.{from, Fine, Moves}
 use Rattle.expressions.specs.Postfix.{Item, postfix}
 use Rattle.expressions.specs.Written.{Arrays, Wrote}
-use Rattle.expressions.specs.Tests.{isAdding, isScaling}
 
 -- from q to r the reader has read an M with a value, and written its items behind those before
 pub record Reads (M : NonTerminal) (flat : Says M → List Item) (ts : List Token) (d : ℕ) (q r : Pos) (before after : Arrays) : Type 0 where
@@ -58,8 +59,8 @@ ofTail xor-chain S γ κ a f = κ (f a)
 
 -- the kinds of a list's operators
 abbrev pub operatorOf : Tail → ℕ → Type 0
-operatorOf sum k = isAdding k
-operatorOf product k = isScaling k
+operatorOf sum k = oneOf k adding ≡ true
+operatorOf product k = oneOf k multiplying ≡ true
 operatorOf and-chain k = k ≡ AND
 operatorOf or-chain k = k ≡ OR
 operatorOf xor-chain k = k ≡ XOR

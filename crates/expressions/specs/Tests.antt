@@ -1,35 +1,21 @@
 -- The tests on kinds by which the readers of expressions choose. Assumes nothing.
-use mathlib.Core.Path.{_≡_}
-use mathlib.Core.Bool.{Bool, true, false}
-use mathlib.Core.Logic.{_⊎_}
-use Prim.Native.Nat.{ℕ, _≤_}
-use lib.Dec.{eqb, leb, ltb}
-use Rattle.grammar.specs.Token.{PLUS, MINUS, AND, XOR, TIMES, REM}
+use mathlib.Core.Bool.{Bool, false}
+use Prim.Native.Nat.{ℕ}
+use lib.Dec.{eqb}
+use Rattle.codes.specs.Item as I
+use Rattle.codes.specs.Token.{oneOf, adding, multiplying, NAME, NUMBER}
 use Rattle.grammar.specs.Reader.{choose}
 
--- a name has code 1, a number 2, '0' and '1' have 3
+-- the code of a leaf's item, by the kind of its token: '0' and '1' have one
 abbrev pub leafCode : ℕ → ℕ
-leafCode k = choose (eqb k 4) 3 k
+leafCode k = choose (eqb k NAME) I.NAME (choose (eqb k NUMBER) I.NUMBER I.BIT)
 
--- + or -
-abbrev pub isAdding : ℕ → Type 0
-isAdding k = (k ≡ PLUS) ⊎ (k ≡ MINUS)
-
--- *, /, mod or rem
-abbrev pub isScaling : ℕ → Type 0
-isScaling k = (TIMES ≤ k) × (k ≤ REM)
-
--- and, or or xor
-abbrev pub isLogical : ℕ → Type 0
-isLogical k = (AND ≤ k) × (k ≤ XOR)
-
--- a sum goes on where the cursor has not refused and + or - stands there
+-- a list of operands goes on where the cursor has not refused and an operator of the list stands there: of a sum, of a product
 unfoldable pub moreTerms : ℕ → ℕ → Bool
-moreTerms fault k = choose (eqb fault 0) (choose (eqb k 11) true (eqb k 12)) false
+moreTerms fault k = choose (eqb fault 0) (oneOf k adding) false
 
--- a product goes on where the cursor has not refused and *, /, mod or rem stands there
 unfoldable pub moreFactors : ℕ → ℕ → Bool
-moreFactors fault k = choose (eqb fault 0) (choose (ltb k 44) false (ltb k 48)) false
+moreFactors fault k = choose (eqb fault 0) (oneOf k multiplying) false
 
 -- a chain goes on where the cursor has not refused and its operator stands there
 unfoldable pub goesOn : ℕ → ℕ → ℕ → Bool

@@ -3,12 +3,19 @@
 ghost use mathlib.Core.Path.{_≡_};
 ghost use Prim.Native.Nat.{ℕ, _+_, _<_, _≤_};
 ghost use Rattle.grammar.specs.Grammar.{primary as primaryPart, factor as factorPart, term as termPart, simple as simplePart, relation as relationPart, expression as expressionPart};
+ghost use mathlib.Core.Bool.{true};
+ghost use Rattle.codes.specs.Token.{oneOf, operands, adding, multiplying, logical, LP};
+ghost use Rattle.codes.specs.Operation.{operationOf};
 ghost use Rattle.cursor.specs.Reading.{Asks};
 ghost use Rattle.cursor.specs.Tokens.{kindIn};
 ghost use Rattle.expressions.specs.Postfix.{postfix};
 ghost use Rattle.expressions.specs.Written.{arrays, Put};
-ghost use Rattle.expressions.specs.Tests.{leafCode, isAdding, isScaling, isLogical, moreTerms, moreFactors, goesOn};
+ghost use Rattle.expressions.specs.Tests.{leafCode, moreTerms, moreFactors, goesOn};
 ghost use Rattle.expressions.specs.Readers.{Tail, sum, product as productTail, operatorOf, ReadsOver, PartlyOver, OneTurn};
+use codes::limit;
+use codes::operation;
+use codes::refusal;
+use codes::token;
 use cursor::Pos;
 use cursor::expect;
 use cursor::item;
@@ -16,7 +23,13 @@ use cursor::kind_at;
 use cursor::refused;
 
 // Writes an item behind the others, unless the cursor has refused.
-fn put(codes: &mut [u8; 16384], tokens: &mut [u16; 16384], q: Pos, code: u8, at: usize) -> Pos
+fn put(
+    codes: &mut [u8; limit::TEXT],
+    tokens: &mut [u16; limit::TEXT],
+    q: Pos,
+    code: u8,
+    at: usize,
+) -> Pos
     requires { ⌜ (q .fault ≡ 0 → q .n < 16384) × (at < 65536) ⌝ }
     ensures { λ r. ⌜ Put q code at (arrays (now (codes .entry)) (now (tokens .entry))) r (arrays (now (codes .exit)) (now (tokens .exit))) ⌝ }
 {
@@ -34,31 +47,46 @@ fn put(codes: &mut [u8; 16384], tokens: &mut [u16; 16384], q: Pos, code: u8, at:
     }
 }
 
+// Writes the item of an operator with two operands, by the kind of its token.
+fn put_operator(
+    codes: &mut [u8; limit::TEXT],
+    tokens: &mut [u16; limit::TEXT],
+    q: Pos,
+    kind: u8,
+    at: usize,
+) -> Pos
+    requires { ⌜ (q .fault ≡ 0 → q .n < 16384) × (at < 65536) ⌝ }
+    ensures { λ r. ⌜ Put q (operationOf kind) at (arrays (now (codes .entry)) (now (tokens .entry))) r (arrays (now (codes .exit)) (now (tokens .exit))) ⌝ }
+{
+    put(codes, tokens, q, operation::operation_of(kind), at)
+}
+
 // The code of a leaf's item, by the kind of its token: '0' and '1' have one code.
 fn leaf_code(kind: u8) -> u8
     ensures { λ r. ⌜ r ≡ leafCode kind ⌝ }
 {
-    if kind == 4 {
-        return 3;
+    match kind {
+        token::NAME => codes::item::NAME,
+        token::NUMBER => codes::item::NUMBER,
+        _ => codes::item::BIT,
     }
-    kind
 }
 
 // The expression in parentheses that begins at this token.
 fn parenthesised(
-    kinds: &[u8; 16384],
-    long: &[u8; 16384],
+    kinds: &[u8; limit::TEXT],
+    long: &[u8; limit::TEXT],
     n: usize,
     q: Pos,
     parens: usize,
-    codes: &mut [u8; 16384],
-    tokens: &mut [u16; 16384],
+    codes: &mut [u8; limit::TEXT],
+    tokens: &mut [u16; limit::TEXT],
 ) -> Pos
-    requires { ⌜ (parens ≤ 16) × Asks n q × (q .fault ≡ 0) × (kindIn (now kinds) n (q .at) ≡ 5) ⌝ }
+    requires { ⌜ (parens ≤ 16) × Asks n q × (q .fault ≡ 0) × (kindIn (now kinds) n (q .at) ≡ LP) ⌝ }
     ensures { λ r. ⌜ ReadsOver primaryPart postfix (now (kinds .entry)) (now (long .entry)) n q parens (arrays (now (codes .entry)) (now (tokens .entry))) r (arrays (now (codes .exit)) (now (tokens .exit))) ⌝ }
 {
-    if parens >= 16 {
-        return refused(q, 4);
+    if parens >= limit::PARENTHESES {
+        return refused(q, refusal::LIMIT_PASSED);
     }
     let a = Pos {
         fault: 0,
@@ -67,19 +95,19 @@ fn parenthesised(
         n: q.n,
     };
     let b = expression(kinds, long, n, a, parens + 1, codes, tokens);
-    expect(kinds, long, n, b, 6)
+    expect(kinds, long, n, b, token::RP)
 }
 
-// A literal or a name; what has no kind, the end of the text, is refused.
+// A literal or a name.
 fn leaf(
-    kinds: &[u8; 16384],
-    long: &[u8; 16384],
+    kinds: &[u8; limit::TEXT],
+    long: &[u8; limit::TEXT],
     n: usize,
     q: Pos,
-    codes: &mut [u8; 16384],
-    tokens: &mut [u16; 16384],
+    codes: &mut [u8; limit::TEXT],
+    tokens: &mut [u16; limit::TEXT],
 ) -> Pos
-    requires { ⌜ Asks n q × (kindIn (now kinds) n (q .at) ≤ 4) ⌝ }
+    requires { ⌜ Asks n q × (oneOf (kindIn (now kinds) n (q .at)) operands ≡ true) ⌝ }
     ensures { λ r. ⌜ ((parens : ℕ) → parens ≤ 16 → ReadsOver primaryPart postfix (now (kinds .entry)) (now (long .entry)) n q parens (arrays (now (codes .entry)) (now (tokens .entry))) r (arrays (now (codes .exit)) (now (tokens .exit)))) ⌝ }
 {
     if q.fault != 0 {
@@ -87,22 +115,19 @@ fn leaf(
     }
     let at = q.at;
     let kind = kind_at(kinds, n, at);
-    if kind == 0 {
-        return refused(q, 3);
-    }
     let a = item(long, q);
     put(codes, tokens, a, leaf_code(kind), at)
 }
 
 // A literal, a name or an expression in parentheses.
 fn primary(
-    kinds: &[u8; 16384],
-    long: &[u8; 16384],
+    kinds: &[u8; limit::TEXT],
+    long: &[u8; limit::TEXT],
     n: usize,
     q: Pos,
     parens: usize,
-    codes: &mut [u8; 16384],
-    tokens: &mut [u16; 16384],
+    codes: &mut [u8; limit::TEXT],
+    tokens: &mut [u16; limit::TEXT],
 ) -> Pos
     requires { ⌜ (parens ≤ 16) × Asks n q ⌝ }
     ensures { λ r. ⌜ ReadsOver primaryPart postfix (now (kinds .entry)) (now (long .entry)) n q parens (arrays (now (codes .entry)) (now (tokens .entry))) r (arrays (now (codes .exit)) (now (tokens .exit))) ⌝ }
@@ -112,70 +137,70 @@ fn primary(
     }
     let at = q.at;
     let kind = kind_at(kinds, n, at);
-    if kind == 5 {
+    if kind == token::LP {
         return parenthesised(kinds, long, n, q, parens, codes, tokens);
     }
-    if kind > 4 {
-        return refused(q, 3);
+    if token::is_operand(kind) {
+        return leaf(kinds, long, n, q, codes, tokens);
     }
-    leaf(kinds, long, n, q, codes, tokens)
+    refused(q, refusal::NO_SENTENCE)
 }
 
 // A primary, perhaps behind `not`. Most are leaves, which are read at once.
 fn factor(
-    kinds: &[u8; 16384],
-    long: &[u8; 16384],
+    kinds: &[u8; limit::TEXT],
+    long: &[u8; limit::TEXT],
     n: usize,
     q: Pos,
     parens: usize,
-    codes: &mut [u8; 16384],
-    tokens: &mut [u16; 16384],
+    codes: &mut [u8; limit::TEXT],
+    tokens: &mut [u16; limit::TEXT],
 ) -> Pos
     requires { ⌜ (parens ≤ 16) × Asks n q ⌝ }
     ensures { λ r. ⌜ ReadsOver factorPart postfix (now (kinds .entry)) (now (long .entry)) n q parens (arrays (now (codes .entry)) (now (tokens .entry))) r (arrays (now (codes .exit)) (now (tokens .exit))) ⌝ }
 {
     let at = q.at;
     let kind = kind_at(kinds, n, at);
-    if kind < 5 {
+    if token::is_operand(kind) {
         return leaf(kinds, long, n, q, codes, tokens);
     }
-    if kind != 22 {
+    if kind != token::NOT {
         return primary(kinds, long, n, q, parens, codes, tokens);
     }
     let a = item(long, q);
     let b = primary(kinds, long, n, a, parens, codes, tokens);
-    put(codes, tokens, b, 5, at)
+    put(codes, tokens, b, operation::NOT, at)
 }
 
 // A further factor of a product: its operator, *, /, mod or rem, and a factor.
 fn scaled(
-    kinds: &[u8; 16384],
-    long: &[u8; 16384],
+    kinds: &[u8; limit::TEXT],
+    long: &[u8; limit::TEXT],
     n: usize,
     q: Pos,
     parens: usize,
-    codes: &mut [u8; 16384],
-    tokens: &mut [u16; 16384],
+    codes: &mut [u8; limit::TEXT],
+    tokens: &mut [u16; limit::TEXT],
 ) -> Pos
-    requires { ⌜ (parens ≤ 16) × Asks n q × isScaling (kindIn (now kinds) n (q .at)) ⌝ }
+    requires { ⌜ (parens ≤ 16) × Asks n q × (oneOf (kindIn (now kinds) n (q .at)) multiplying ≡ true) ⌝ }
     ensures { λ r. ⌜ OneTurn productTail (now (kinds .entry)) (now (long .entry)) n q parens (arrays (now (codes .entry)) (now (tokens .entry))) r (arrays (now (codes .exit)) (now (tokens .exit))) ⌝ }
 {
     let at = q.at;
     let kind = kind_at(kinds, n, at);
     let a = item(long, q);
     let b = factor(kinds, long, n, a, parens, codes, tokens);
-    put(codes, tokens, b, kind - 15, at)
+    put_operator(codes, tokens, b, kind, at)
 }
 
 // A product: the first factor, and further factors.
 fn product(
-    kinds: &[u8; 16384],
-    long: &[u8; 16384],
+    kinds: &[u8; limit::TEXT],
+    long: &[u8; limit::TEXT],
     n: usize,
     q: Pos,
     parens: usize,
-    codes: &mut [u8; 16384],
-    tokens: &mut [u16; 16384],
+    codes: &mut [u8; limit::TEXT],
+    tokens: &mut [u16; limit::TEXT],
 ) -> Pos
     requires { ⌜ (parens ≤ 16) × Asks n q ⌝ }
     ensures { λ r. ⌜ ReadsOver termPart postfix (now (kinds .entry)) (now (long .entry)) n q parens (arrays (now (codes .entry)) (now (tokens .entry))) r (arrays (now (codes .exit)) (now (tokens .exit))) ⌝ }
@@ -189,55 +214,55 @@ fn product(
 
 // The first term of a sum, perhaps behind a sign, which covers the whole term.
 fn signed(
-    kinds: &[u8; 16384],
-    long: &[u8; 16384],
+    kinds: &[u8; limit::TEXT],
+    long: &[u8; limit::TEXT],
     n: usize,
     q: Pos,
     parens: usize,
-    codes: &mut [u8; 16384],
-    tokens: &mut [u16; 16384],
+    codes: &mut [u8; limit::TEXT],
+    tokens: &mut [u16; limit::TEXT],
 ) -> Pos
     requires { ⌜ (parens ≤ 16) × Asks n q ⌝ }
     ensures { λ r. ⌜ PartlyOver sum (now (kinds .entry)) (now (long .entry)) n q parens (arrays (now (codes .entry)) (now (tokens .entry))) r (arrays (now (codes .exit)) (now (tokens .exit))) ⌝ }
 {
     let at = q.at;
-    if kind_at(kinds, n, at) != 12 {
+    if kind_at(kinds, n, at) != token::MINUS {
         return product(kinds, long, n, q, parens, codes, tokens);
     }
     let a = item(long, q);
     let whole = product(kinds, long, n, a, parens, codes, tokens);
-    put(codes, tokens, whole, 4, at)
+    put(codes, tokens, whole, operation::SIGN, at)
 }
 
 // A further term of a sum: its operator, + or -, and a product.
 fn term(
-    kinds: &[u8; 16384],
-    long: &[u8; 16384],
+    kinds: &[u8; limit::TEXT],
+    long: &[u8; limit::TEXT],
     n: usize,
     q: Pos,
     parens: usize,
-    codes: &mut [u8; 16384],
-    tokens: &mut [u16; 16384],
+    codes: &mut [u8; limit::TEXT],
+    tokens: &mut [u16; limit::TEXT],
 ) -> Pos
-    requires { ⌜ (parens ≤ 16) × Asks n q × isAdding (kindIn (now kinds) n (q .at)) ⌝ }
+    requires { ⌜ (parens ≤ 16) × Asks n q × (oneOf (kindIn (now kinds) n (q .at)) adding ≡ true) ⌝ }
     ensures { λ r. ⌜ OneTurn sum (now (kinds .entry)) (now (long .entry)) n q parens (arrays (now (codes .entry)) (now (tokens .entry))) r (arrays (now (codes .exit)) (now (tokens .exit))) ⌝ }
 {
     let at = q.at;
     let kind = kind_at(kinds, n, at);
     let a = item(long, q);
     let b = product(kinds, long, n, a, parens, codes, tokens);
-    put(codes, tokens, b, kind + 7, at)
+    put_operator(codes, tokens, b, kind, at)
 }
 
 // A sum: the first term, and further terms.
 fn simple(
-    kinds: &[u8; 16384],
-    long: &[u8; 16384],
+    kinds: &[u8; limit::TEXT],
+    long: &[u8; limit::TEXT],
     n: usize,
     q: Pos,
     parens: usize,
-    codes: &mut [u8; 16384],
-    tokens: &mut [u16; 16384],
+    codes: &mut [u8; limit::TEXT],
+    tokens: &mut [u16; limit::TEXT],
 ) -> Pos
     requires { ⌜ (parens ≤ 16) × Asks n q ⌝ }
     ensures { λ r. ⌜ ReadsOver simplePart postfix (now (kinds .entry)) (now (long .entry)) n q parens (arrays (now (codes .entry)) (now (tokens .entry))) r (arrays (now (codes .exit)) (now (tokens .exit))) ⌝ }
@@ -251,13 +276,13 @@ fn simple(
 
 // A sum, or a comparison of two.
 fn relation(
-    kinds: &[u8; 16384],
-    long: &[u8; 16384],
+    kinds: &[u8; limit::TEXT],
+    long: &[u8; limit::TEXT],
     n: usize,
     q: Pos,
     parens: usize,
-    codes: &mut [u8; 16384],
-    tokens: &mut [u16; 16384],
+    codes: &mut [u8; limit::TEXT],
+    tokens: &mut [u16; limit::TEXT],
 ) -> Pos
     requires { ⌜ (parens ≤ 16) × Asks n q ⌝ }
     ensures { λ r. ⌜ ReadsOver relationPart postfix (now (kinds .entry)) (now (long .entry)) n q parens (arrays (now (codes .entry)) (now (tokens .entry))) r (arrays (now (codes .exit)) (now (tokens .exit))) ⌝ }
@@ -265,46 +290,43 @@ fn relation(
     let a = simple(kinds, long, n, q, parens, codes, tokens);
     let at = a.at;
     let kind = kind_at(kinds, n, at);
-    if kind < 13 {
-        return a;
+    if token::is_relational(kind) {
+        let b = item(long, a);
+        let c = simple(kinds, long, n, b, parens, codes, tokens);
+        return put_operator(codes, tokens, c, kind, at);
     }
-    if kind > 18 {
-        return a;
-    }
-    let b = item(long, a);
-    let c = simple(kinds, long, n, b, parens, codes, tokens);
-    put(codes, tokens, c, kind + 7, at)
+    a
 }
 
 // A further relation of a chain: its operator, and, or or xor, and a relation.
 fn joined(
-    kinds: &[u8; 16384],
-    long: &[u8; 16384],
+    kinds: &[u8; limit::TEXT],
+    long: &[u8; limit::TEXT],
     n: usize,
     q: Pos,
     parens: usize,
-    codes: &mut [u8; 16384],
-    tokens: &mut [u16; 16384],
+    codes: &mut [u8; limit::TEXT],
+    tokens: &mut [u16; limit::TEXT],
 ) -> Pos
-    requires { ⌜ (parens ≤ 16) × Asks n q × isLogical (kindIn (now kinds) n (q .at)) ⌝ }
+    requires { ⌜ (parens ≤ 16) × Asks n q × (oneOf (kindIn (now kinds) n (q .at)) logical ≡ true) ⌝ }
     ensures { λ r. ⌜ ((t : Tail) → operatorOf t (kindIn (now (kinds .entry)) n (q .at)) → OneTurn t (now (kinds .entry)) (now (long .entry)) n q parens (arrays (now (codes .entry)) (now (tokens .entry))) r (arrays (now (codes .exit)) (now (tokens .exit)))) ⌝ }
 {
     let at = q.at;
     let kind = kind_at(kinds, n, at);
     let a = item(long, q);
     let b = relation(kinds, long, n, a, parens, codes, tokens);
-    put(codes, tokens, b, kind + 7, at)
+    put_operator(codes, tokens, b, kind, at)
 }
 
 // An expression: a relation, or a chain of them joined by `and` alone, `or` alone or `xor` alone.
 pub fn expression(
-    kinds: &[u8; 16384],
-    long: &[u8; 16384],
+    kinds: &[u8; limit::TEXT],
+    long: &[u8; limit::TEXT],
     n: usize,
     q: Pos,
     parens: usize,
-    codes: &mut [u8; 16384],
-    tokens: &mut [u16; 16384],
+    codes: &mut [u8; limit::TEXT],
+    tokens: &mut [u16; limit::TEXT],
 ) -> Pos
     requires { ⌜ (parens ≤ 16) × Asks n q ⌝ }
     ensures { λ r. ⌜ ReadsOver expressionPart postfix (now (kinds .entry)) (now (long .entry)) n q parens (arrays (now (codes .entry)) (now (tokens .entry))) r (arrays (now (codes .exit)) (now (tokens .exit))) ⌝ }
@@ -312,10 +334,7 @@ pub fn expression(
     let mut a = relation(kinds, long, n, q, parens, codes, tokens);
     let first = a.at;
     let kind = kind_at(kinds, n, first);
-    if kind < 19 {
-        return a;
-    }
-    if kind > 21 {
+    if !token::is_logical(kind) {
         return a;
     }
     while joins(kinds, n, a, kind) {
@@ -325,37 +344,29 @@ pub fn expression(
 }
 
 // Whether a further term follows.
-fn more_terms(kinds: &[u8; 16384], n: usize, q: Pos) -> bool
+fn more_terms(kinds: &[u8; limit::TEXT], n: usize, q: Pos) -> bool
     requires { ⌜ n ≤ 16384 ⌝ }
     ensures { λ r. ⌜ r ≡ moreTerms (q .fault) (kindIn (now (kinds .entry)) n (q .at)) ⌝ }
 {
     if q.fault != 0 {
         return false;
     }
-    let kind = kind_at(kinds, n, q.at);
-    if kind == 11 {
-        return true;
-    }
-    kind == 12
+    token::is_adding(kind_at(kinds, n, q.at))
 }
 
 // Whether a further factor follows.
-fn more_factors(kinds: &[u8; 16384], n: usize, q: Pos) -> bool
+fn more_factors(kinds: &[u8; limit::TEXT], n: usize, q: Pos) -> bool
     requires { ⌜ n ≤ 16384 ⌝ }
     ensures { λ r. ⌜ r ≡ moreFactors (q .fault) (kindIn (now (kinds .entry)) n (q .at)) ⌝ }
 {
     if q.fault != 0 {
         return false;
     }
-    let kind = kind_at(kinds, n, q.at);
-    if kind < 44 {
-        return false;
-    }
-    kind < 48
+    token::is_multiplying(kind_at(kinds, n, q.at))
 }
 
 // Whether the chain of this operator goes on.
-fn joins(kinds: &[u8; 16384], n: usize, q: Pos, kind: u8) -> bool
+fn joins(kinds: &[u8; limit::TEXT], n: usize, q: Pos, kind: u8) -> bool
     requires { ⌜ n ≤ 16384 ⌝ }
     ensures { λ r. ⌜ r ≡ goesOn (q .fault) (kindIn (now (kinds .entry)) n (q .at)) kind ⌝ }
 {

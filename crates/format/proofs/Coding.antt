@@ -6,11 +6,12 @@ use mathlib.Core.Bool.{Bool, true, false}
 use mathlib.Core.Option.{Option, some, Option·map, bind as andThen, none}
 use mathlib.Core.List.{List, [], _∷_, _++_, append-nil}
 use lib.ListN.{length, length-append}
-use Rattle.design.specs.Types.{inRange}
+use Rattle.design.specs.Types.{ExprTy, inRange}
 use Rattle.design.specs.Expression.{Leaf, int, bit, input, variable, Unary, sign, invert, Binary, plus, minus, equal, unequal, less, at-most, greater, at-least, and, or, xor, times, divide, modulo, remainder, Expr, leaf, unary, binary, items, Out, fine, fault, bind, Algebra, fold}
 use Rattle.design.proofs.Postfix.{Lays, lay-items, stack-law}
 use Rattle.semantics.proofs.Basic.{none-some}
-use Rattle.format.specs.Code.{Operation, push, apply1, apply2, post, unaryByte, binaryByte, bitByte, first, others, operationBytes, code, Taken, readOperation, operations, Machine, onto, run, runOperations, runCode}
+use Rattle.format.specs.Code.{Operation, push, apply1, apply2, post, bitByte, first, others, operationBytes, code, Taken, readOperation, operations, Machine, onto, run, runOperations, runCode}
+use Rattle.codes.specs.Operation.{unaryCode, binaryCode}
 use Rattle.format.proofs.Words.{integer-bytes}
 use Rattle.format.proofs.Basic.{andThen-some, map-some}
 
@@ -41,7 +42,14 @@ abbrev pub untypedAlgebra : {X : Type 0} → Machine X → Algebra X
 untypedAlgebra M = record { ofLeaf = M .ofLeaf; ofUnary = λ o t x. M .ofUnary o x; ofBinary = λ o t x y. M .ofBinary o x y }
 
 -- operations stand behind their operands, so that the law of postfix items (design/proofs/Postfix.antt) is theirs
-pub post-laid : Lays push apply1 apply2 post
+-- code has no types
+abbrev pub untyped1 : Unary → ExprTy → Operation
+untyped1 o t = apply1 o
+
+abbrev pub untyped2 : Binary → ExprTy → Operation
+untyped2 o t = apply2 o
+
+pub post-laid : Lays push untyped1 untyped2 post
 unfolding post
 post-laid = record { leaf = λ l. refl; unary = λ o t a. refl; binary = λ o t a b. refl }
 
@@ -61,7 +69,7 @@ module _ {X : Type 0} (M : Machine X) where
   -- the operations of an expression push what the recursion gives; this machine's stack has room for any number
   pub run-post : (e : Expr) (is : List Operation) (st : List X) → run M (post e ++ is) st ≡ bind (fold (untypedAlgebra M) e) (λ x. run M is (x ∷ st))
   run-post e is st =
-      stack-law (untypedAlgebra M) push apply1 apply2 post post-laid (length st + items e) (run M)
+      stack-law (untypedAlgebra M) push untyped1 untyped2 post post-laid (length st + items e) (run M)
       (λ l k s f. run-leaf l k s) (λ o t k x s. run-unary o k x s) (λ o t k x y s. run-binary o k x y s) e is st (omega arith)
 
   pub run-tree : (e : Expr) → run M (post e) [] ≡ fold (untypedAlgebra M) e
@@ -70,7 +78,7 @@ module _ {X : Type 0} (M : Machine X) where
 
 -- "1 to 64 operations" are the literals, names and operators
 pub post-items : (e : Expr) → length (post e) ≡ items e
-post-items e = lay-items push apply1 apply2 post post-laid e
+post-items e = lay-items push untyped1 untyped2 post post-laid e
 
 -- Operations are read back from their bytes.
 
@@ -90,11 +98,11 @@ unfoldable pub Codable : List Operation → Type 0
 Codable [] = Unit {0}
 Codable (i ∷ is) = CodableOperation i × Codable is
 
-read-apply1 : (o : Unary) (s : List ℕ) → readOperation (unaryByte o) s ≡ some (apply1 o, s)
+read-apply1 : (o : Unary) (s : List ℕ) → readOperation (unaryCode o) s ≡ some (apply1 o, s)
 read-apply1 sign s = refl
 read-apply1 invert s = refl
 
-read-apply2 : (o : Binary) (s : List ℕ) → readOperation (binaryByte o) s ≡ some (apply2 o, s)
+read-apply2 : (o : Binary) (s : List ℕ) → readOperation (binaryCode o) s ≡ some (apply2 o, s)
 read-apply2 plus s = refl
 read-apply2 minus s = refl
 read-apply2 equal s = refl

@@ -7,20 +7,20 @@ use mathlib.Core.Bool.{Bool, true, false, cond}
 use mathlib.Core.Option.{Option, none, some}
 use mathlib.Core.List.{List, [], _∷_, _++_, append-assoc, append-nil}
 use lib.ListN.{length}
-use lib.IntN.{ℤ}
 use lib.Dec.{eqb}
-use Rattle.design.specs.Types.{Ty, ExprTy, boolean, sameType, inRange}
-use Rattle.design.specs.Expression.{Leaf, int, bit, input, variable, Unary, sign, invert, Binary, plus, minus, equal, unequal, less, at-most, greater, at-least, and, or, xor, times, divide, modulo, remainder, Expr, leaf, unary, binary, Out, fine, fault, bind, Algebra, fold, leafType, unaryType, binaryType, given, given2, typeOf}
+use Rattle.design.specs.Types.{Ty, ExprTy, sameType, inRange}
+use Rattle.design.specs.Expression.{Leaf, int, bit, input, variable, Unary, Binary, Expr, leaf, unary, binary, Out, fine, fault, bind, Algebra, fold, leafType, unaryType, binaryType, given, given2, typeOf}
 use Rattle.design.proofs.Types.{sameType-eq, sameType-refl}
 use Rattle.design.proofs.Postfix.{Steps, lay-whole}
-use Rattle.semantics.specs.Evaluation.{applyUnary, applyBinary, values, evaluate}
 use Rattle.semantics.proofs.Basic.{none-some, fault-fine, some-injective, fine-injective, eqb-true}
 use Rattle.format.specs.Words.{Bytes, word4}
 use Rattle.semantics.specs.Twos.{signed32}
-use Rattle.format.specs.Code.{Operation, push, apply1, apply2, post, unaryByte, binaryByte, bitByte, first, others, operationBytes, code, readInt, bitOf, readBit, readName, operator, readOperation, operations, onto, run, runOperations, runCode, untyped, withType, typed, trees, valueOf, decode}
+use Rattle.format.specs.Code.{Operation, push, apply1, apply2, post, bitByte, first, others, operationBytes, code, readInt, bitOf, readBit, readName, applying, operator, readOperation, operations, onto, run, runOperations, runCode, withType, typed, trees, valueOf, decode}
+use Rattle.codes.specs.Operation.{unaryFor, binaryFor}
+use Rattle.codes.proofs.OperationLaws.{unary-is, binary-is}
 use Rattle.format.proofs.Words.{word4-small, signed-range, bytes-integer}
 use Rattle.format.proofs.Basic.{andThen-some, map-some, cond-case}
-use Rattle.format.proofs.Coding.{bind-cong, bind-bind, untypedAlgebra, CodableOperation, Codable, post-laid, run-code}
+use Rattle.format.proofs.Coding.{untyped1, untyped2, bind-cong, bind-bind, untypedAlgebra, CodableOperation, Codable, post-laid, run-code}
 
 -- Types of operands.
 
@@ -53,7 +53,7 @@ typed-leaf is vs (bit b) t e = (tt, tt)
 typed-leaf is vs (input k) t e = (tt, tt)
 typed-leaf is vs (variable k) t e = (tt, tt)
 
-codable-steps : (is vs : List Ty) → Steps push apply1 apply2 (λ (e : Expr) (w : Unit {0}). (t : ExprTy) × (typeOf is vs e ≡ some t)) (λ (e : Expr) (w : Unit {0}). w) (λ (k : List Operation) (w : Unit {0}). Codable k)
+codable-steps : (is vs : List Ty) → Steps push untyped1 untyped2 (λ (e : Expr) (w : Unit {0}). (t : ExprTy) × (typeOf is vs e ≡ some t)) (λ (e : Expr) (w : Unit {0}). w) (λ (k : List Operation) (w : Unit {0}). Codable k)
 unfolding typeOf Codable
 codable-steps is vs =
     record {
@@ -92,46 +92,6 @@ module _ {X : Type 0} (is vs : List Ty) (A : Algebra X) where
   -- The code of a typed expression comes to the algebra's value, every operator getting its operands' type.
   pub run-typed : (e : Expr) (t : ExprTy) → typeOf is vs e ≡ some t → runCode (typed is vs A) (code e) ≡ bind (fold A e) (λ x. fine (t, x))
   run-typed e t h = run-code (typed is vs A) e (typed-codable is vs e t h) ∙ fold-typed e t h
-
--- The operators of today have one meaning for all types, so that code can be evaluated without types on the stack.
-
-pub unary-any : (o : Unary) (t : ExprTy) (x : ℤ) → applyUnary o boolean x ≡ applyUnary o t x
-unfolding applyUnary
-unary-any sign t x = refl
-unary-any invert t x = refl
-
-pub binary-any : (o : Binary) (t : ExprTy) (x y : ℤ) → applyBinary o boolean x y ≡ applyBinary o t x y
-unfolding applyBinary
-binary-any plus t x y = refl
-binary-any minus t x y = refl
-binary-any equal t x y = refl
-binary-any unequal t x y = refl
-binary-any less t x y = refl
-binary-any at-most t x y = refl
-binary-any greater t x y = refl
-binary-any at-least t x y = refl
-binary-any and t x y = refl
-binary-any or t x y = refl
-binary-any xor t x y = refl
-binary-any times t x y = refl
-binary-any divide t x y = refl
-binary-any modulo t x y = refl
-binary-any remainder t x y = refl
-
-fold-values : (i v : List ℤ) (e : Expr) → fold (untypedAlgebra (untyped (values i v))) e ≡ fold (values i v) e
-unfolding fold
-fold-values i v (leaf l) = refl
-fold-values i v (unary o t a) =
-    ap (λ z. bind z (λ x. applyUnary o boolean x)) (fold-values i v a) ∙ bind-cong (fold (values i v) a) _ _ (λ x. unary-any o t x)
-fold-values i v (binary o t a b) =
-    ap (λ z. bind z (λ x. bind (fold (untypedAlgebra (untyped (values i v))) b) (λ y. applyBinary o boolean x y))) (fold-values i v a)
-    ∙ bind-cong (fold (values i v) a) _ _ (λ x.
-    ap (λ z. bind z (λ y. applyBinary o boolean x y)) (fold-values i v b) ∙ bind-cong (fold (values i v) b) _ _ (λ y. binary-any o t x y))
-
--- The value of the code bytes on a stack is the value of the expression, its refusal included.
-pub value-code : (e : Expr) (i v : List ℤ) → Codable (post e) → runCode (untyped (values i v)) (code e) ≡ evaluate e i v
-unfolding evaluate
-value-code e i v h = run-code (untyped (values i v)) e h ∙ fold-values i v e
 
 fold-trees : (e : Expr) → fold trees e ≡ fine e
 unfolding fold bind
@@ -198,23 +158,13 @@ record Operator (k : ℕ) (i : Operation) : Type 0 where
   rest : others i ≡ []
   codable : CodableOperation i
 
-is-unary : (k n : ℕ) (o : Unary) (i : Operation) → unaryByte o ≡ n → eqb k n ≡ true → some (apply1 o) ≡ some i → Operator k i
-is-unary k n o i c q m = rw (← some-injective (apply1 o) i m) (record { byte = eqb-true k n q ∙ sym c; rest = refl; codable = tt })
-
-is-binary : (k n : ℕ) (o : Binary) (i : Operation) → binaryByte o ≡ n → eqb k n ≡ true → some (apply2 o) ≡ some i → Operator k i
-is-binary k n o i c q m = rw (← some-injective (apply2 o) i m) (record { byte = eqb-true k n q ∙ sym c; rest = refl; codable = tt })
-
 operator-read : (k : ℕ) (i : Operation) → operator k ≡ some i → Operator k i
-operator-read k i e =
-    cond-case (eqb k 16) e (is-unary k 16 sign i refl) (λ q e1. cond-case (eqb k 17) e1 (is-unary k 17 invert i refl)
-    (λ q e2. cond-case (eqb k 18) e2 (is-binary k 18 plus i refl) (λ q e3. cond-case (eqb k 19) e3 (is-binary k 19 minus i refl)
-    (λ q e4. cond-case (eqb k 20) e4 (is-binary k 20 equal i refl) (λ q e5. cond-case (eqb k 21) e5 (is-binary k 21 unequal i refl)
-    (λ q e6. cond-case (eqb k 22) e6 (is-binary k 22 less i refl) (λ q e7. cond-case (eqb k 23) e7 (is-binary k 23 at-most i refl)
-    (λ q e8. cond-case (eqb k 24) e8 (is-binary k 24 greater i refl) (λ q e9. cond-case (eqb k 25) e9 (is-binary k 25 at-least i refl)
-    (λ q e10. cond-case (eqb k 26) e10 (is-binary k 26 and i refl) (λ q e11. cond-case (eqb k 27) e11 (is-binary k 27 or i refl)
-    (λ q e12. cond-case (eqb k 28) e12 (is-binary k 28 xor i refl)
-    (λ q e13. cond-case (eqb k 29) e13 (is-binary k 29 times i refl) (λ q e14. cond-case (eqb k 30) e14 (is-binary k 30 divide i refl)
-    (λ q e15. cond-case (eqb k 31) e15 (is-binary k 31 modulo i refl) (λ q e16. cond-case (eqb k 32) e16 (is-binary k 32 remainder i refl) (λ q e17. none-some i e17)))))))))))))))))
+operator-read k i e = go (unaryFor k) (binaryFor k) refl refl e
+  where
+    go : (u : Option Unary) (b : Option Binary) → unaryFor k ≡ u → binaryFor k ≡ b → applying u b ≡ some i → Operator k i
+    go (some o) b p q m = rw (← some-injective (apply1 o) i m) (record { byte = unary-is k o p; rest = refl; codable = tt })
+    go none (some o) p q m = rw (← some-injective (apply2 o) i m) (record { byte = binary-is k o q; rest = refl; codable = tt })
+    go none none p q m = none-some i m
 
 read-byte : (k n : ℕ) (s : List ℕ) (p : Operation × List ℕ) → eqb k n ≡ true → Read n s (p .0) (p .1) → Read k s (p .0) (p .1)
 read-byte k n s p q b = rw (eqb-true k n q) b
@@ -322,14 +272,7 @@ module _ (is vs : List Ty) where
   pub decode-exactly : (s : List ℕ) (t : ExprTy) (e : Expr) → Bytes s → (decode is vs s ≡ some (t, e)) ↔ ((s ≡ code e) × (typeOf is vs e ≡ some t))
   decode-exactly s t e h = (decode-back s t e h, λ p. ap (decode is vs) (p .0) ∙ decode-code is vs e t (p .1))
 
-  -- So the code of any line of any image that opens comes to what its expression gives: for any algebra, ..
+  -- So the code of any line of any image that opens comes to what its expression gives, for any algebra.
   pub run-decoded : {X : Type 0} (A : Algebra X) (s : List ℕ) (t : ExprTy) (e : Expr) → Bytes s → decode is vs s ≡ some (t, e)
       → runCode (typed is vs A) s ≡ bind (fold A e) (λ x. fine (t, x))
   run-decoded A s t e h d = let b = decode-back s t e h d in ap (runCode (typed is vs A)) (b .0) ∙ run-typed is vs A e t (b .1)
-
-  -- .. and for its value, its refusal included.
-  pub value-decoded : (s : List ℕ) (t : ExprTy) (e : Expr) (i v : List ℤ) → Bytes s → decode is vs s ≡ some (t, e)
-      → runCode (untyped (values i v)) s ≡ evaluate e i v
-  value-decoded s t e i v h d =
-      let b = decode-back s t e h d in
-      ap (runCode (untyped (values i v))) (b .0) ∙ value-code e i v (typed-codable is vs e t (b .1))

@@ -6,7 +6,7 @@ use mathlib.Core.Bool.{Bool, true, false}
 use mathlib.Core.Option.{Option, none, some}
 use mathlib.Core.List.{List, [], _∷_, _++_, append-assoc}
 use lib.ListN.{length, length-map}
-use Rattle.design.specs.Types.{Ty, std-logic, integer, ExprTy}
+use Rattle.design.specs.Types.{Ty, std-logic, integer, ExprTy, typeByte}
 use Rattle.design.specs.Expression.{Leaf, int, bit, input, variable, Unary, sign, invert, Binary, plus, minus, equal, unequal, less, at-most, greater, at-least, and, or, xor, times, divide, modulo, remainder, Expr, leaf, unary, binary, nth, plainly, leafType, unaryType, binaryType, typeOf}
 use Rattle.design.proofs.Postfix.{Steps, lay-whole}
 use Rattle.design.specs.Statement.{output, variable as assign, null}
@@ -14,13 +14,14 @@ use Rattle.design.specs.Process.{typedAct}
 use Rattle.semantics.proofs.Basic.{none-some}
 use Rattle.format.specs.Words.{Bytes, bytes2, bytes4}
 use Rattle.semantics.specs.Twos.{unsigned32}
-use Rattle.format.specs.Code.{Operation, push, apply1, apply2, post, unaryByte, binaryByte, bitByte, first, others, operationBytes, code}
-use Rattle.format.specs.Signature.{Cell, Signature, types, typeByte, typeBytes, cellBytes, signatureBytes, GoodSignature}
+use Rattle.format.specs.Code.{Operation, push, apply1, apply2, post, bitByte, first, others, operationBytes, code}
+use Rattle.codes.specs.Operation.{unaryCode, binaryCode}
+use Rattle.format.specs.Signature.{Cell, Signature, types, typeBytes, cellBytes, signatureBytes, GoodSignature}
 use Rattle.format.specs.Lines.{Line, waits, acts, branches}
 use Rattle.format.specs.Image.{Table, RawLine, rawBytes, rawsBytes, lineCode, linesCode, rawOf, rawsOf, pairs, joined, image, form1, sectionsFor, encodeTable}
 use Rattle.format.specs.Good.{fitsLine, GoodLines, GoodTable}
 use Rattle.format.proofs.Words.{bytes-append, bytes2-bytes, bytes4-bytes}
-use Rattle.format.proofs.Coding.{post-laid}
+use Rattle.format.proofs.Coding.{untyped1, untyped2, post-laid}
 use Rattle.format.proofs.Decoding.{given-some, given2-some}
 use Rattle.format.proofs.Lines.{fits-type, good-fits}
 
@@ -44,11 +45,11 @@ bit-small : (b : Bool) → bitByte b < 256
 bit-small true = omega arith
 bit-small false = omega arith
 
-unary-small : (o : Unary) → unaryByte o < 256
+unary-small : (o : Unary) → unaryCode o < 256
 unary-small sign = omega arith
 unary-small invert = omega arith
 
-binary-small : (o : Binary) → binaryByte o < 256
+binary-small : (o : Binary) → binaryCode o < 256
 binary-small plus = omega arith
 binary-small minus = omega arith
 binary-small equal = omega arith
@@ -91,7 +92,7 @@ module _ (is vs : List Ty) (hi : length is ≤ 256) (hv : length vs ≤ 256) whe
   bytes-before : (i : Operation) (k : List Operation) → Bytes (operationBytes (i ∷ [])) → Bytes (operationBytes k) → Bytes (operationBytes (i ∷ k))
   bytes-before i k h c = rw (operation-append (i ∷ []) k) (bytes-append (operationBytes (i ∷ [])) (operationBytes k) h c)
 
-  bytes-steps : Steps push apply1 apply2 (λ (e : Expr) (w : Unit {0}). (t : ExprTy) × (typeOf is vs e ≡ some t)) (λ (e : Expr) (w : Unit {0}). w) (λ (k : List Operation) (w : Unit {0}). Bytes (operationBytes k))
+  bytes-steps : Steps push untyped1 untyped2 (λ (e : Expr) (w : Unit {0}). (t : ExprTy) × (typeOf is vs e ≡ some t)) (λ (e : Expr) (w : Unit {0}). w) (λ (k : List Operation) (w : Unit {0}). Bytes (operationBytes k))
   unfolding typeOf
   bytes-steps =
       record {

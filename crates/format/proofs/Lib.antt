@@ -14,3 +14,4 @@ pub mod Mixed
 pub mod Batch
 pub mod Unmoved
 pub mod BatchExamples
+pub mod Writing

@@ -10,11 +10,11 @@ use mathlib.Core.List.{List, [], _∷_, _++_, append-nil}
 use lib.ListN.{length}
 use lib.Dec.{leb, eqb}
 use borrow.Author.Tests.{leb-true, le-leb}
-use Rattle.design.specs.Types.{Ty, std-logic, integer, inType}
+use Rattle.design.specs.Types.{Ty, std-logic, integer, inType, typeByte, typeOfByte}
 use Rattle.semantics.proofs.Basic.{none-some, some-injective, eqb-true, and-left, and-right}
 use Rattle.format.specs.Words.{Bytes, word4, bytes4}
 use Rattle.semantics.specs.Twos.{signed32, unsigned32}
-use Rattle.format.specs.Signature.{Cell, Signature, typeByte, typeBytes, cellBytes, signatureBytes, Initialised, GoodSignature, typeOfByte, readTypes, readCell, readCells, atEnd, signatureOf}
+use Rattle.format.specs.Signature.{Cell, Signature, typeBytes, cellBytes, signatureBytes, Initialised, GoodSignature, readTypes, readCell, readCells, atEnd, signatureOf}
 use Rattle.format.proofs.Words.{integer-bytes, bytes-integer, type-range}
 use Rattle.format.proofs.Basic.{andThen-some, onlyIf-some, cond-case}
 

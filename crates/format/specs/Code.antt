@@ -5,8 +5,10 @@ use mathlib.Core.List.{List, [], _∷_, _++_}
 use Prim.Native.Nat.{ℕ, zero, suc}
 use lib.ListN.{length}
 use lib.Dec.{eqb}
-use Rattle.design.specs.Types.{Ty, ExprTy, boolean, sameType}
-use Rattle.design.specs.Expression.{Leaf, int, bit, input, variable, Unary, sign, invert, Binary, plus, minus, equal, unequal, less, at-most, greater, at-least, and, or, xor, times, divide, modulo, remainder, Expr, leaf, unary, binary, Out, fine, fault, bind, Algebra, leafType, unaryType, binaryType}
+use Rattle.design.specs.Types.{Ty, ExprTy, sameType}
+use Rattle.design.specs.Expression.{Leaf, int, bit, input, variable, Unary, Binary, Expr, leaf, unary, binary, Out, fine, fault, bind, Algebra, leafType, unaryType, binaryType}
+use Rattle.codes.specs.Operation as O
+use Rattle.codes.specs.Operation.{unaryCode, binaryCode, unaryFor, binaryFor}
 use Rattle.format.specs.Words.{word4, bytes4}
 use Rattle.semantics.specs.Twos.{signed32, unsigned32}
 
@@ -22,29 +24,6 @@ post (leaf l) = push l ∷ []
 post (unary o t a) = post a ++ (apply1 o ∷ [])
 post (binary o t a b) = post a ++ (post b ++ (apply2 o ∷ []))
 
--- "16 sign, 17 not"
-abbrev pub unaryByte : Unary → ℕ
-unaryByte sign = 16
-unaryByte invert = 17
-
--- "18 +, 19 -, 20 =, 21 /=, 22 <, 23 <=, 24 >, 25 >=, 26 and, 27 or, 28 xor"; "Codes are 29 to 32 in the order named": * / mod rem
-abbrev pub binaryByte : Binary → ℕ
-binaryByte plus = 18
-binaryByte minus = 19
-binaryByte equal = 20
-binaryByte unequal = 21
-binaryByte less = 22
-binaryByte at-most = 23
-binaryByte greater = 24
-binaryByte at-least = 25
-binaryByte and = 26
-binaryByte or = 27
-binaryByte xor = 28
-binaryByte times = 29
-binaryByte divide = 30
-binaryByte modulo = 31
-binaryByte remainder = 32
-
 -- '0' and '1'
 abbrev pub bitByte : Bool → ℕ
 bitByte true = 1
@@ -52,12 +31,12 @@ bitByte false = 0
 
 -- "1 integer (4 bytes), 2 std_logic (1 byte), 3 input, 4 variable (1-byte index)": an operation's first byte
 abbrev pub first : Operation → ℕ
-first (push (int z)) = 1
-first (push (bit b)) = 2
-first (push (input k)) = 3
-first (push (variable k)) = 4
-first (apply1 o) = unaryByte o
-first (apply2 o) = binaryByte o
+first (push (int z)) = O.INTEGER
+first (push (bit b)) = O.STD-LOGIC
+first (push (input k)) = O.INPUT
+first (push (variable k)) = O.VARIABLE
+first (apply1 o) = unaryCode o
+first (apply2 o) = binaryCode o
 
 -- an operation's bytes after the first
 abbrev pub others : Operation → List ℕ
@@ -105,23 +84,19 @@ abbrev pub readName : (ℕ → Leaf) → List ℕ → Taken
 readName f [] = none
 readName f (a ∷ s) = some (push (f a), s)
 
--- "16 sign, 17 not, 18 +, .. 28 xor", 29 * .. 32 rem
+-- the operator that has a code, as an operation
+abbrev pub applying : Option Unary → Option Binary → Option Operation
+applying (some o) b = some (apply1 o)
+applying none (some o) = some (apply2 o)
+applying none none = none
+
 abbrev pub operator : ℕ → Option Operation
-operator k =
-    cond (eqb k 16) (some (apply1 sign)) (cond (eqb k 17) (some (apply1 invert))
-    (cond (eqb k 18) (some (apply2 plus)) (cond (eqb k 19) (some (apply2 minus))
-    (cond (eqb k 20) (some (apply2 equal)) (cond (eqb k 21) (some (apply2 unequal))
-    (cond (eqb k 22) (some (apply2 less)) (cond (eqb k 23) (some (apply2 at-most))
-    (cond (eqb k 24) (some (apply2 greater)) (cond (eqb k 25) (some (apply2 at-least))
-    (cond (eqb k 26) (some (apply2 and)) (cond (eqb k 27) (some (apply2 or))
-    (cond (eqb k 28) (some (apply2 xor))
-    (cond (eqb k 29) (some (apply2 times)) (cond (eqb k 30) (some (apply2 divide))
-    (cond (eqb k 31) (some (apply2 modulo)) (cond (eqb k 32) (some (apply2 remainder)) none))))))))))))))))
+operator k = applying (unaryFor k) (binaryFor k)
 
 -- the operation that begins with the byte k
 abbrev pub readOperation : ℕ → List ℕ → Taken
 readOperation k s =
-    cond (eqb k 1) (readInt s) (cond (eqb k 2) (readBit s) (cond (eqb k 3) (readName input s) (cond (eqb k 4) (readName variable s)
+    cond (eqb k O.INTEGER) (readInt s) (cond (eqb k O.STD-LOGIC) (readBit s) (cond (eqb k O.INPUT) (readName input s) (cond (eqb k O.VARIABLE) (readName variable s)
     (Option·map (λ i. (i, s)) (operator k)))))
 
 -- the operations of code bytes; the number bounds how many are read
@@ -162,10 +137,6 @@ runOperations M (some is) = run M is []
 -- what code bytes come to
 unfoldable pub runCode : {X : Type 0} → Machine X → List ℕ → Out X
 runCode M s = runOperations M (operations (length s) s)
-
--- the machine of an algebra that does not look at types
-abbrev pub untyped : {X : Type 0} → Algebra X → Machine X
-untyped A = record { ofLeaf = A .ofLeaf; ofUnary = λ o x. A .ofUnary o boolean x; ofBinary = λ o x y. A .ofBinary o boolean x y }
 
 -- a value with its type, or 13 where there is no type
 unfoldable pub withType : {X : Type 0} → Option ExprTy → Out X → Out (ExprTy × X)

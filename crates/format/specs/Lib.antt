@@ -10,4 +10,5 @@ pub mod Refusals
 pub mod State
 pub mod Cycle
 pub mod Encode
+pub mod Writing
 pub mod Batch

@@ -6,8 +6,8 @@ use mathlib.Core.List.{List, [], _∷_, _++_, map}
 use Prim.Native.Nat.{ℕ, zero, suc, _≤_}
 use lib.ListN.{length}
 use lib.IntN.{ℤ}
-use lib.Dec.{leb, eqb}
-use Rattle.design.specs.Types.{Ty, std-logic, integer, inType}
+use lib.Dec.{leb}
+use Rattle.design.specs.Types.{Ty, inType, typeByte, typeOfByte}
 use Rattle.format.specs.Words.{word4, bytes4, onlyIf}
 use Rattle.semantics.specs.Twos.{signed32, unsigned32}
 
@@ -29,11 +29,6 @@ types l = map (λ (c : Cell). c .type) l
 -- the initial values of outputs or variables
 abbrev pub initials : List Cell → List ℤ
 initials l = map (λ (c : Cell). c .initial) l
-
--- "0 std_logic, 1 integer"
-abbrev pub typeByte : Ty → ℕ
-typeByte std-logic = 0
-typeByte integer = 1
 
 -- "a type byte per input"
 unfoldable pub typeBytes : List Ty → List ℕ
@@ -65,10 +60,6 @@ pub record GoodSignature (σ : Signature) : Type 0 where
   pub initial-variables : Initialised (σ .variables)
 
 -- Reading: n types or cells and the bytes after them, or none where the bytes are no such.
-
--- "0 std_logic, 1 integer", and no other byte
-abbrev pub typeOfByte : ℕ → Option Ty
-typeOfByte k = cond (eqb k 0) (some std-logic) (cond (eqb k 1) (some integer) none)
 
 -- n types
 unfoldable pub readTypes : ℕ → List ℕ → Option (List Ty × List ℕ)

@@ -6,17 +6,18 @@ use Prim.Native.Nat.{ℕ, zero, suc, _+_, _*_, _≤_}
 use native.Mathlib.Omega.{arith}
 use lib.Dec.{eqb}
 use lib.ListN.{length, length-map}
-use Rattle.grammar.specs.Token.{Token, INTEGER}
+use Rattle.grammar.specs.Token.{Token}
+use Rattle.codes.specs.Token.{INTEGER}
 use Rattle.grammar.specs.Tree.{Init, without, integer-literal, logic-literal, minus, Mode, input, output-port, variable-mode, Group, Text}
 use Rattle.grammar.specs.Reader.{choose}
-use Rattle.design.specs.Types.{std-logic, integer}
+use Rattle.design.specs.Types.{std-logic, integer, typeByte}
 use Rattle.language.specs.Declarations.{typeNamed, groups}
 use Rattle.cursor.specs.Tokens.{tokenAt}
 use Rattle.statements.specs.Rows as S
 use Rattle.declarations.specs.Rows as D
 use Rattle.declarations.specs.Rows.{Declaration, declaredIn, declarations, WroteNames}
 use Rattle.syntax.specs.Arrays as A
-use Rattle.syntax.specs.Headings.{modeCode, typeCode, initCode, initToken, valueToken, Heading, namesOf, groupNames, groupsNames, headings, DeclRow, declIn, declsFrom, valueIndex, headingSeen, DeclsIn}
+use Rattle.syntax.specs.Headings.{modeCode, initCode, initToken, valueToken, Heading, namesOf, groupNames, groupsNames, headings, DeclRow, declIn, declsFrom, valueIndex, headingSeen, DeclsIn}
 use Rattle.syntax.proofs.Stored.{rows-read}
 
 -- ENTRIES
@@ -30,11 +31,11 @@ mode-same input = refl
 mode-same output-port = refl
 mode-same variable-mode = refl
 
-type-same : (x : Token) → D.typeNumber x ≡ typeCode (typeNamed x)
-unfolding typeCode typeNamed
+type-same : (x : Token) → D.typeNumber x ≡ typeByte (typeNamed x)
+unfolding typeNamed
 type-same x = go (eqb (x .kind) INTEGER)
   where
-    go : (b : Bool) → choose b 1 0 ≡ typeCode (cond b integer std-logic)
+    go : (b : Bool) → choose b 1 0 ≡ typeByte (cond b integer std-logic)
     go true = refl
     go false = refl
 

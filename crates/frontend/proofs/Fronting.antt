@@ -17,15 +17,15 @@ use Rattle.grammar.specs.Acceptance as P
 use Rattle.grammar.specs.Reader.{answer}
 use Rattle.grammar.proofs.Limits.{exactly-limits}
 use Rattle.design.specs.Process.{Process, sourceTypes, slotTypes}
-use Rattle.language.specs.Lists.{lowest}
 use Rattle.language.specs.Lexer.{lex, tokens, malformed}
 use Rattle.language.specs.Lexer as L
-use Rattle.language.specs.Rules.{Rule, table}
+use Rattle.language.specs.Rules.{Offence, Stage, table}
 use Rattle.language.specs.Validity as W
 use Rattle.language.specs.Validity.{placeOf}
 use Rattle.language.specs.Elaboration.{elaborate}
-use Rattle.language.specs.Verdict.{Verdict, accepted, refused, judged, ruled, parsed, lexed, verdict}
+use Rattle.language.specs.Verdict.{Verdict, accepted, refused, lowestOffence, judged, ruled, parsed, lexed, verdict}
 use Rattle.language.proofs.Elaborated.{Clean}
+use Rattle.language.proofs.Offences.{lowest-none}
 use Rattle.language.proofs.Judged.{clean}
 use Rattle.language.proofs.Modes.{moded}
 use Rattle.language.proofs.WellFormed.{well-formed}
@@ -56,9 +56,9 @@ use Rattle.frontend.specs.declared.rules.Ruling.the-variants.{Free, Offe
 use Rattle.frontend.specs.declared.Front.{Front}
 use Rattle.frontend.specs.declared.Front.the-variants.{Accepted, Refused}
 use Rattle.frontend.specs.declared.layout.Counts.{Counts}
-use Rattle.answers.specs.Answers as A
+use Rattle.answers.specs.Answers.{done, refusedBy}
 use Rattle.answers.proofs.Refusals.{told-again}
-use Rattle.answers.specs.Answers.{Told, done, refusal, refusedBy, numberOf}
+use Rattle.answers.proofs.Told.{done-refused}
 use Rattle.frontend.specs.Answered.{placeIn}
 use Rattle.frontend.specs.Stages.{ruledAs, Ruled, rulingTold}
 use Rattle.frontend.specs.Designs.{Holds, LaidOut}
@@ -67,31 +67,23 @@ use Rattle.frontend.proofs.Declared.{decls-held}
 
 -- THE RULES
 
-not-free : {A : Type 0} (q k : ℕ) → _≡_ {A = Told (Unit {0})} (done tt) (refusal q k) → A
-not-free q k e = absurd (let z : _≡_ {A = ℕ} 0 1 = cc in omega arith)
-
-lowest-none : (l : List ℕ) → lowest l ≡ none → l ≡ []
-unfolding lowest
-lowest-none [] e = refl
-lowest-none (p ∷ l) e = absurd (let z : _≡_ {A = ℕ} 0 1 = cc in omega arith)
-
--- where the rules leave nothing, none is offended
-free-rules : (rs : List Rule) (t : Text) → rulingTold Free ≡ ruledAs (ruled rs t) → W.Free rs t × (ruled rs t ≡ accepted (elaborate t))
+-- where the stages leave nothing, none is offended
+free-rules : (rs : List Stage) (t : Text) → rulingTold Free ≡ ruledAs (ruled rs t) → W.Free rs t × (ruled rs t ≡ accepted (elaborate t))
 unfolding ruled judged
 free-rules [] t e = (tt, refl)
-free-rules (r ∷ rs) t e = go (lowest (r .offences t)) refl e (free-rules rs t)
+free-rules (r ∷ rs) t e = go (lowestOffence (r t)) refl e (free-rules rs t)
   where
-    go : (o : Option ℕ) → lowest (r .offences t) ≡ o → rulingTold Free ≡ ruledAs (judged (r .number) o (ruled rs t)) → (rulingTold Free ≡ ruledAs (ruled rs t) → W.Free rs t × (ruled rs t ≡ accepted (elaborate t)))
-        → ((r .offences t ≡ []) × W.Free rs t) × (judged (r .number) o (ruled rs t) ≡ accepted (elaborate t))
-    go none q f ih = let s = ih f in ((lowest-none (r .offences t) q, s .0), s .1)
-    go (some p) q f ih = not-free (r .number) p f
+    go : (o : Option Offence) → lowestOffence (r t) ≡ o → rulingTold Free ≡ ruledAs (judged o (ruled rs t)) → (rulingTold Free ≡ ruledAs (ruled rs t) → W.Free rs t × (ruled rs t ≡ accepted (elaborate t)))
+        → ((r t ≡ []) × W.Free rs t) × (judged o (ruled rs t) ≡ accepted (elaborate t))
+    go none q f ih = let s = ih f in ((lowest-none (r t) q, s .0), s .1)
+    go (some o) q f ih = done-refused f
 
 pub free-text : (t : Text) → rulingTold Free ≡ ruledAs (ruled table t) → Clean t × (ruled table t ≡ accepted (elaborate t))
 free-text t e = let s = free-rules table t e in (clean t (s .0), s .1)
 
 -- an offence is the verdict's
 pub offended-as : (x : Refusal) (v : Verdict) → rulingTold (Offended x) ≡ ruledAs v → (before after : DesignArrays) → after ≡ before → FrontAs v (Refused x) before after
-offended-as x (accepted p) e before after u = not-free (numberOf x) (A.placeOf x) (sym e)
+offended-as x (accepted p) e before after u = done-refused (sym e)
 offended-as x (refused n k) e before after u = (told-again x n k e, u)
 
 -- THE PARSER

@@ -1,11 +1,12 @@
 -- What the passes of the elaborator leave holds the design of every tree without offences. Assumes nothing.
-use mathlib.Core.Path.{_≡_, refl, sym, subst}
+use mathlib.Core.Path.{_≡_, refl, sym, _∙_, ap, subst}
 use mathlib.Core.Bool.{true}
 use mathlib.Core.Option.{Option, none, some}
 use mathlib.Core.List.{List, [], _++_}
 use Prim.Native.Nat.{ℕ, min, _≤_}
 use native.Mathlib.Omega.{arith}
 use lib.ListN.{length}
+use lib.Seq.{length-sets}
 use lib.IntN.{ℤ}
 use Rattle.grammar.specs.Token.{Token}
 use Rattle.grammar.specs.Tree.{Mode, input, output-port, variable-mode, Text}
@@ -14,13 +15,15 @@ use Rattle.grammar.proofs.Each.{each-split}
 use Rattle.language.specs.Lists.{filter}
 use Rattle.language.specs.Declarations.{Decl, declared, find, isInput, isOutput, isVariable, isData, clockOf, scopeFor, scopeOf}
 use Rattle.language.specs.Names.{names}
-use Rattle.language.specs.Elaboration.{position}
+use Rattle.language.specs.Elaboration.{position, elaborate}
 use Rattle.language.proofs.Facts.{and-true-both}
 use Rattle.language.proofs.Elaborated.{not-doubled}
 use Rattle.statements.specs.Rows.{storeRows}
 use Rattle.parser.specs.declared.Parsed.{Parsed}
 use Rattle.syntax.specs.Headings.{headings, DeclsIn}
 use Rattle.clock.specs.Judges.{ownerOf, Owns}
+use Rattle.codes.specs.Limit.{TEXT}
+use Rattle.operands.specs.Told.{Tells}
 use Rattle.elaborator.specs.Positions.{slotAt, codeAt, argAt, Elaborates, rowsAt}
 use Rattle.elaborator.specs.Names.{slotsAfter, typesOf, valuesOf, Filled, inMode, ClockIs}
 use Rattle.elaborator.specs.Sources.{SlotsIn}
@@ -81,24 +84,23 @@ module _ (ts : List Token) (t : Text) (decls slots₀ : List ℕ) (d c : ℕ) (D
   }
 
 -- THE LAW
-pub laid-out : (text kinds starts sizes codes indices rows decls owners : List ℕ) (n : ℕ) (p : Parsed) {c : ℕ} (slots₀ : List ℕ) {slots ops₀ ops : List ℕ} (lines₀ : List ℕ) {lines is₀ is os₀ os vs₀ vs : List ℕ} {args₀ args ps₀ ps qs₀ qs : List ℤ} {i o v po qv : ℕ}
+pub laid-out : (text kinds starts sizes codes indices rows decls owners : List ℕ) (n : ℕ) (p : Parsed) {c : ℕ} (slots₀ : List ℕ) {slots ops₀ ops : List ℕ} (lines₀ : List ℕ) {lines is₀ is os₀ os vs₀ vs : List ℕ} {args₀ args args′ ps₀ ps qs₀ qs : List ℤ} {i o v po qv : ℕ}
     → Owns rows (p .statements) owners n c → length slots₀ ≡ 65 → slots ≡ slotsAfter decls (p .names) c slots₀
     → Elaborates (codeAt owners decls (p .names)) (argAt text starts sizes kinds owners decls (p .names) slots) codes indices (p .items) ops₀ ops args₀ args
     → lines ≡ storeRows 0 (rowsAt owners slots rows 0 (min (p .statements) 512)) lines₀
     → Filled (typesOf decls (p .names) c 0) is₀ is i → Filled (typesOf decls (p .names) c 1) os₀ os o → Filled (typesOf decls (p .names) c 2) vs₀ vs v
+    → Tells ops (p .items) is vs args args′
     → Filled (valuesOf text starts sizes kinds decls (p .names) 1) ps₀ ps po → Filled (valuesOf text starts sizes kinds decls (p .names) 2) qs₀ qs qv
     → Sized ops₀ args₀ lines₀ is₀ os₀ vs₀ ps₀ qs₀
-    → LaidOut text kinds starts sizes n p codes indices rows decls owners ops args lines is os vs ps qs (record { statements = p .statements; operations = p .items; inputs = i; outputs = o; variables = v })
-laid-out text kinds starts sizes codes indices rows decls owners n p {c} slots₀ {slots} {ops₀} {ops} lines₀ {lines} {is₀} {is} {os₀} {os} {vs₀} {vs} {args₀} {args} {ps₀} {ps} {qs₀} {qs} {i} {o} {v} {po} {qv} ow ns es el er fi fo fv fp fq z = record {
+    → LaidOut text kinds starts sizes n p codes indices rows decls owners ops args′ lines is os vs ps qs (record { statements = p .statements; operations = p .items; inputs = i; outputs = o; variables = v })
+laid-out text kinds starts sizes codes indices rows decls owners n p {c} slots₀ {slots} {ops₀} {ops} lines₀ {lines} {is₀} {is} {os₀} {os} {vs₀} {vs} {args₀} {args} {args′} {ps₀} {ps} {qs₀} {qs} {i} {o} {v} {po} {qv} ow ns es el er fi fo fv te fp fq z = record {
   holds = λ ts t L W lim five eight wf.
       let C = clock-is ts t decls (p .names) c (L .of-decls) five (ow .clocks ts t kinds starts codes indices (p .items) decls (p .names) L) in
       let S : SlotsIn (declared t) (scopeOf t) (clockOf t) slots = rw es (slots-in ts t decls slots₀ (p .names) c (L .of-decls) C ns) in
-      record {
-        body =
-            body-laid text ts t kinds starts sizes owners decls slots codes indices rows n (p .names) (p .items) (p .statements) (L .of-tokens) W (L .of-owners) (L .of-decls) S (L .of-items) (L .of-rows) (L .kinded .body)
-            (small t lim) five eight ops₀ ops lines₀ lines args₀ args (z .ops-size) (z .args-size) (z .lines-size) el er;
-        declared =
-            names-held text ts kinds starts sizes n (L .of-tokens) W t decls (p .names) c (L .of-decls) C (L .kinded) lim wf is₀ is os₀ os vs₀ vs ps₀ ps qs₀ qs i o v po qv
-            (z .inputs-size) (z .outputs-size) (z .variables-size) (z .at-outputs-size) (z .at-variables-size) fi fo fv fp fq;
-      };
+      let b = body-laid text ts t kinds starts sizes owners decls slots codes indices rows n (p .names) (p .items) (p .statements) (L .of-tokens) W (L .of-owners) (L .of-decls) S (L .of-items) (L .of-rows) (L .kinded .body)
+      (small t lim) five eight ops₀ ops lines₀ lines args₀ args (z .ops-size) (z .args-size) (z .lines-size) el er in
+      let h = names-held text ts kinds starts sizes n (L .of-tokens) W t decls (p .names) c (L .of-decls) C (L .kinded) lim wf is₀ is os₀ os vs₀ vs ps₀ ps qs₀ qs i o v po qv
+      (z .inputs-size) (z .outputs-size) (z .variables-size) (z .at-outputs-size) (z .at-variables-size) fi fo fv fp fq in
+      let s : length args ≡ TEXT = ap length (el .args) ∙ simp length-sets (z .args-size) in
+      record { body = record { block = b .block; code = te .holds (elaborate t) i v wf s (h .inputs) (h .variables) (b .code); lines = b .lines }; declared = h };
 }

@@ -1,4 +1,4 @@
--- The rules one after the other: the first that is offended refuses, and where none is the tree is elaborated. Assumes nothing.
+-- The stages one after the other, each with one row: the first that is offended refuses, and where it is not the others decide. Assumes nothing.
 use mathlib.Core.Path.{_≡_, refl, sym, _∙_, ap}
 use mathlib.Core.Option.{Option, none, some}
 use mathlib.Core.List.{List, [], _∷_}
@@ -6,8 +6,10 @@ use Prim.Native.Nat.{ℕ}
 use native.Mathlib.Omega.{arith}
 use Rattle.grammar.specs.Tree.{Text}
 use Rattle.language.specs.Lists.{lowest}
-use Rattle.language.specs.Rules.{Rule}
-use Rattle.language.specs.Verdict.{Verdict, refused, judged, ruled}
+use Rattle.language.specs.Rules as Rules
+use Rattle.language.specs.Rules.{Stage, by}
+use Rattle.language.specs.Verdict.{refused, lowestOffence, judged, ruled}
+use Rattle.language.proofs.Offences.{by-some, by-none}
 use Rattle.syntax.specs.declared.Finding.{Finding}
 use Rattle.syntax.specs.declared.Finding.the-variants.{Nothing, Offence}
 use Rattle.syntax.specs.Lowest.{findingAt, findingOf}
@@ -16,31 +18,27 @@ use Rattle.syntax.specs.Lowest.{findingAt, findingOf}
 not-both : {A : Type 0} (p : ℕ) → Nothing ≡ Offence p → A
 not-both p e = absurd (let z : _≡_ {A = ℕ} 0 1 = cc in omega arith)
 
-judged-some : (k p : ℕ) (o : Option ℕ) (v : Verdict) → Offence p ≡ findingAt o → judged k o v ≡ refused k p
-unfolding judged
-judged-some k p none v e = not-both p (sym e)
-judged-some k p (some q) v e = let z : q ≡ p = cc in ap (refused k) z
-
-judged-none : (k : ℕ) (o : Option ℕ) (v : Verdict) → Nothing ≡ findingAt o → judged k o v ≡ v
-unfolding judged
-judged-none k none v e = refl
-judged-none k (some p) v e = not-both p e
+-- the lowest place that a stage answers
+lowest-at : (o : Option ℕ) (p : ℕ) → Offence p ≡ findingAt o → o ≡ some p
+lowest-at none p e = not-both p (sym e)
+lowest-at (some q) p e = let z : q ≡ p = cc in ap some z
 
 lowest-nil : (l : List ℕ) → Nothing ≡ findingOf l → l ≡ []
 unfolding lowest
 lowest-nil [] e = refl
 lowest-nil (p ∷ l) e = not-both _ e
 
--- an offence decides
-pub offended : (r : Rule) (rs : List Rule) (t : Text) {x : Finding} (p : ℕ) → x ≡ findingOf (r .offences t) → x ≡ Offence p → ruled (r ∷ rs) t ≡ refused (r .number) p
-unfolding ruled
-offended r rs t p e n = judged-some (r .number) p (lowest (r .offences t)) (ruled rs t) (sym n ∙ e)
+module _ (k : ℕ) (places : Text → List ℕ) (rs : List Stage) (t : Text) {x : Finding} (f : x ≡ findingOf (places t)) where
+  -- an offence decides
+  pub offended : (p : ℕ) → x ≡ Offence p → ruled (by k places ∷ rs) t ≡ refused k p
+  unfolding ruled judged
+  offended p n = ap (λ (o : Option Rules.Offence). judged o (ruled rs t)) (by-some k places t p (lowest-at (lowest (places t)) p (sym n ∙ f)))
 
--- without one the next rule is asked
-pub kept : (r : Rule) (rs : List Rule) (t : Text) {x : Finding} → x ≡ findingOf (r .offences t) → x ≡ Nothing → ruled (r ∷ rs) t ≡ ruled rs t
-unfolding ruled
-kept r rs t e n = judged-none (r .number) (lowest (r .offences t)) (ruled rs t) (sym n ∙ e)
+  -- without one there is none, ..
+  pub kept-none : x ≡ Nothing → places t ≡ []
+  kept-none n = lowest-nil (places t) (sym n ∙ f)
 
--- and it has none
-pub kept-none : (r : Rule) (t : Text) {x : Finding} → x ≡ findingOf (r .offences t) → x ≡ Nothing → r .offences t ≡ []
-kept-none r t e n = lowest-nil (r .offences t) (sym n ∙ e)
+  -- .. and the next stage is asked
+  pub kept : x ≡ Nothing → ruled (by k places ∷ rs) t ≡ ruled rs t
+  unfolding ruled judged lowestOffence
+  kept n = ap (λ (l : List Rules.Offence). judged (lowestOffence l) (ruled rs t)) (by-none k places t (kept-none n))

@@ -2,10 +2,10 @@
 use mathlib.Core.Path.{_≡_, refl, sym, _∙_, subst, ap}
 use mathlib.Core.List.{List}
 use Prim.Native.Nat.{ℕ}
-use native.Mathlib.Omega.{arith}
 use lib.IntN.{ℤ}
 use Rattle.answers.specs.declared.Refusal.{Refusal}
 use Rattle.answers.specs.Answers.{numberOf, placeOf, done, refusal, refusedBy}
+use Rattle.answers.proofs.Told.{done-refused}
 use Rattle.design.specs.Process.{Process, WellFormed}
 use Rattle.language.specs.Verdict.{Verdict, accepted, refused, verdict}
 use Rattle.language.proofs.Judged.{accepts}
@@ -23,9 +23,6 @@ pub record Design (text ops : List ℕ) (args : List ℤ) (lines is os vs : List
   pub holds : Holds process ops args lines is os vs ps qs c
   pub formed : WellFormed process
 
-pub not-accepted : {A : Type 0} {c : Counts} {q k : ℕ} → done c ≡ refusal q k → A
-not-accepted e = absurd (let z : _≡_ {A = ℕ} 0 1 = cc in omega arith)
-
 pub design-of : (text : List ℕ) {r : Front} {c : Counts} (before : DesignArrays) (ops : List ℕ) (args : List ℤ) (lines is os vs : List ℕ) (ps qs : List ℤ) → FrontAs (verdict text) r before (designArrays ops args lines is os vs ps qs) → r ≡ Accepted c → Design text ops args lines is os vs ps qs c
 design-of text {r} {c} before ops args lines is os vs ps qs f e = go (verdict text) refl f
   where
@@ -34,14 +31,14 @@ design-of text {r} {c} before ops args lines is os vs ps qs f e = go (verdict te
         let z : done c ≡ done (countsOf p) = sym (ap frontTold e) ∙ g in
         let y : countsOf p ≡ c = cc in
         record { process = p; is-verdict = h; holds = subst (λ (u : Counts). Holds p ops args lines is os vs ps qs u) y k; formed = valid-well-formed (accepts text p .0 h) }
-    go (refused n k) h (g, u) = not-accepted (sym (ap frontTold e) ∙ g)
+    go (refused n k) h (g, u) = done-refused (sym (ap frontTold e) ∙ g)
 
 -- a refused text: its verdict has the number and the place of the refusal that the front end answers
 pub turned-of : (text : List ℕ) {r : Front} {x : Refusal} (before after : DesignArrays) → FrontAs (verdict text) r before after → r ≡ Refused x → verdict text ≡ refused (numberOf x) (placeOf x)
 turned-of text {r} {x} before after f e = go (verdict text) refl f
   where
     go : (v : Verdict) → verdict text ≡ v → FrontAs v r before after → verdict text ≡ refused (numberOf x) (placeOf x)
-    go (accepted p) h (g, k) = not-accepted (sym g ∙ ap frontTold e)
+    go (accepted p) h (g, k) = done-refused (sym g ∙ ap frontTold e)
     go (refused n k) h (g, u) =
         let z : refusedBy x ≡ refusal n k = sym (ap frontTold e) ∙ g in
         let y : n ≡ numberOf x = cc in

@@ -1,9 +1,11 @@
 -- The arrays of a design after the front end: for every accepted tree that the arrays of the parsed text hold. Assumes nothing.
 use mathlib.Core.Path.{_≡_}
 use mathlib.Core.List.{List, []}
-use Prim.Native.Nat.{ℕ}
+use Prim.Native.Nat.{ℕ, _*_}
 use lib.ListN.{length}
 use lib.IntN.{ℤ}
+use Rattle.codes.specs.Limit.{TEXT, STATEMENTS, VARIABLES}
+use Rattle.codes.specs.Statement.{ROW}
 use Rattle.grammar.specs.Token.{Token}
 use Rattle.grammar.specs.Tree.{Text}
 use Rattle.grammar.specs.Limits.{WithinLimits}
@@ -19,14 +21,14 @@ use Rattle.frontend.specs.declared.layout.Counts.{Counts}
 
 -- the arrays that are lent have their sizes
 pub record Sized (ops : List ℕ) (args : List ℤ) (lines is os vs : List ℕ) (atOutputs atVariables : List ℤ) : Type 0 where
-  pub ops-size : length ops ≡ 16384
-  pub args-size : length args ≡ 16384
-  pub lines-size : length lines ≡ 3072
-  pub inputs-size : length is ≡ 32
-  pub outputs-size : length os ≡ 32
-  pub variables-size : length vs ≡ 32
-  pub at-outputs-size : length atOutputs ≡ 32
-  pub at-variables-size : length atVariables ≡ 32
+  pub ops-size : length ops ≡ TEXT
+  pub args-size : length args ≡ TEXT
+  pub lines-size : length lines ≡ ROW * STATEMENTS
+  pub inputs-size : length is ≡ VARIABLES
+  pub outputs-size : length os ≡ VARIABLES
+  pub variables-size : length vs ≡ VARIABLES
+  pub at-outputs-size : length atOutputs ≡ VARIABLES
+  pub at-variables-size : length atVariables ≡ VARIABLES
 
 -- the arrays hold the process p
 pub record Holds (p : Process) (ops : List ℕ) (args : List ℤ) (lines is os vs : List ℕ) (atOutputs atVariables : List ℤ) (c : Counts) : Type 0 where

@@ -8,7 +8,7 @@ use Rattle.grammar.specs.Token.{Token}
 use Rattle.grammar.specs.Tree.{Text}
 use Rattle.grammar.specs.Limits.{WithinLimits}
 use Rattle.design.specs.Process.{Process, sourceTypes, slotTypes}
-use Rattle.language.specs.Verdict.{Verdict, accepted, refused}
+use Rattle.language.specs.Verdict.{Verdict, onAccepted}
 use Rattle.language.proofs.Modes.{Moded}
 use Rattle.cursor.specs.Tokens.{tokenAt}
 use Rattle.statements.specs.Entries.{bodyEntries, entryItems}
@@ -57,8 +57,7 @@ frontTold (Refused r) = refusedBy r
 
 -- what is told of a verdict: the counts of an accepted text's process; or number and place
 abbrev pub frontAnswer : Verdict → Told Counts
-frontAnswer (accepted p) = done (countsOf p)
-frontAnswer (refused n k) = refusal n k
+frontAnswer v = onAccepted (λ p. done (countsOf p)) refusal v
 
 -- the arrays that are lent
 pub record DesignArrays : Type 0 where
@@ -77,8 +76,10 @@ designArrays ops args lines is os vs ps qs =
 
 -- what is left in them: an accepted text's process; where it is refused, what stood there
 abbrev pub LeftAs : Verdict → DesignArrays → DesignArrays → Type 0
-LeftAs (accepted p) a b = Holds p (b .ops) (b .args) (b .lines) (b .inputTypes) (b .outputTypes) (b .variableTypes) (b .outputValues) (b .variableValues) (countsOf p)
-LeftAs (refused n k) a b = b ≡ a
+LeftAs v a b =
+    onAccepted
+    (λ p. Holds p (b .ops) (b .args) (b .lines) (b .inputTypes) (b .outputTypes) (b .variableTypes) (b .outputValues) (b .variableValues) (countsOf p))
+    (λ n k. b ≡ a) v
 
 -- both
 abbrev pub FrontAs : Verdict → Front → DesignArrays → DesignArrays → Type 0

@@ -5,13 +5,13 @@ use Prim.Native.Nat.{ℕ}
 use Rattle.grammar.specs.Token.{Token}
 use Rattle.grammar.specs.Tree.{Text}
 use Rattle.grammar.specs.Limits.{WithinLimits}
-use Rattle.language.specs.Rules.{Rule, table}
+use Rattle.language.specs.Rules.{Stage, by, table}
 use Rattle.language.specs.Names.{names}
 use Rattle.language.specs.Typing.{types}
 use Rattle.language.specs.Values.{values}
 use Rattle.language.specs.Clock.{clock}
 use Rattle.language.specs.Classes.{loops}
-use Rattle.language.specs.Verdict.{Verdict, accepted, refused, ruled}
+use Rattle.language.specs.Verdict.{Verdict, onAccepted, ruled}
 use Rattle.cursor.specs.Tokens.{tokenAt}
 use Rattle.statements.specs.Entries.{bodyEntries}
 use Rattle.syntax.specs.Arrays.{TokensIn, RowsIn}
@@ -34,33 +34,32 @@ rulingTold (Offended r) = refusedBy r
 
 -- what the rules leave of a verdict
 abbrev pub ruledAs : Verdict → Told (Unit {0})
-ruledAs (accepted p) = done tt
-ruledAs (refused n k) = refusal n k
+ruledAs v = onAccepted (λ p. done tt) refusal v
 
 -- for every tree that the arrays hold, the answer is the rules' own
 pub record Ruled (text starts sizes : List ℕ) (n : ℕ) (p : Parsed) (codes indices rows decls owners : List ℕ) (r : Ruling) : Type 0 where
   pub is : (ts : List Token) (t : Text) (kinds : List ℕ) → Laid ts t kinds starts n codes indices (p .items) rows (p .statements) decls (p .names) owners → WordsIn text ts sizes n
       → HeadsIn ts t (headsOf p) → tokenAt ts (p .process) ≡ t .process → WithinLimits t → rulingTold r ≡ ruledAs (ruled table t)
 
--- "Stages in table order": the rules from 9, 8, 7 and 6 on
-abbrev pub from9 : List Rule
-from9 = record { number = 9; offences = loops } ∷ []
+-- "Stages in table order": the stages from 9, 8, 7 and 6 on
+abbrev pub from9 : List Stage
+from9 = by 9 loops ∷ []
 
-abbrev pub from8 : List Rule
-from8 = record { number = 8; offences = clock } ∷ from9
+abbrev pub from8 : List Stage
+from8 = by 8 clock ∷ from9
 
-abbrev pub from7 : List Rule
-from7 = record { number = 7; offences = values } ∷ from8
+abbrev pub from7 : List Stage
+from7 = by 7 values ∷ from8
 
-abbrev pub from6 : List Rule
-from6 = record { number = 6; offences = types } ∷ from7
+abbrev pub from6 : List Stage
+from6 = by 6 types ∷ from7
 
--- the same for the rules rs alone, where no name is wrong
-pub record RuledBy (rs : List Rule) (starts : List ℕ) (n : ℕ) (p : Parsed) (codes indices rows decls owners : List ℕ) (r : Ruling) : Type 0 where
+-- the same for the stages rs alone, where no name is wrong
+pub record RuledBy (rs : List Stage) (starts : List ℕ) (n : ℕ) (p : Parsed) (codes indices rows decls owners : List ℕ) (r : Ruling) : Type 0 where
   pub is : (ts : List Token) (t : Text) (kinds : List ℕ) → Laid ts t kinds starts n codes indices (p .items) rows (p .statements) decls (p .names) owners
       → tokenAt ts (p .process) ≡ t .process → WithinLimits t → names t ≡ [] → rulingTold r ≡ ruledAs (ruled rs t)
 
--- the same for the last rule, which asks for tokens and statements alone
+-- the same for the last stage, which asks for tokens and statements alone
 pub record RuledLast (starts : List ℕ) (n : ℕ) (p : Parsed) (rows : List ℕ) (r : Ruling) : Type 0 where
   pub is : (ts : List Token) (t : Text) (kinds : List ℕ) → TokensIn ts kinds starts n → RowsIn ts (bodyEntries (t .body)) rows (p .statements)
       → tokenAt ts (p .process) ≡ t .process → rulingTold r ≡ ruledAs (ruled from9 t)

@@ -2,6 +2,9 @@
 ghost use mathlib.Core.Path.{_≡_};
 ghost use mathlib.Core.List.{List};
 ghost use Rattle.frontend.specs.Designs.{LaidOut, Sized};
+use codes::declaration;
+use codes::limit;
+use codes::statement;
 use parser::Parsed;
 
 // How many statements, operations, data inputs, outputs and variables a design has.
@@ -16,31 +19,31 @@ pub struct Counts {
 // Fills the arrays of the design.
 pub(crate) fn lay_out(
     text: &[u8],
-    kinds: &[u8; 16384],
-    starts: &[u16; 16384],
-    sizes: &[u16; 16384],
+    kinds: &[u8; limit::TEXT],
+    starts: &[u16; limit::TEXT],
+    sizes: &[u16; limit::TEXT],
     n: usize,
     p: Parsed,
-    codes: &[u8; 16384],
-    indices: &[u16; 16384],
-    rows: &[u16; 3072],
-    decls: &[u16; 390],
-    owners: &[u8; 16384],
-    ops: &mut [u8; 16384],
-    args: &mut [i32; 16384],
-    lines: &mut [u16; 3072],
-    input_types: &mut [u8; 32],
-    output_types: &mut [u8; 32],
-    variable_types: &mut [u8; 32],
-    output_values: &mut [i32; 32],
-    variable_values: &mut [i32; 32],
+    codes: &[u8; limit::TEXT],
+    indices: &[u16; limit::TEXT],
+    rows: &[u16; statement::ROWS],
+    decls: &[u16; declaration::ROWS],
+    owners: &[u8; limit::TEXT],
+    ops: &mut [u8; limit::TEXT],
+    args: &mut [i32; limit::TEXT],
+    lines: &mut [u16; statement::ROWS],
+    input_types: &mut [u8; limit::VARIABLES],
+    output_types: &mut [u8; limit::VARIABLES],
+    variable_types: &mut [u8; limit::VARIABLES],
+    output_values: &mut [i32; limit::VARIABLES],
+    variable_values: &mut [i32; limit::VARIABLES],
 ) -> Counts
     ensures { λ r. ⌜ (Sized (now (ops .entry)) (now (args .entry)) (now (lines .entry)) (now («input_types» .entry)) (now («output_types» .entry)) (now («variable_types» .entry)) (now («output_values» .entry)) (now («variable_values» .entry))
         → LaidOut (now (text .entry)) (now (kinds .entry)) (now (starts .entry)) (now (sizes .entry)) n p (now (codes .entry)) (now (indices .entry)) (now (rows .entry)) (now (decls .entry)) (now (owners .entry))
         (now (ops .exit)) (now (args .exit)) (now (lines .exit)) (now («input_types» .exit)) (now («output_types» .exit)) (now («variable_types» .exit)) (now («output_values» .exit)) (now («variable_values» .exit)) r) ⌝ }
 {
     let clock = clock::clock_owner(rows, p.statements, owners, n);
-    let mut slots = [0u8; 65];
+    let mut slots = [0u8; limit::NAMES];
     elaborator::names::slots(decls, p.names, clock, &mut slots);
     elaborator::items::operations(
         text,
@@ -58,10 +61,16 @@ pub(crate) fn lay_out(
         args,
     );
     elaborator::rows::statements(owners, &slots, rows, p.statements, lines);
-    let inputs = elaborator::names::types(decls, p.names, clock, 0, input_types);
-    let outputs = elaborator::names::types(decls, p.names, clock, 1, output_types);
-    let variables = elaborator::names::types(decls, p.names, clock, 2, variable_types);
-    elaborator::names::values(text, starts, sizes, kinds, decls, p.names, 1, output_values);
+    let inputs = elaborator::names::types(decls, p.names, clock, declaration::IN, input_types);
+    let outputs = elaborator::names::types(decls, p.names, clock, declaration::OUT, output_types);
+    let variables = elaborator::names::types(
+        decls,
+        p.names,
+        clock,
+        declaration::VARIABLE,
+        variable_types,
+    );
+    operands::tell(ops, p.items, input_types, variable_types, args);
     elaborator::names::values(
         text,
         starts,
@@ -69,7 +78,17 @@ pub(crate) fn lay_out(
         kinds,
         decls,
         p.names,
-        2,
+        declaration::OUT,
+        output_values,
+    );
+    elaborator::names::values(
+        text,
+        starts,
+        sizes,
+        kinds,
+        decls,
+        p.names,
+        declaration::VARIABLE,
         variable_values,
     );
     Counts {

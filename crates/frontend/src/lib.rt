@@ -2,6 +2,8 @@
 ghost use mathlib.Core.Path.{_≡_};
 ghost use mathlib.Core.List.{List};
 ghost use lib.ListN.{length};
+ghost use Rattle.codes.specs.Limit.{TEXT};
+ghost use Rattle.codes.specs.Refusal.{NO-SENTENCE, LIMIT-PASSED};
 ghost use Rattle.grammar.specs.Token.{Token};
 ghost use Rattle.grammar.specs.Tree.{Text};
 ghost use Rattle.grammar.specs.Reader.{answer};
@@ -20,6 +22,10 @@ pub mod layout;
 mod rules;
 
 use answers::Refusal;
+use codes::declaration;
+use codes::limit;
+use codes::refusal;
+use codes::statement;
 use layout::Counts;
 use lexer::Lexed;
 use parser::Parsed;
@@ -33,7 +39,7 @@ pub enum Front {
 }
 
 // The place of a token, or the text's length where there is no such token.
-fn place_of(starts: &[u16; 16384], n: usize, length: usize, i: usize) -> usize
+fn place_of(starts: &[u16; limit::TEXT], n: usize, length: usize, i: usize) -> usize
     ensures { λ r. ⌜ r ≡ placeIn (now (starts .entry)) n length i ⌝ }
 {
     if i < n {
@@ -44,9 +50,9 @@ fn place_of(starts: &[u16; 16384], n: usize, length: usize, i: usize) -> usize
 
 // Refusal 3 or 4.
 fn unread(number: u8, place: usize) -> Refusal
-    ensures { λ r. ⌜ ((number ≡ 3) → r ≡ NoSentence place) × ((number ≡ 4) → r ≡ LimitPassed place) ⌝ }
+    ensures { λ r. ⌜ ((number ≡ NO-SENTENCE) → r ≡ NoSentence place) × ((number ≡ LIMIT-PASSED) → r ≡ LimitPassed place) ⌝ }
 {
-    if number == 3 {
+    if number == refusal::NO_SENTENCE {
         return Refusal::NoSentence(place);
     }
     Refusal::LimitPassed(place)
@@ -55,27 +61,27 @@ fn unread(number: u8, place: usize) -> Refusal
 // The rules 5 to 9 on a parsed text, then its design. The owners of names are written into a lent array, whatever it holds.
 fn ruled_text(
     text: &[u8],
-    kinds: &[u8; 16384],
-    starts: &[u16; 16384],
-    sizes: &[u16; 16384],
+    kinds: &[u8; limit::TEXT],
+    starts: &[u16; limit::TEXT],
+    sizes: &[u16; limit::TEXT],
     n: usize,
     p: Parsed,
-    codes: &[u8; 16384],
-    indices: &[u16; 16384],
-    rows: &[u16; 3072],
-    decls: &[u16; 390],
-    owners: &mut [u8; 16384],
-    ops: &mut [u8; 16384],
-    args: &mut [i32; 16384],
-    lines: &mut [u16; 3072],
-    input_types: &mut [u8; 32],
-    output_types: &mut [u8; 32],
-    variable_types: &mut [u8; 32],
-    output_values: &mut [i32; 32],
-    variable_values: &mut [i32; 32],
+    codes: &[u8; limit::TEXT],
+    indices: &[u16; limit::TEXT],
+    rows: &[u16; statement::ROWS],
+    decls: &[u16; declaration::ROWS],
+    owners: &mut [u8; limit::TEXT],
+    ops: &mut [u8; limit::TEXT],
+    args: &mut [i32; limit::TEXT],
+    lines: &mut [u16; statement::ROWS],
+    input_types: &mut [u8; limit::VARIABLES],
+    output_types: &mut [u8; limit::VARIABLES],
+    variable_types: &mut [u8; limit::VARIABLES],
+    output_values: &mut [i32; limit::VARIABLES],
+    variable_values: &mut [i32; limit::VARIABLES],
 ) -> Front
     ensures { λ r. ⌜ (Sized (now (ops .entry)) (now (args .entry)) (now (lines .entry)) (now («input_types» .entry)) (now («output_types» .entry)) (now («variable_types» .entry)) (now («output_values» .entry)) (now («variable_values» .entry))
-        → length (now (owners .entry)) ≡ 16384 → (ts : List Token) (t : Text) → TreeIn (now (text .entry)) ts t (now (kinds .entry)) (now (starts .entry)) (now (sizes .entry)) n p (now (codes .entry)) (now (indices .entry)) (now (rows .entry)) (now (decls .entry))
+        → length (now (owners .entry)) ≡ TEXT → (ts : List Token) (t : Text) → TreeIn (now (text .entry)) ts t (now (kinds .entry)) (now (starts .entry)) (now (sizes .entry)) n p (now (codes .entry)) (now (indices .entry)) (now (rows .entry)) (now (decls .entry))
         → FrontAs (ruled table t)
         r (designArrays (now (ops .entry)) (now (args .entry)) (now (lines .entry)) (now («input_types» .entry)) (now («output_types» .entry)) (now («variable_types» .entry)) (now («output_values» .entry)) (now («variable_values» .entry)))
         (designArrays (now (ops .exit)) (now (args .exit)) (now (lines .exit)) (now («input_types» .exit)) (now («output_types» .exit)) (now («variable_types» .exit)) (now («output_values» .exit)) (now («variable_values» .exit)))) ⌝ }
@@ -123,30 +129,30 @@ fn ruled_text(
 // names, since clearing arrays is what a short text's compile spends most of its time on.
 fn parsed_text(
     text: &[u8],
-    kinds: &[u8; 16384],
-    starts: &[u16; 16384],
-    sizes: &[u16; 16384],
+    kinds: &[u8; limit::TEXT],
+    starts: &[u16; limit::TEXT],
+    sizes: &[u16; limit::TEXT],
     n: usize,
-    long: &mut [u8; 16384],
-    ops: &mut [u8; 16384],
-    args: &mut [i32; 16384],
-    lines: &mut [u16; 3072],
-    input_types: &mut [u8; 32],
-    output_types: &mut [u8; 32],
-    variable_types: &mut [u8; 32],
-    output_values: &mut [i32; 32],
-    variable_values: &mut [i32; 32],
+    long: &mut [u8; limit::TEXT],
+    ops: &mut [u8; limit::TEXT],
+    args: &mut [i32; limit::TEXT],
+    lines: &mut [u16; statement::ROWS],
+    input_types: &mut [u8; limit::VARIABLES],
+    output_types: &mut [u8; limit::VARIABLES],
+    variable_types: &mut [u8; limit::VARIABLES],
+    output_values: &mut [i32; limit::VARIABLES],
+    variable_values: &mut [i32; limit::VARIABLES],
 ) -> Front
     ensures { λ r. ⌜ (Sized (now (ops .entry)) (now (args .entry)) (now (lines .entry)) (now («input_types» .entry)) (now («output_types» .entry)) (now («variable_types» .entry)) (now («output_values» .entry)) (now («variable_values» .entry))
-        → length (now (long .entry)) ≡ 16384 → (ts : List Token) → TokensIn ts (now (kinds .entry)) (now (starts .entry)) n → WordsIn (now (text .entry)) ts (now (sizes .entry)) n → Holds ts (now (kinds .entry)) (now (long .entry)) n
+        → length (now (long .entry)) ≡ TEXT → (ts : List Token) → TokensIn ts (now (kinds .entry)) (now (starts .entry)) n → WordsIn (now (text .entry)) ts (now (sizes .entry)) n → Holds ts (now (kinds .entry)) (now (long .entry)) n
         → FrontAs (parsedAs (length (now (text .entry))) ts (answer ts))
         r (designArrays (now (ops .entry)) (now (args .entry)) (now (lines .entry)) (now («input_types» .entry)) (now («output_types» .entry)) (now («variable_types» .entry)) (now («output_values» .entry)) (now («variable_values» .entry)))
         (designArrays (now (ops .exit)) (now (args .exit)) (now (lines .exit)) (now («input_types» .exit)) (now («output_types» .exit)) (now («variable_types» .exit)) (now («output_values» .exit)) (now («variable_values» .exit)))) ⌝ }
 {
-    let mut codes = [0u8; 16384];
-    let mut indices = [0u16; 16384];
-    let mut rows = [0u16; 3072];
-    let mut decls = [0u16; 390];
+    let mut codes = [0u8; limit::TEXT];
+    let mut indices = [0u16; limit::TEXT];
+    let mut rows = [0u16; statement::ROWS];
+    let mut decls = [0u16; declaration::ROWS];
     let parsing = parser::parse(
         kinds,
         long,
@@ -187,27 +193,27 @@ fn parsed_text(
 // All stages on a text: refusals 1 to 9 in table order, or the arrays of its design.
 pub fn accept(
     text: &[u8],
-    ops: &mut [u8; 16384],
-    args: &mut [i32; 16384],
-    lines: &mut [u16; 3072],
-    input_types: &mut [u8; 32],
-    output_types: &mut [u8; 32],
-    variable_types: &mut [u8; 32],
-    output_values: &mut [i32; 32],
-    variable_values: &mut [i32; 32],
+    ops: &mut [u8; limit::TEXT],
+    args: &mut [i32; limit::TEXT],
+    lines: &mut [u16; statement::ROWS],
+    input_types: &mut [u8; limit::VARIABLES],
+    output_types: &mut [u8; limit::VARIABLES],
+    variable_types: &mut [u8; limit::VARIABLES],
+    output_values: &mut [i32; limit::VARIABLES],
+    variable_values: &mut [i32; limit::VARIABLES],
 ) -> Front
     ensures { λ r. ⌜ (Sized (now (ops .entry)) (now (args .entry)) (now (lines .entry)) (now («input_types» .entry)) (now («output_types» .entry)) (now («variable_types» .entry)) (now («output_values» .entry)) (now («variable_values» .entry))
         → (frontTold r ≡ frontAnswer (verdict (now (text .entry))))
         × LeftAs (verdict (now (text .entry))) (designArrays (now (ops .entry)) (now (args .entry)) (now (lines .entry)) (now («input_types» .entry)) (now («output_types» .entry)) (now («variable_types» .entry)) (now («output_values» .entry)) (now («variable_values» .entry)))
         (designArrays (now (ops .exit)) (now (args .exit)) (now (lines .exit)) (now («input_types» .exit)) (now («output_types» .exit)) (now («variable_types» .exit)) (now («output_values» .exit)) (now («variable_values» .exit)))) ⌝ }
 {
-    let mut kinds = [0u8; 16384];
-    let mut starts = [0u16; 16384];
-    let mut sizes = [0u16; 16384];
+    let mut kinds = [0u8; limit::TEXT];
+    let mut starts = [0u16; limit::TEXT];
+    let mut sizes = [0u16; limit::TEXT];
     let lexed = lexer::lex(text, &mut kinds, &mut starts, &mut sizes);
     match lexed {
         Lexed::Tokens(n) => {
-            let mut long = [0u8; 16384];
+            let mut long = [0u8; limit::TEXT];
             limits::mark(text, &kinds, &starts, &sizes, n, &mut long);
             parsed_text(
                 text,

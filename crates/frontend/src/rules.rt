@@ -6,6 +6,9 @@ ghost use Rattle.grammar.specs.Token.{Token};
 ghost use Rattle.grammar.specs.Tree.{Text};
 ghost use Rattle.frontend.specs.Stages.{headsOf, Ruled, RuledBy, RuledLast, from6, from7, from8};
 use answers::Refusal;
+use codes::declaration;
+use codes::limit;
+use codes::statement;
 use parser::Parsed;
 use scope::Heads;
 use syntax::Finding;
@@ -30,7 +33,12 @@ fn heads_of(p: Parsed) -> Heads
 }
 
 // Rule 9.
-fn classed(starts: &[u16; 16384], n: usize, p: Parsed, rows: &[u16; 3072]) -> Ruling
+fn classed(
+    starts: &[u16; limit::TEXT],
+    n: usize,
+    p: Parsed,
+    rows: &[u16; statement::ROWS],
+) -> Ruling
     ensures { λ r. ⌜ RuledLast (now (starts .entry)) n p (now (rows .entry)) r ⌝ }
 {
     let found = classes::judge(rows, starts, n, p.statements, p.process);
@@ -42,14 +50,14 @@ fn classed(starts: &[u16; 16384], n: usize, p: Parsed, rows: &[u16; 3072]) -> Ru
 
 // Rule 8, then 9.
 fn clocked(
-    starts: &[u16; 16384],
+    starts: &[u16; limit::TEXT],
     n: usize,
     p: Parsed,
-    codes: &[u8; 16384],
-    indices: &[u16; 16384],
-    rows: &[u16; 3072],
-    decls: &[u16; 390],
-    owners: &[u8; 16384],
+    codes: &[u8; limit::TEXT],
+    indices: &[u16; limit::TEXT],
+    rows: &[u16; statement::ROWS],
+    decls: &[u16; declaration::ROWS],
+    owners: &[u8; limit::TEXT],
 ) -> Ruling
     ensures { λ r. ⌜ RuledBy from8 (now (starts .entry)) n p (now (codes .entry)) (now (indices .entry)) (now (rows .entry)) (now (decls .entry)) (now (owners .entry)) r ⌝ }
 {
@@ -73,14 +81,14 @@ fn clocked(
 
 // Rule 7, then those behind it.
 fn valued(
-    starts: &[u16; 16384],
+    starts: &[u16; limit::TEXT],
     n: usize,
     p: Parsed,
-    codes: &[u8; 16384],
-    indices: &[u16; 16384],
-    rows: &[u16; 3072],
-    decls: &[u16; 390],
-    owners: &[u8; 16384],
+    codes: &[u8; limit::TEXT],
+    indices: &[u16; limit::TEXT],
+    rows: &[u16; statement::ROWS],
+    decls: &[u16; declaration::ROWS],
+    owners: &[u8; limit::TEXT],
 ) -> Ruling
     ensures { λ r. ⌜ RuledBy from7 (now (starts .entry)) n p (now (codes .entry)) (now (indices .entry)) (now (rows .entry)) (now (decls .entry)) (now (owners .entry)) r ⌝ }
 {
@@ -93,14 +101,14 @@ fn valued(
 
 // Rule 6, then those behind it.
 fn typed(
-    starts: &[u16; 16384],
+    starts: &[u16; limit::TEXT],
     n: usize,
     p: Parsed,
-    codes: &[u8; 16384],
-    indices: &[u16; 16384],
-    rows: &[u16; 3072],
-    decls: &[u16; 390],
-    owners: &[u8; 16384],
+    codes: &[u8; limit::TEXT],
+    indices: &[u16; limit::TEXT],
+    rows: &[u16; statement::ROWS],
+    decls: &[u16; declaration::ROWS],
+    owners: &[u8; limit::TEXT],
 ) -> Ruling
     ensures { λ r. ⌜ RuledBy from6 (now (starts .entry)) n p (now (codes .entry)) (now (indices .entry)) (now (rows .entry)) (now (decls .entry)) (now (owners .entry)) r ⌝ }
 {
@@ -124,15 +132,15 @@ fn typed(
 // The rules one after the other.
 pub(crate) fn judge(
     text: &[u8],
-    starts: &[u16; 16384],
-    sizes: &[u16; 16384],
+    starts: &[u16; limit::TEXT],
+    sizes: &[u16; limit::TEXT],
     n: usize,
     p: Parsed,
-    codes: &[u8; 16384],
-    indices: &[u16; 16384],
-    rows: &[u16; 3072],
-    decls: &[u16; 390],
-    owners: &[u8; 16384],
+    codes: &[u8; limit::TEXT],
+    indices: &[u16; limit::TEXT],
+    rows: &[u16; statement::ROWS],
+    decls: &[u16; declaration::ROWS],
+    owners: &[u8; limit::TEXT],
 ) -> Ruling
     ensures { λ r. ⌜ Ruled (now (text .entry)) (now (starts .entry)) (now (sizes .entry)) n p (now (codes .entry)) (now (indices .entry)) (now (rows .entry)) (now (decls .entry)) (now (owners .entry)) r ⌝ }
 {

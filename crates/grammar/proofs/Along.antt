@@ -9,7 +9,8 @@ use native.Mathlib.Omega.{arith}
 use native.Mathlib.Nat.{le-of-suc-le-suc, not-suc-le-zero}
 use lib.Dec.{eqb}
 use lib.ListN.{length, take}
-use Rattle.grammar.specs.Token.{Token, NAME, NUMBER}
+use Rattle.grammar.specs.Token.{Token}
+use Rattle.codes.specs.Token.{NAME, NUMBER}
 use Rattle.grammar.specs.Grammar.{text, Mark}
 use Rattle.grammar.specs.Tree.{Text}
 use Rattle.grammar.specs.Meter.{Meter, zeroes, tick, gauge}

@@ -2,8 +2,9 @@
 use mathlib.Core.Path.{_≡_, refl}
 use mathlib.Core.List.{List, [], _∷_, _++_}
 use Prim.Native.Nat.{ℕ, zero, suc}
-use Rattle.grammar.specs.Token.{Token, NAME, NUMBER, LP, RP, SEMI, COLON, COMMA, BECOMES, PLUS, MINUS, EQ, AND, OR, NOT}
-use Rattle.grammar.specs.Token.{ENTITY, IS, PORT, END, ARCHITECTURE, OF, BEGIN, PROCESS, IN, VARIABLE, NULL, IF, THEN, STD-LOGIC, INTEGER}
+use Rattle.grammar.specs.Token.{Token}
+use Rattle.codes.specs.Token.{NAME, NUMBER, LP, RP, SEMI, COLON, COMMA, BECOMES, PLUS, MINUS, EQ, AND, OR, NOT}
+use Rattle.codes.specs.Token.{ENTITY, IS, PORT, END, ARCHITECTURE, OF, BEGIN, PROCESS, IN, VARIABLE, NULL, IF, THEN, STD-LOGIC, INTEGER}
 use Rattle.grammar.specs.Grammar.{textProduction, productions}
 use Rattle.grammar.specs.Tree.{Text, Expr, name, sign, negate, binary, parens, assign, only, without, input}
 use Rattle.grammar.specs.Meter.{tick, over}

@@ -21,3 +21,4 @@ pub mod Limits
 pub mod Room
 pub mod Each
 pub mod Keeping
+pub mod TokensOf

@@ -7,7 +7,8 @@ use Prim.Native.Nat.{ℕ, zero, suc, _<_}
 use native.Mathlib.Omega.{arith}
 use lib.Dec.{T, eqb, eqb→eq}
 use lib.ListN.{length}
-use Rattle.grammar.specs.Token.{Token, PLUS, MINUS}
+use Rattle.grammar.specs.Token.{Token}
+use Rattle.codes.specs.Token.{PLUS, MINUS}
 use Rattle.grammar.specs.Tree.{Expr, binary}
 use Rattle.grammar.specs.Grammar.{NonTerminal, terms, term, Says, Mark, item, Sym, tk, nt, Fun, Production, productions, _↠_}
 use Rattle.grammar.specs.Meter.{Meter}

@@ -7,7 +7,8 @@ use mathlib.Core.List.{List, [], _∷_, _++_}
 use Prim.Native.Nat.{ℕ, _+_, _-_, _≤_}
 use native.Mathlib.Omega.{arith}
 use lib.Dec.{eqb, eqb→eq}
-use Rattle.grammar.specs.Token.{Token, NAME, NUMBER}
+use Rattle.grammar.specs.Token.{Token}
+use Rattle.codes.specs.Token.{NAME, NUMBER}
 use Rattle.grammar.specs.Tree.{Expr, number, bit, name, sign, negate, binary, parens, Stmt, output, assign, null, wait, if-then, if-else, while, Body, only, andThen, Init, without, integer-literal, logic-literal, minus, Mode, input, output-port, variable-mode, Group, Text}
 use Rattle.grammar.specs.Grammar.{text, Mark}
 use Rattle.grammar.specs.Meter.{Meter, zeroes, tick}

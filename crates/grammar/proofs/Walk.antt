@@ -8,7 +8,8 @@ use Prim.Native.Nat.{ℕ}
 use native.Mathlib.Omega.{arith}
 use lib.Dec.{eqb}
 use lib.ListN.{length}
-use Rattle.grammar.specs.Token.{Token, NAME, NUMBER}
+use Rattle.grammar.specs.Token.{Token}
+use Rattle.codes.specs.Token.{NAME, NUMBER}
 use Rattle.grammar.specs.Tree.{Expr, number, bit, name, sign, negate, binary, parens, Stmt, output, assign, null, wait, if-then, if-else, while, Body, only, andThen, Init, without, integer-literal, logic-literal, minus, Mode, input, output-port, variable-mode, Group, Text}
 use Rattle.grammar.specs.Grammar.{NonTerminal, text, ports, morePorts, port, names, moreNames, mode, type, init, value, vars, body, more, statement, target, else-part, expression, chain, ands, ors, xors, relation, compared, simple, terms, term, factors, factor, primary, Says}
 use Rattle.grammar.specs.Grammar.{Mark, plain, item, opens, closes, fresh, stmt, stmt-fresh, deeper, shallower, declares, ins, outs, variables, Sym, tk, nt, Fun, Production, productions, textProduction}

@@ -4,7 +4,8 @@ use mathlib.Core.Bool.{Bool, true, false, _||_}
 use mathlib.Core.List.{List, [], _∷_}
 use Prim.Native.Nat.{ℕ, suc, pred, _+_}
 use lib.Dec.{ltb, eqb}
-use Rattle.grammar.specs.Token.{Token, NAME, NUMBER}
+use Rattle.grammar.specs.Token.{Token}
+use Rattle.codes.specs.Token.{NAME, NUMBER}
 use Rattle.grammar.specs.Grammar.{Mark, plain, item, opens, closes, fresh, stmt, stmt-fresh, deeper, shallower, declares, ins, outs, variables}
 
 -- of the expression being read: its literals, names and operators so far; its open parentheses

@@ -5,8 +5,9 @@ use mathlib.Core.List.{List, [], _∷_, _++_}
 use Prim.Native.Nat.{ℕ, zero, suc, _-_}
 use lib.Dec.{eqb}
 use lib.ListN.{length}
-use Rattle.grammar.specs.Token.{Token, NAME, NUMBER, ZERO, ONE, LP, RP, SEMI, COLON, COMMA, BECOMES, PLUS, MINUS, EQ, NE, LT, LE, GT, GE, AND, OR, XOR, NOT, TIMES, DIVIDE, MOD, REM}
-use Rattle.grammar.specs.Token.{ENTITY, END, BEGIN, IN, OUT, VARIABLE, NULL, WAIT, IF, THEN, ELSE, WHILE, LOOP, STD-LOGIC, INTEGER}
+use Rattle.grammar.specs.Token.{Token}
+use Rattle.codes.specs.Token.{NAME, NUMBER, ZERO, ONE, LP, RP, SEMI, COLON, COMMA, BECOMES, PLUS, MINUS, EQ, NE, LT, LE, GT, GE, AND, OR, XOR, NOT, multiplying}
+use Rattle.codes.specs.Token.{ENTITY, END, BEGIN, IN, OUT, VARIABLE, NULL, WAIT, IF, THEN, ELSE, WHILE, LOOP, STD-LOGIC, INTEGER}
 use Rattle.grammar.specs.Grammar.{NonTerminal, text, ports, morePorts, port, names, moreNames, mode, type, init, value, vars, body, more, statement, target, else-part}
 use Rattle.grammar.specs.Grammar.{expression, chain, ands, ors, xors, relation, compared, simple, terms, term, factors, factor, primary, Says, Mark, Sym, tk, nt, Fun, Production, productions, textProduction}
 use Rattle.grammar.specs.Tree.{Text}
@@ -53,7 +54,7 @@ abbrev primaries : List ℕ
 primaries = NUMBER ∷ ZERO ∷ ONE ∷ NAME ∷ LP ∷ []
 
 abbrev scales : List ℕ
-scales = TIMES ∷ DIVIDE ∷ MOD ∷ REM ∷ []
+scales = multiplying
 
 unfoldable pub first : NonTerminal → List ℕ
 first text = ENTITY ∷ []
@@ -127,8 +128,8 @@ follow simple = afterS
 follow terms = afterS
 follow term = afterT
 follow factors = afterT
-follow factor = TIMES ∷ DIVIDE ∷ MOD ∷ REM ∷ afterT
-follow primary = TIMES ∷ DIVIDE ∷ MOD ∷ REM ∷ afterT
+follow factor = multiplying ++ afterT
+follow primary = multiplying ++ afterT
 
 -- how many productions deep a nonterminal can go before its first token
 unfoldable pub rank : NonTerminal → ℕ

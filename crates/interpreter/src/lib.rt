@@ -19,17 +19,20 @@ use answers::Cycled;
 use answers::FreshState;
 use answers::Started;
 use answers::State;
+use codes::limit;
+use codes::record;
+use codes::statement;
 use frontend::Front;
 use frontend::layout::Counts;
 
 // One call on the design of an accepted text.
 fn run_design(
-    ops: &[u8; 16384],
-    args: &[i32; 16384],
-    lines: &[u16; 3072],
-    is: [u8; 32],
-    os: [u8; 32],
-    vs: [u8; 32],
+    ops: &[u8; limit::TEXT],
+    args: &[i32; limit::TEXT],
+    lines: &[u16; statement::ROWS],
+    is: [u8; limit::VARIABLES],
+    os: [u8; limit::VARIABLES],
+    vs: [u8; limit::VARIABLES],
     c: Counts,
     s: State,
     inputs: &[i32],
@@ -62,14 +65,14 @@ pub fn run(text: &[u8], s: State, inputs: &[i32], row: &mut [i32]) -> Advanced
         × (a .state ≡ directOf (now (text .entry)) s (callOf (now (inputs .entry)) (now (row .entry))) .state)
         × (now (row .exit) ≡ directOf (now (text .entry)) s (callOf (now (inputs .entry)) (now (row .entry))) .row) ⌝ }
 {
-    let mut ops = [0u8; 16384];
-    let mut args = [0i32; 16384];
-    let mut lines = [0u16; 3072];
-    let mut is = [0u8; 32];
-    let mut os = [0u8; 32];
-    let mut vs = [0u8; 32];
-    let mut output_values = [0i32; 32];
-    let mut variable_values = [0i32; 32];
+    let mut ops = [0u8; limit::TEXT];
+    let mut args = [0i32; limit::TEXT];
+    let mut lines = [0u16; statement::ROWS];
+    let mut is = [0u8; limit::VARIABLES];
+    let mut os = [0u8; limit::VARIABLES];
+    let mut vs = [0u8; limit::VARIABLES];
+    let mut output_values = [0i32; limit::VARIABLES];
+    let mut variable_values = [0i32; limit::VARIABLES];
     let front = frontend::accept(
         text,
         &mut ops,
@@ -91,7 +94,11 @@ pub fn run(text: &[u8], s: State, inputs: &[i32], row: &mut [i32]) -> Advanced
 }
 
 // The fresh state of the design of an accepted text.
-fn fresh_design(output_values: [i32; 32], variable_values: [i32; 32], c: Counts) -> State
+fn fresh_design(
+    output_values: [i32; limit::VARIABLES],
+    variable_values: [i32; limit::VARIABLES],
+    c: Counts,
+) -> State
     requires { ⌜ (c .outputs ≤ 16) × (c .variables ≤ 32) ⌝ }
     ensures { λ r. ⌜ ((p : Process) → take (c .outputs) «output_values» ≡ initials (p .outputs) → take (c .variables) «variable_values» ≡ initials (p .variables) → r ≡ laid (atFirst p)) ⌝ }
 {
@@ -105,9 +112,9 @@ fn blank() -> State
     ensures { λ r. ⌜ r ≡ stateFor 512 (record { outputs = []; variables = [] }) ⌝ }
 {
     State {
-        place: 512,
-        outputs: [0i32; 16],
-        variables: [0i32; 32],
+        place: record::BEGINNING,
+        outputs: [0i32; limit::OUTPUTS],
+        variables: [0i32; limit::VARIABLES],
     }
 }
 
@@ -115,14 +122,14 @@ fn blank() -> State
 pub fn fresh(text: &[u8]) -> FreshState
     ensures { λ r. ⌜ (freshTold (r .answer) ≡ freshAnswer (directFresh (now (text .entry)))) × (r .state ≡ startOf (directFresh (now (text .entry)))) ⌝ }
 {
-    let mut ops = [0u8; 16384];
-    let mut args = [0i32; 16384];
-    let mut lines = [0u16; 3072];
-    let mut is = [0u8; 32];
-    let mut os = [0u8; 32];
-    let mut vs = [0u8; 32];
-    let mut output_values = [0i32; 32];
-    let mut variable_values = [0i32; 32];
+    let mut ops = [0u8; limit::TEXT];
+    let mut args = [0i32; limit::TEXT];
+    let mut lines = [0u16; statement::ROWS];
+    let mut is = [0u8; limit::VARIABLES];
+    let mut os = [0u8; limit::VARIABLES];
+    let mut vs = [0u8; limit::VARIABLES];
+    let mut output_values = [0i32; limit::VARIABLES];
+    let mut variable_values = [0i32; limit::VARIABLES];
     let front = frontend::accept(
         text,
         &mut ops,

@@ -1,16 +1,19 @@
 -- The operations of an expression stand behind their operands, so that the law of postfix items (design/proofs/Postfix.antt) is theirs. Assumes nothing.
 use mathlib.Core.Path.{refl}
 use lib.IntN.{pos}
+use Rattle.design.specs.Types.{ExprTy}
 use Rattle.design.specs.Expression.{Unary, Binary}
 use Rattle.design.proofs.Postfix.{Lays}
-use Rattle.ir.specs.Operations.{Op, op, leafOp, unaryCode, binaryCode, ops}
+use Rattle.ir.specs.Operations.{Op, op, leafOp, ops}
+use Rattle.codes.specs.Types.{tagOf}
+use Rattle.codes.specs.Operation.{unaryCode, binaryCode}
 
--- an operator's operation
-abbrev pub unaryOp : Unary → Op
-unaryOp o = op (unaryCode o) (pos 0)
+-- an operator's operation, with the type of its operands
+abbrev pub unaryOp : Unary → ExprTy → Op
+unaryOp o t = op (unaryCode o) (pos (tagOf t))
 
-abbrev pub binaryOp : Binary → Op
-binaryOp o = op (binaryCode o) (pos 0)
+abbrev pub binaryOp : Binary → ExprTy → Op
+binaryOp o t = op (binaryCode o) (pos (tagOf t))
 
 pub ops-laid : Lays leafOp unaryOp binaryOp ops
 unfolding ops

@@ -4,10 +4,12 @@ use mathlib.Core.List.{List, [], _∷_, map}
 use Prim.Native.Nat.{ℕ, zero, suc, _+_, _*_, _≤_}
 use lib.ListN.{length, getD, take}
 use lib.IntN.{ℤ, pos}
-use Rattle.design.specs.Types.{Ty, std-logic, integer}
+use Rattle.design.specs.Types.{Ty, typeByte}
 use Rattle.design.specs.Statement.{Stmt, size}
 use Rattle.design.specs.Process.{Process, sourceTypes, slotTypes, initials}
-use Rattle.ir.specs.Operations.{Op, op}
+use Rattle.codes.specs.Limit.{TEXT, STATEMENTS}
+use Rattle.codes.specs.Statement.{ROW, TARGET, FROM, TO, OTHER, END}
+use Rattle.ir.specs.Operations.{Op, op, bareOp}
 use Rattle.ir.specs.Entries.{Entry, entries, entryOps, Block}
 
 -- Operations: those from index m on, c of them
@@ -18,7 +20,7 @@ opsFrom codes args m (suc c) = op (getD codes m 0) (getD args m (pos 0)) ∷ ops
 -- the arrays hold k operations, which are these
 pub record OpsIn (os : List Op) (codes : List ℕ) (args : List ℤ) (k : ℕ) : Type 0 where
   pub count : length os ≡ k
-  pub short : k ≤ 16384
+  pub short : k ≤ TEXT
   pub are : opsFrom codes args 0 k ≡ os
 
 -- A statement as the array has it: kind, target, its operations from and to, its second part's first statement, the one after its last
@@ -30,9 +32,17 @@ pub record Row : Type 0 where
   pub other : ℕ
   pub end : ℕ
 
--- row j of six numbers, and those from row j on, c of them
+-- row j, and those from row j on, c of them
 abbrev pub rowIn : List ℕ → ℕ → Row
-rowIn rows j = record { kind = getD rows (6 * j) 0; target = getD rows (6 * j + 1) 0; from = getD rows (6 * j + 2) 0; to = getD rows (6 * j + 3) 0; other = getD rows (6 * j + 4) 0; end = getD rows (6 * j + 5) 0 }
+rowIn rows j =
+    record {
+      kind = getD rows (ROW * j) 0;
+      target = getD rows (ROW * j + TARGET) 0;
+      from = getD rows (ROW * j + FROM) 0;
+      to = getD rows (ROW * j + TO) 0;
+      other = getD rows (ROW * j + OTHER) 0;
+      end = getD rows (ROW * j + END) 0;
+    }
 
 unfoldable pub rowsFrom : List ℕ → ℕ → ℕ → List Row
 rowsFrom rows j zero = []
@@ -47,17 +57,12 @@ rowsOf s m (e ∷ es) =
 -- the array holds s statements, which are these
 pub record RowsIn (es : List Entry) (rows : List ℕ) (s : ℕ) : Type 0 where
   pub count : length es ≡ s
-  pub short : s ≤ 512
+  pub short : s ≤ STATEMENTS
   pub are : rowsFrom rows 0 s ≡ rowsOf 0 0 es
-
--- a type as a number: 0 std_logic, 1 integer
-abbrev pub typeCode : Ty → ℕ
-typeCode std-logic = 0
-typeCode integer = 1
 
 -- Declarations: the arrays begin with the types of n names; they begin with their initial values
 abbrev pub TypesIn : List Ty → List ℕ → ℕ → Type 0
-TypesIn ts types n = (length ts ≡ n) × (take n types ≡ map typeCode ts)
+TypesIn ts types n = (length ts ≡ n) × (take n types ≡ map typeByte ts)
 
 abbrev pub ValuesIn : List ℤ → List ℤ → ℕ → Type 0
 ValuesIn zs values n = (length zs ≡ n) × (take n values ≡ zs)
@@ -71,6 +76,12 @@ pub record At (codes : List ℕ) (args : List ℤ) (rows : List ℕ) (s : Stmt) 
 pub record BodyIn (p : Process) (codes : List ℕ) (args : List ℤ) (rows : List ℕ) (k s : ℕ) : Type 0 where
   pub block : Block (p .body)
   pub code : OpsIn (entryOps (entries (p .body))) codes args k
+  pub lines : RowsIn (entries (p .body)) rows s
+
+-- the same before the types of operands are told
+pub record BareIn (p : Process) (codes : List ℕ) (args : List ℤ) (rows : List ℕ) (k s : ℕ) : Type 0 where
+  pub block : Block (p .body)
+  pub code : OpsIn (map bareOp (entryOps (entries (p .body)))) codes args k
   pub lines : RowsIn (entries (p .body)) rows s
 
 -- the arrays hold the declarations of a process: types of its inputs; types and initial values of its outputs and of its variables

@@ -1,9 +1,10 @@
 -- Statements of a design as a list in text order: of each its kind, its target, its expression's operations, and how many statements it holds. Assumes nothing.
-use mathlib.Core.List.{List, [], _∷_, _++_}
+use mathlib.Core.List.{List, [], _∷_, _++_, map}
 use Prim.Native.Nat.{ℕ, _+_}
 use Rattle.design.specs.Expression.{Expr}
 use Rattle.design.specs.Statement.{Act, output, variable, null, Stmt, act, wait, if-then, if-else, while, seq, size}
-use Rattle.ir.specs.Operations.{Op, ops}
+use Rattle.codes.specs.Statement as S
+use Rattle.ir.specs.Operations.{Op, ops, bareOp}
 
 -- a statement: its kind, its target's index, its expression's operations, how many statements its first part holds, and how many it holds in all
 pub record Entry : Type 0 where
@@ -16,21 +17,25 @@ pub record Entry : Type 0 where
 abbrev pub entry : ℕ → ℕ → List Op → ℕ → ℕ → Entry
 entry k x is p q = record { kind = k; target = x; ops = is; part = p; inside = q }
 
--- The kinds: 0 wait, 1 output, 2 variable, 3 if, 4 null, 5 while. What has no target has 0.
+-- What has no target has 0.
 unfoldable pub entries : Stmt → List Entry
-entries (act (output k e)) = entry 1 k (ops e) 0 0 ∷ []
-entries (act (variable k e)) = entry 2 k (ops e) 0 0 ∷ []
-entries (act null) = entry 4 0 [] 0 0 ∷ []
-entries wait = entry 0 0 [] 0 0 ∷ []
-entries (if-then e a) = entry 3 0 (ops e) (size a) (size a) ∷ entries a
-entries (if-else e a b) = entry 3 0 (ops e) (size a) (size a + size b) ∷ (entries a ++ entries b)
-entries (while e b) = entry 5 0 (ops e) (size b) (size b) ∷ entries b
+entries (act (output k e)) = entry S.OUTPUT k (ops e) 0 0 ∷ []
+entries (act (variable k e)) = entry S.VARIABLE k (ops e) 0 0 ∷ []
+entries (act null) = entry S.NULL 0 [] 0 0 ∷ []
+entries wait = entry S.WAIT 0 [] 0 0 ∷ []
+entries (if-then e a) = entry S.IF 0 (ops e) (size a) (size a) ∷ entries a
+entries (if-else e a b) = entry S.IF 0 (ops e) (size a) (size a + size b) ∷ (entries a ++ entries b)
+entries (while e b) = entry S.WHILE 0 (ops e) (size b) (size b) ∷ entries b
 entries (seq a b) = entries a ++ entries b
 
 -- the operations of all their expressions, in text order
 unfoldable pub entryOps : List Entry → List Op
 entryOps [] = []
 entryOps (e ∷ es) = e .ops ++ entryOps es
+
+-- a statement before the types of operands are told
+abbrev pub bareEntry : Entry → Entry
+bareEntry e = entry (e .kind) (e .target) (map bareOp (e .ops)) (e .part) (e .inside)
 
 -- A statement list as texts have them: a sequence's first part is no sequence.
 mutual

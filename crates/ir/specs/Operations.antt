@@ -1,11 +1,14 @@
 -- Expressions of a design as lists of operations, each behind its operands: a code and an argument. Assumes nothing.
-use mathlib.Core.Bool.{Bool, true, false}
+use mathlib.Core.Bool.{Bool, true, false, cond}
 use mathlib.Core.List.{List, [], _∷_, _++_}
 use Prim.Native.Nat.{ℕ}
 use lib.IntN.{ℤ, pos}
-use Rattle.design.specs.Expression.{Leaf, int, bit, input, variable, Unary, sign, invert, Binary, plus, minus, equal, unequal, less, at-most, greater, at-least, and, or, xor, times, divide, modulo, remainder, Expr, leaf, unary, binary}
+use lib.Dec.{eqb}
+use Rattle.design.specs.Expression.{Leaf, int, bit, input, variable, Expr, leaf, unary, binary}
+use Rattle.codes.specs.Types.{tagOf}
+use Rattle.codes.specs.Operation.{INTEGER, STD-LOGIC, INPUT, VARIABLE, unaryCode, binaryCode, operandsOf}
 
--- an operation: its code, and a literal's value or a name's index (0 for an operator)
+-- an operation: its code, and a literal's value, a name's index, or the number of the type of an operator's operands
 pub record Op : Type 0 where
   pub code : ℕ
   pub arg : ℤ
@@ -18,38 +21,26 @@ abbrev pub bitArg : Bool → ℤ
 bitArg true = pos 1
 bitArg false = pos 0
 
--- 1 an integer, 2 a std_logic, 3 an input, 4 a variable
+-- a literal or a name
 abbrev pub leafOp : Leaf → Op
-leafOp (int z) = op 1 z
-leafOp (bit b) = op 2 (bitArg b)
-leafOp (input k) = op 3 (pos k)
-leafOp (variable k) = op 4 (pos k)
-
--- 16 the sign, 17 not
-abbrev pub unaryCode : Unary → ℕ
-unaryCode sign = 16
-unaryCode invert = 17
-
--- 18 +, 19 -, 20 =, 21 /=, 22 <, 23 <=, 24 >, 25 >=, 26 and, 27 or, 28 xor, 29 *, 30 /, 31 mod, 32 rem
-abbrev pub binaryCode : Binary → ℕ
-binaryCode plus = 18
-binaryCode minus = 19
-binaryCode equal = 20
-binaryCode unequal = 21
-binaryCode less = 22
-binaryCode at-most = 23
-binaryCode greater = 24
-binaryCode at-least = 25
-binaryCode and = 26
-binaryCode or = 27
-binaryCode xor = 28
-binaryCode times = 29
-binaryCode divide = 30
-binaryCode modulo = 31
-binaryCode remainder = 32
+leafOp (int z) = op INTEGER z
+leafOp (bit b) = op STD-LOGIC (bitArg b)
+leafOp (input k) = op INPUT (pos k)
+leafOp (variable k) = op VARIABLE (pos k)
 
 -- left operand first
 unfoldable pub ops : Expr → List Op
 ops (leaf l) = leafOp l ∷ []
-ops (unary o t a) = ops a ++ (op (unaryCode o) (pos 0) ∷ [])
-ops (binary o t a b) = ops a ++ (ops b ++ (op (binaryCode o) (pos 0) ∷ []))
+ops (unary o t a) = ops a ++ (op (unaryCode o) (pos (tagOf t)) ∷ [])
+ops (binary o t a b) = ops a ++ (ops b ++ (op (binaryCode o) (pos (tagOf t)) ∷ []))
+
+-- an operation with t for the number of its operands' type; one that is pushed has no operands and keeps its argument
+abbrev pub argWith : ℕ → ℤ → ℕ → ℤ
+argWith c z t = cond (eqb (operandsOf c) 0) z (pos t)
+
+unfoldable pub withType : ℕ → Op → Op
+withType t o = op (o .code) (argWith (o .code) (o .arg) t)
+
+-- an operation before the type of its operands is told: 0 in its place
+abbrev pub bareOp : Op → Op
+bareOp o = withType 0 o

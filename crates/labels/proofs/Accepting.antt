@@ -41,7 +41,7 @@ use Rattle.frontend.specs.declared.Front.the-variants.{Accepted, Refused}
 use Rattle.frontend.specs.declared.layout.Counts.{Counts}
 use Rattle.frontend.specs.Fronts.{frontTold, frontAnswer}
 use Rattle.frontend.proofs.Fronting.{tree-in}
-use Rattle.frontend.proofs.Told.{not-accepted}
+use Rattle.answers.proofs.Told.{done-refused}
 use Rattle.labels.specs.declared.Line.{Line}
 use Rattle.labels.specs.Header.{headerOf, headerFor}
 use Rattle.labels.specs.Lines.{padded, lineOf, Headed, Shows}
@@ -55,13 +55,13 @@ front-yes text {r} {c} f e = go (verdict text) f
   where
     go : (v : Verdict) → frontTold r ≡ frontAnswer v → true ≡ isAccepted v
     go (accepted p) g = refl
-    go (refused n k) g = not-accepted (sym (ap frontTold e) ∙ g)
+    go (refused n k) g = done-refused (sym (ap frontTold e) ∙ g)
 
 pub front-no : (text : List ℕ) {r : Front} {x : Refusal} → frontTold r ≡ frontAnswer (verdict text) → r ≡ Refused x → false ≡ isAccepted (verdict text)
 front-no text {r} {x} f e = go (verdict text) f
   where
     go : (v : Verdict) → frontTold r ≡ frontAnswer v → false ≡ isAccepted v
-    go (accepted p) g = not-accepted (sym g ∙ ap frontTold e)
+    go (accepted p) g = done-refused (sym g ∙ ap frontTold e)
     go (refused n k) g = refl
 
 -- WHAT AN ACCEPTED TEXT HAS

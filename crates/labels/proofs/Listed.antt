@@ -7,7 +7,8 @@ use native.Mathlib.Omega.{arith}
 use borrow.Author.Tests.{lt-ltb}
 use lib.Dec.{eqb}
 use lib.ListN.{length, getD, length-append}
-use Rattle.grammar.specs.Token.{Token, NAME}
+use Rattle.grammar.specs.Token.{Token}
+use Rattle.codes.specs.Token.{NAME}
 use Rattle.grammar.specs.Tree.{Mode, input, output-port, variable-mode, Group, Text}
 use Rattle.grammar.specs.Reader.{choose}
 use Rattle.grammar.specs.Limits.{Each, groupNames, bodyNames, textNames, WithinLimits}
@@ -31,9 +32,11 @@ use Rattle.scope.specs.Positions.{foldedAt}
 use Rattle.limits.specs.Words.{WordsIn}
 use Rattle.scope.proofs.Resolved.{Named, named-declared}
 use Rattle.frontend.specs.Fronts.{TreeIn}
-use Rattle.labels.specs.Header.{nameBytes, labelled, headerOf}
+use Rattle.design.specs.Spelling.{nameBytes}
+use Rattle.labels.specs.Header.{labelled, headerOf}
 use Rattle.labels.specs.Positions.{nameIn, labelAt, labelsFrom, headerAt}
-use Rattle.labels.proofs.NameBytes.{name-bytes, name-short}
+use Rattle.language.proofs.NameBytes.{name-short}
+use Rattle.labels.proofs.NameBytes.{name-bytes}
 
 -- SIZES OF NAMES
 

@@ -6,7 +6,8 @@ use Rattle.language.specs.Bytes.{bytes}
 use Rattle.language.specs.Verdict.{verdict}
 use Rattle.language.proofs.Computing.{computed}
 use Rattle.language.proofs.ExamplesReadings.{tallyText}
-use Rattle.labels.specs.Header.{digits, nameBytes, labelled, headerOf, headerFor}
+use Rattle.design.specs.Spelling.{digits, nameBytes}
+use Rattle.labels.specs.Header.{labelled, headerOf, headerFor}
 
 -- "cycle wait lines total"
 pub tally-header : headerFor (verdict tallyText) ≡ bytes "cycle wait lines total" ++ (10 ∷ [])

@@ -3,6 +3,10 @@ ghost use mathlib.Core.Path.{_≡_};
 ghost use mathlib.Core.List.{[], _∷_, map};
 ghost use Rattle.language.specs.Bytes.{lower};
 ghost use Rattle.labels.specs.Lines.{Puts};
+use crate::ROOM;
+
+// How far a small letter lies behind its capital.
+const CASE: u8 = b'a' - b'A';
 
 // "in lower case": a capital as its small letter.
 fn lower_case(b: u8) -> u8
@@ -14,14 +18,14 @@ fn lower_case(b: u8) -> u8
     if b > b'Z' {
         return b;
     }
-    b + 32
+    b + CASE
 }
 
 // One byte; where there is no room, none.
-pub(crate) fn put(out: &mut [u8; 560], n: usize, b: u8) -> usize
+pub(crate) fn put(out: &mut [u8; ROOM], n: usize, b: u8) -> usize
     ensures { λ r. ⌜ Puts (now (out .entry)) n (b ∷ []) (now (out .exit)) r ⌝ }
 {
-    if n < 560 {
+    if n < ROOM {
         out[n] = b;
         return n + 1;
     }
@@ -29,7 +33,7 @@ pub(crate) fn put(out: &mut [u8; 560], n: usize, b: u8) -> usize
 }
 
 // The bytes of a word, folded to lower case.
-pub(crate) fn put_folded(word: &[u8], out: &mut [u8; 560], n: usize) -> usize
+pub(crate) fn put_folded(word: &[u8], out: &mut [u8; ROOM], n: usize) -> usize
     ensures { λ r. ⌜ Puts (now (out .entry)) n (map lower (now (word .entry))) (now (out .exit)) r ⌝ }
 {
     let mut m = n;

@@ -18,13 +18,19 @@ ghost use Rattle.labels.specs.Positions.{headerAt};
 mod bytes;
 mod names;
 
+use codes::declaration;
+use codes::limit;
+use codes::statement;
 use frontend::Front;
 use lexer::Lexed;
 use parser::Parsing;
 
+// Bytes that a line has room for: `cycle wait lines`, a space and a name for each output, the end, and some to spare.
+pub const ROOM: usize = 560;
+
 // Bytes and how many of them count; those behind are 0.
 pub struct Line {
-    pub bytes: [u8; 560],
+    pub bytes: [u8; ROOM],
     pub size: usize,
 }
 
@@ -32,7 +38,7 @@ pub struct Line {
 fn blank() -> Line
     ensures { λ r. ⌜ r ≡ lineOf [] ⌝ }
 {
-    let bytes = [0u8; 560];
+    let bytes = [0u8; ROOM];
     Line { bytes, size: 0 }
 }
 
@@ -40,14 +46,14 @@ fn blank() -> Line
 fn accepted(text: &[u8]) -> bool
     ensures { λ r. ⌜ r ≡ isAccepted (verdict (now (text .entry))) ⌝ }
 {
-    let mut ops = [0u8; 16384];
-    let mut args = [0i32; 16384];
-    let mut lines = [0u16; 3072];
-    let mut is = [0u8; 32];
-    let mut os = [0u8; 32];
-    let mut vs = [0u8; 32];
-    let mut at_outputs = [0i32; 32];
-    let mut at_variables = [0i32; 32];
+    let mut ops = [0u8; limit::TEXT];
+    let mut args = [0i32; limit::TEXT];
+    let mut lines = [0u16; statement::ROWS];
+    let mut is = [0u8; limit::VARIABLES];
+    let mut os = [0u8; limit::VARIABLES];
+    let mut vs = [0u8; limit::VARIABLES];
+    let mut at_outputs = [0i32; limit::VARIABLES];
+    let mut at_variables = [0i32; limit::VARIABLES];
     let front = frontend::accept(
         text,
         &mut ops,
@@ -68,15 +74,15 @@ fn accepted(text: &[u8]) -> bool
 // The header of the d declared names of a text of n tokens.
 fn declared_line(
     text: &[u8],
-    starts: &[u16; 16384],
-    sizes: &[u16; 16384],
+    starts: &[u16; limit::TEXT],
+    sizes: &[u16; limit::TEXT],
     n: usize,
-    decls: &[u16; 390],
+    decls: &[u16; declaration::ROWS],
     d: usize,
 ) -> Line
     ensures { λ r. ⌜ Shows (r .bytes) (r .size) (headerAt (now (text .entry)) (now (starts .entry)) (now (sizes .entry)) n (now (decls .entry)) d) ⌝ }
 {
-    let mut bytes = [0u8; 560];
+    let mut bytes = [0u8; ROOM];
     let first = bytes::put_folded(b"cycle wait lines", &mut bytes, 0);
     let next = names::put_outputs(text, starts, sizes, n, decls, d, &mut bytes, first);
     let size = bytes::put(&mut bytes, next, b'\n');
@@ -86,19 +92,19 @@ fn declared_line(
 // The header of a text of n tokens that parses.
 fn parsed_line(
     text: &[u8],
-    kinds: &[u8; 16384],
-    starts: &[u16; 16384],
-    sizes: &[u16; 16384],
+    kinds: &[u8; limit::TEXT],
+    starts: &[u16; limit::TEXT],
+    sizes: &[u16; limit::TEXT],
     n: usize,
-    long: &[u8; 16384],
+    long: &[u8; limit::TEXT],
 ) -> Line
     ensures { λ r. ⌜ ((ts : List Token) (t : Text) → TokensIn ts (now (kinds .entry)) (now (starts .entry)) n → WordsIn (now (text .entry)) ts (now (sizes .entry)) n
         → Holds ts (now (kinds .entry)) (now (long .entry)) n → answer ts ≡ Grammar.accepted t → Shows (r .bytes) (r .size) (headerOf (elaborate t))) ⌝ }
 {
-    let mut codes = [0u8; 16384];
-    let mut indices = [0u16; 16384];
-    let mut rows = [0u16; 3072];
-    let mut decls = [0u16; 390];
+    let mut codes = [0u8; limit::TEXT];
+    let mut indices = [0u16; limit::TEXT];
+    let mut rows = [0u16; statement::ROWS];
+    let mut decls = [0u16; declaration::ROWS];
     let parsing = parser::parse(
         kinds,
         long,
@@ -118,13 +124,13 @@ fn parsed_line(
 fn accepted_line(text: &[u8]) -> Line
     ensures { λ r. ⌜ ((p : Process) → verdict (now (text .entry)) ≡ acceptedAs p → Shows (r .bytes) (r .size) (headerOf p)) ⌝ }
 {
-    let mut kinds = [0u8; 16384];
-    let mut starts = [0u16; 16384];
-    let mut sizes = [0u16; 16384];
+    let mut kinds = [0u8; limit::TEXT];
+    let mut starts = [0u16; limit::TEXT];
+    let mut sizes = [0u16; limit::TEXT];
     let lexed = lexer::lex(text, &mut kinds, &mut starts, &mut sizes);
     match lexed {
         Lexed::Tokens(n) => {
-            let mut long = [0u8; 16384];
+            let mut long = [0u8; limit::TEXT];
             limits::mark(text, &kinds, &starts, &sizes, n, &mut long);
             parsed_line(text, &kinds, &starts, &sizes, n, &long)
         }

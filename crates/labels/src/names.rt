@@ -4,14 +4,17 @@ ghost use Prim.Native.Nat.{min};
 ghost use Rattle.scope.specs.Positions.{foldedAt};
 ghost use Rattle.labels.specs.Lines.{Puts};
 ghost use Rattle.labels.specs.Positions.{nameIn, labelAt, labelsFrom};
+use crate::ROOM;
 use crate::bytes;
+use codes::declaration;
+use codes::limit;
 
 // The index of the token of a declared name.
-fn name_at(decls: &[u16; 390], k: usize) -> usize
+fn name_at(decls: &[u16; declaration::ROWS], k: usize) -> usize
     ensures { λ r. ⌜ r ≡ nameIn (now (decls .entry)) k ⌝ }
 {
-    if k < 65 {
-        return offences::wide(decls[6 * k]);
+    if k < limit::NAMES {
+        return offences::wide(decls[declaration::ROW * k]);
     }
     0
 }
@@ -19,11 +22,11 @@ fn name_at(decls: &[u16; 390], k: usize) -> usize
 // The bytes of the token at an index.
 fn put_token(
     text: &[u8],
-    starts: &[u16; 16384],
-    sizes: &[u16; 16384],
+    starts: &[u16; limit::TEXT],
+    sizes: &[u16; limit::TEXT],
     n: usize,
     i: usize,
-    out: &mut [u8; 560],
+    out: &mut [u8; ROOM],
     m: usize,
 ) -> usize
     ensures { λ r. ⌜ Puts (now (out .entry)) m (foldedAt (now (text .entry)) (now (starts .entry)) (now (sizes .entry)) n i) (now (out .exit)) r ⌝ }
@@ -37,18 +40,18 @@ fn put_token(
 // A space and the name, if the declared name is an output.
 fn put_output(
     text: &[u8],
-    starts: &[u16; 16384],
-    sizes: &[u16; 16384],
+    starts: &[u16; limit::TEXT],
+    sizes: &[u16; limit::TEXT],
     n: usize,
-    decls: &[u16; 390],
+    decls: &[u16; declaration::ROWS],
     d: usize,
     k: usize,
-    out: &mut [u8; 560],
+    out: &mut [u8; ROOM],
     m: usize,
 ) -> usize
     ensures { λ r. ⌜ Puts (now (out .entry)) m (labelAt (now (text .entry)) (now (starts .entry)) (now (sizes .entry)) n (now (decls .entry)) d k) (now (out .exit)) r ⌝ }
 {
-    if offences::mode_at(decls, d, k) != 1 {
+    if offences::mode_at(decls, d, k) != declaration::OUT {
         return m;
     }
     let next = bytes::put(out, m, b' ');
@@ -58,17 +61,17 @@ fn put_output(
 // All outputs, in declared order.
 pub(crate) fn put_outputs(
     text: &[u8],
-    starts: &[u16; 16384],
-    sizes: &[u16; 16384],
+    starts: &[u16; limit::TEXT],
+    sizes: &[u16; limit::TEXT],
     n: usize,
-    decls: &[u16; 390],
+    decls: &[u16; declaration::ROWS],
     d: usize,
-    out: &mut [u8; 560],
+    out: &mut [u8; ROOM],
     m: usize,
 ) -> usize
     ensures { λ r. ⌜ Puts (now (out .entry)) m (labelsFrom (labelAt (now (text .entry)) (now (starts .entry)) (now (sizes .entry)) n (now (decls .entry)) d) 0 (min d 65)) (now (out .exit)) r ⌝ }
 {
-    let end = offences::at_most(d, 65);
+    let end = offences::at_most(d, limit::NAMES);
     let mut next = m;
     let mut k = 0;
     while k < end {

@@ -8,7 +8,7 @@ use Prim.Native.Nat.{ℕ}
 use Prim.Native.String.{String}
 use native.Mathlib.Omega.{arith}
 use lib.IntN.{pos}
-use Rattle.grammar.specs.Token.{PLUS, MINUS, LT, NE}
+use Rattle.codes.specs.Token.{PLUS, MINUS, LT, NE}
 use Rattle.grammar.specs.Tree.{input, output-port, variable-mode}
 use Rattle.design.specs.Types.{Ty, std-logic, integer, plain}
 use Rattle.design.specs.Expression.{Expr, leaf, int, bit, binary, plus, minus, unequal, less}

@@ -14,7 +14,8 @@ use Rattle.design.specs.Expression.{Expr, leaf, Binary, sumType, logicalType, b
 use Rattle.design.proofs.Types.{sameType-eq, sameType-refl}
 use Rattle.language.specs.Declarations.{Decl, scopeFor, find, isA, isInput, isOutput, isVariable, isClock, isData, typeIn}
 use Rattle.language.specs.Names.{doubled, readable, namesIn}
-use Rattle.language.specs.Typing.{operatorOf, onOne, resultOf, onTwo, typeOf, wrong1, wrong2, typesIn}
+use Rattle.language.specs.Typing.{onOne, resultOf, onTwo, typeOf, wrong1, wrong2, typesIn}
+use Rattle.codes.specs.Operation.{operatorOf}
 use Rattle.language.specs.Clock.{readsIn}
 use Rattle.language.specs.Elaboration.{Means, number, bit, input, variable, sign, invert, binary, parens, position, nameCode, named, orBoolean, orPlus, code}
 use Rattle.language.proofs.Facts.{clash, no-cons, no-some, both-nil, unless-nil, not-true, find-name, kth-found, Found, found-kth}

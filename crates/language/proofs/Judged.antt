@@ -4,7 +4,7 @@ use mathlib.Core.Bool.{Bool, true, false}
 use mathlib.Core.Logic.{_↔_}
 use mathlib.Core.Option.{Option, none, some}
 use mathlib.Core.List.{List, [], _∷_}
-use Prim.Native.Nat.{ℕ, _≤_, _<_, min}
+use Prim.Native.Nat.{ℕ, _≤_, _<_}
 use native.Mathlib.Omega.{arith}
 use native.Mathlib.Decide.{decLe}
 use lib.Dec.{leb, leb→le, le→leb}
@@ -16,105 +16,62 @@ use Rattle.grammar.specs.Acceptance.{Answer}
 use Rattle.grammar.specs.Reader.{answer}
 use Rattle.grammar.proofs.Exact.{answers}
 use Rattle.grammar.proofs.Limits.{exactly-limits}
-use Rattle.language.specs.Lists.{least, lowest}
 use Rattle.design.specs.Process.{Process}
 use Rattle.language.specs.Lexer.{Lexed, tokens, lex}
 use Rattle.language.specs.Lexer as L
-use Rattle.language.specs.Rules.{Rule, table}
+use Rattle.language.specs.Names.{names}
+use Rattle.language.specs.Typing.{types}
+use Rattle.language.specs.Values.{values}
+use Rattle.language.specs.Clock.{clock}
+use Rattle.language.specs.Classes.{loops}
+use Rattle.language.specs.Rules.{Offence, Stage, table}
 use Rattle.language.specs.Elaboration.{Elaborates, elaborate}
-use Rattle.language.specs.Verdict.{Verdict, accepted, refused, judged, ruled, parsed, lexed, verdict}
-use Rattle.language.specs.Validity.{In, Lowest, Free, First, Parses, Valid, Refuses}
+use Rattle.language.specs.Verdict.{Verdict, accepted, refused, onAccepted, lowestOffence, judged, ruled, parsed, lexed, verdict}
+use Rattle.language.specs.Validity.{Free, First, Parses, Valid, Refuses}
 use Rattle.language.specs.Validity as Q
-use Rattle.language.proofs.Facts.{clash, no-some, T-is, is-T}
+use Rattle.language.proofs.Facts.{clash, T-is, is-T}
+use Rattle.language.proofs.Offences.{lowest-is, lowest-none, is-lowest, by-nil}
 use Rattle.language.proofs.Elaborated.{Clean, elaborated, elaborated-only}
 use Rattle.language.proofs.LexExact.{lex-tokens, lex-stops}
 
--- the lowest place
-least-low : (p : ℕ) (l : List ℕ) → (least p l ≤ p) × ((q : ℕ) → In q l → least p l ≤ q)
-unfolding least
-least-low p [] = (omega arith, λ q i. elim i [ ])
-least-low p (x ∷ l) = let h = least-low (min p x) l in (omega (arith, h .0), λ q i. go q i (h .0) (h .1))
-  where
-    go : (q : ℕ) → In q (x ∷ l) → least (min p x) l ≤ min p x → ((q : ℕ) → In q l → least (min p x) l ≤ q) → least (min p x) l ≤ q
-    go q Q.In.here a b = omega arith
-    go q (Q.In.there i) a b = b q i
-
-least-in : (p : ℕ) (l : List ℕ) → In (least p l) (p ∷ l)
-unfolding least
-least-in p [] = Q.In.here
-least-in p (x ∷ l) = go (least-in (min p x) l)
-  where
-    pick : (m : ℕ) → m ≡ min p x → In m (p ∷ (x ∷ l))
-    pick m e = at (decLe p x)
-      where
-        at : Dec (p ≤ x) → In m (p ∷ (x ∷ l))
-        at (yes h) = let z : m ≡ p = omega arith in rw z Q.In.here
-        at (no h) = let z : m ≡ x = omega arith in rw z (Q.In.there Q.In.here)
-
-    go : {m : ℕ} → In m (min p x ∷ l) → In m (p ∷ (x ∷ l))
-    go Q.In.here = pick (min p x) refl
-    go (Q.In.there i) = Q.In.there (Q.In.there i)
-
-pub lowest-is : (l : List ℕ) (p : ℕ) → lowest l ≡ some p → Lowest l p
-unfolding lowest
-lowest-is [] p e = no-some e
-lowest-is (x ∷ l) p e =
-    let z : least x l ≡ p = cc in
-    let h = least-low x l in
-    subst (Lowest (x ∷ l)) z (record { one = least-in x l; least = λ q i. go q i (h .0) (h .1) })
-  where
-    go : (q : ℕ) → In q (x ∷ l) → least x l ≤ x → ((q : ℕ) → In q l → least x l ≤ q) → least x l ≤ q
-    go q Q.In.here a b = a
-    go q (Q.In.there i) a b = b q i
-
-lowest-none : (l : List ℕ) → lowest l ≡ none → l ≡ []
-unfolding lowest
-lowest-none [] e = refl
-lowest-none (x ∷ l) e = no-some (sym e)
-
-is-lowest : (l : List ℕ) (p : ℕ) → Lowest l p → lowest l ≡ some p
-is-lowest l p h = go (lowest l) refl
-  where
-    nothing-in : {A : Type 0} → In p [] → A
-    nothing-in i = elim i [ ]
-
-    go : (o : Option ℕ) → lowest l ≡ o → o ≡ some p
-    go none e = nothing-in (subst (In p) (lowest-none l e) (h .one))
-    go (some q) e = let k = lowest-is l q e in ap some (let a = k .least p (h .one) in let b = h .least q (k .one) in omega arith)
-
 -- the rules
-ruled-free : (rs : List Rule) (t : Text) → Free rs t → ruled rs t ≡ accepted (elaborate t)
-unfolding ruled judged lowest
+ruled-free : (rs : List Stage) (t : Text) → Free rs t → ruled rs t ≡ accepted (elaborate t)
+unfolding ruled judged lowestOffence
 ruled-free [] t f = refl
 ruled-free (r ∷ rs) t f = rw (f .0) (ruled-free rs t (f .1))
 
-ruled-first : (rs : List Rule) (t : Text) (n p : ℕ) → First t n p rs → ruled rs t ≡ refused n p
-unfolding ruled judged lowest
-ruled-first (r ∷ rs) t n p (Q.First.here e h) = rw (is-lowest (r .offences t) p h, e)
+ruled-first : (rs : List Stage) (t : Text) (n p : ℕ) → First t n p rs → ruled rs t ≡ refused n p
+unfolding ruled judged lowestOffence
+ruled-first (r ∷ rs) t n p (Q.First.here h) = rw (is-lowest (r t) (record { number = n; place = p }) h)
 ruled-first (r ∷ rs) t n p (Q.First.there e h) = rw e (ruled-first rs t n p h)
 
-abbrev RuledRight : List Rule → Text → Verdict → Type 0
-RuledRight rs t (accepted d) = Free rs t × (elaborate t ≡ d)
-RuledRight rs t (refused n p) = First t n p rs
+abbrev RuledRight : List Stage → Text → Verdict → Type 0
+RuledRight rs t v = onAccepted (λ d. Free rs t × (elaborate t ≡ d)) (λ n p. First t n p rs) v
 
-ruled-right : (rs : List Rule) (t : Text) → RuledRight rs t (ruled rs t)
+ruled-right : (rs : List Stage) (t : Text) → RuledRight rs t (ruled rs t)
 unfolding ruled judged
 ruled-right [] t = (tt, refl)
-ruled-right (r ∷ rs) t = go (lowest (r .offences t)) refl (ruled rs t) (ruled-right rs t)
+ruled-right (r ∷ rs) t = go (lowestOffence (r t)) refl (ruled rs t) (ruled-right rs t)
   where
-    go : (o : Option ℕ) → lowest (r .offences t) ≡ o → (v : Verdict) → RuledRight rs t v → RuledRight (r ∷ rs) t (judged (r .number) o v)
-    go none e (accepted d) h = ((lowest-none (r .offences t) e, h .0), h .1)
-    go none e (refused n p) h = Q.First.there (lowest-none (r .offences t) e) h
-    go (some q) e v h = Q.First.here refl (lowest-is (r .offences t) q e)
+    go : (o : Option Offence) → lowestOffence (r t) ≡ o → (v : Verdict) → RuledRight rs t v → RuledRight (r ∷ rs) t (judged o v)
+    go none e (accepted d) h = ((lowest-none (r t) e, h .0), h .1)
+    go none e (refused n p) h = Q.First.there (lowest-none (r t) e) h
+    go (some a) e v h = Q.First.here (lowest-is (r t) a e)
 
 pub clean : (t : Text) → Free table t → Clean t
 unfolding table
-clean t f = record { names = f .0; types = f .1 .0; values = f .1 .1 .0; clock = f .1 .1 .1 .0; loops = f .1 .1 .1 .1 .0 }
+clean t f =
+    record {
+      names = by-nil 5 names t (f .0);
+      types = by-nil 6 types t (f .1 .0);
+      values = by-nil 7 values t (f .1 .1 .0);
+      clock = by-nil 8 clock t (f .1 .1 .1 .0);
+      loops = by-nil 9 loops t (f .1 .1 .1 .1 .0);
+    }
 
 -- all stages: what is computed is so
 abbrev Right : List ℕ → Verdict → Type 0
-Right b (accepted d) = Valid b d
-Right b (refused n p) = Refuses b n p
+Right b v = onAccepted (Valid b) (Refuses b) v
 
 parses : (b : List ℕ) (ts : List Token) (t : Text) → length b ≤ 16384 → lex b ≡ tokens ts → answer ts ≡ P.accepted t → Parses b t
 parses b ts t s l e = let x = exactly-limits ts t .0 e in record { short = s; tokens = ts; lexes = lex-tokens b ts .0 l; marks = x .0; reads = x .1; limits = x .2 }

@@ -6,7 +6,7 @@ use Prim.Native.Nat.{ℕ, _+_, _≤_, _<_}
 use native.Mathlib.Omega.{arith}
 use lib.Dec.{eqb, leb, leb→le}
 use lib.ListN.{length, length-append}
-use Rattle.grammar.specs.Token.{NUMBER}
+use Rattle.codes.specs.Token.{NUMBER}
 use Rattle.language.specs.Bytes.{bytes, ByteKind, letter, digit, underscore, blank, quote, mark, byteKind, isDigit, inWord, notLF}
 use Rattle.language.specs.Bytes as B
 use Rattle.language.specs.Lexer.{run, begins, Start, lexeme, unknown, wordStart, numberStart, fixedStart, startFrom, startOf}

@@ -3,10 +3,13 @@ pub mod Lexing
 pub mod LexExact
 pub mod TokenAt
 pub mod Folding
+pub mod NameBytes
 pub mod Expressions
 pub mod Statements
 pub mod Elaborated
+pub mod Offences
 pub mod Judged
+pub mod Numbers
 pub mod Computing
 pub mod Examples
 pub mod ExamplesTokens

@@ -7,7 +7,8 @@ use mathlib.Core.List.{List, [], _∷_, _++_, map, map-append, append-assoc}
 use Prim.Native.Nat.{ℕ, suc}
 use lib.Dec.{eqb}
 use lib.IntN.{ℤ, pos, negsuc}
-use Rattle.grammar.specs.Token.{Token, INTEGER, STD-LOGIC}
+use Rattle.grammar.specs.Token.{Token}
+use Rattle.codes.specs.Token.{INTEGER, STD-LOGIC}
 use Rattle.grammar.specs.Tree as T
 use Rattle.grammar.specs.Tree.{Body, Init, Mode, Group, Text}
 use Rattle.design.specs.Types.{Ty, std-logic, integer}

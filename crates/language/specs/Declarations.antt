@@ -4,7 +4,8 @@ use mathlib.Core.Option.{Option, none, some}
 use mathlib.Core.List.{List, [], _∷_, _++_}
 use Prim.Native.Nat.{ℕ}
 use lib.Dec.{eqb}
-use Rattle.grammar.specs.Token.{Token, INTEGER}
+use Rattle.grammar.specs.Token.{Token}
+use Rattle.codes.specs.Token.{INTEGER}
 use Rattle.grammar.specs.Tree.{Stmt, output, assign, null, wait, if-then, if-else, while, Body, only, andThen, Init, Mode, input, output-port, variable-mode, Group, Text}
 use Rattle.design.specs.Types.{Ty, std-logic, integer, ExprTy, plain}
 use Rattle.language.specs.Lists.{filter}

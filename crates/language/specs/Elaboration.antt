@@ -17,7 +17,8 @@ use Rattle.design.specs.Statement as D
 use Rattle.design.specs.Statement.{Act, Stmt}
 use Rattle.design.specs.Process.{Source, Slot, Process}
 use Rattle.language.specs.Declarations.{Decl, Scope, scopeOf, declared, find}
-use Rattle.language.specs.Typing.{operatorOf, typeOf}
+use Rattle.language.specs.Typing.{typeOf}
+use Rattle.codes.specs.Operation.{operatorOf}
 
 -- the k-th declaration of the list, counted from 0, has the folded name v and the type t
 pub data Kth : List Decl → ℕ → ℕ → Ty → Type 0 where

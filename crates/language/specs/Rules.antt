@@ -1,5 +1,5 @@
--- Refusals 5 to 9 in the table's order: each number with all offences of a tree. Assumes nothing.
-use mathlib.Core.List.{List, [], _∷_}
+-- Refusals 5 to 9 in the table's order: stages, each with all offences of a tree. Assumes nothing.
+use mathlib.Core.List.{List, [], _∷_, map}
 use Prim.Native.Nat.{ℕ}
 use Rattle.grammar.specs.Tree.{Text}
 use Rattle.language.specs.Names.{names}
@@ -8,12 +8,19 @@ use Rattle.language.specs.Values.{values}
 use Rattle.language.specs.Clock.{clock}
 use Rattle.language.specs.Classes.{loops}
 
-pub record Rule : Type 0 where
+-- what a tree breaks: the number of a row of the table, and the place
+pub record Offence : Type 0 where
   pub number : ℕ
-  pub offences : Text → List ℕ
+  pub place : ℕ
+
+-- a stage: all offences of a tree, by one row of the table or by several
+abbrev pub Stage : Type 0
+Stage = Text → List Offence
+
+-- the stage with one row, its number k, whose offences stand at these places
+unfoldable pub by : ℕ → (Text → List ℕ) → Stage
+by k places t = map (λ (p : ℕ). record { number = k; place = p }) (places t)
 
 -- "Stages in table order"
-unfoldable pub table : List Rule
-table =
-    record { number = 5; offences = names } ∷ record { number = 6; offences = types } ∷ record { number = 7; offences = values } ∷
-    record { number = 8; offences = clock } ∷ record { number = 9; offences = loops } ∷ []
+unfoldable pub table : List Stage
+table = by 5 names ∷ by 6 types ∷ by 7 values ∷ by 8 clock ∷ by 9 loops ∷ []

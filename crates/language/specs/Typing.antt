@@ -4,22 +4,13 @@ use mathlib.Core.Bool.{cond}
 use mathlib.Core.Option.{Option, none, some}
 use mathlib.Core.List.{List, [], _∷_, _++_}
 use Prim.Native.Nat.{ℕ}
-use lib.Dec.{eqb}
-use Rattle.grammar.specs.Token.{PLUS, MINUS, EQ, NE, LT, LE, GT, GE, AND, OR, XOR, TIMES, DIVIDE, MOD, REM}
 use Rattle.grammar.specs.Tree as T
 use Rattle.grammar.specs.Tree.{Expr, number, bit, name, sign, negate, binary, parens, Stmt, output, assign, null, wait, if-then, if-else, while, Init, without, integer-literal, logic-literal, Group, Text}
 use Rattle.design.specs.Types.{Ty, std-logic, integer, ExprTy, plain, boolean, sameTy, sameType}
-use Rattle.design.specs.Expression.{Binary, plus, minus, equal, unequal, less, at-most, greater, at-least, and, or, xor, times, divide, modulo, remainder, sumType, logicalType, binaryType}
+use Rattle.design.specs.Expression.{Binary, sumType, logicalType, binaryType}
+use Rattle.codes.specs.Operation.{operatorOf}
 use Rattle.language.specs.Lists.{unless, each}
 use Rattle.language.specs.Declarations.{Decl, typeNamed, declared, groups, isInput, find, typeIn, statements}
-
--- the operator that a token is
-unfoldable pub operatorOf : ℕ → Option Binary
-operatorOf k =
-    cond (eqb k PLUS) (some plus) (cond (eqb k MINUS) (some minus) (cond (eqb k EQ) (some equal) (cond (eqb k NE) (some unequal)
-    (cond (eqb k LT) (some less) (cond (eqb k LE) (some at-most) (cond (eqb k GT) (some greater) (cond (eqb k GE) (some at-least)
-    (cond (eqb k AND) (some and) (cond (eqb k OR) (some or) (cond (eqb k XOR) (some xor)
-    (cond (eqb k TIMES) (some times) (cond (eqb k DIVIDE) (some divide) (cond (eqb k MOD) (some modulo) (cond (eqb k REM) (some remainder) none))))))))))))))
 
 unfoldable pub resultOf : Option Binary → ExprTy → Option ExprTy
 resultOf none t = none

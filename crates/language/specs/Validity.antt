@@ -13,28 +13,32 @@ use Rattle.grammar.specs.Acceptance.{Exactly}
 use Rattle.grammar.specs.Limits.{WithinLimits}
 use Rattle.design.specs.Process.{Process}
 use Rattle.language.specs.Lexing.{Lexes, Stops}
-use Rattle.language.specs.Rules.{Rule, table}
+use Rattle.language.specs.Rules.{Offence, Stage, table}
 use Rattle.language.specs.Elaboration.{Elaborates}
 
--- p is one of the places
-pub data In (p : ℕ) : List ℕ → Type 0 where
-  here : {l : List ℕ} → In p (p ∷ l)
-  there : {q : ℕ} {l : List ℕ} → In p l → In p (q ∷ l)
+-- x is one of the list
+pub data In {A : Type 0} (x : A) : List A → Type 0 where
+  here : {l : List A} → In x (x ∷ l)
+  there : {y : A} {l : List A} → In x l → In x (y ∷ l)
+
+-- a comes no later than b: it has the lower place, or at one place the number that is not above, as "3 first at one token"
+abbrev pub NoLater : Offence → Offence → Type 0
+NoLater a b = (a .place ≤ b .place) × (b .place ≡ a .place → a .number ≤ b .number)
 
 -- "the lowest place first within a stage"
-pub record Lowest (l : List ℕ) (p : ℕ) : Type 0 where
-  pub one : In p l
-  pub least : (q : ℕ) → In q l → p ≤ q
+pub record Lowest (l : List Offence) (a : Offence) : Type 0 where
+  pub one : In a l
+  pub least : (b : Offence) → In b l → NoLater a b
 
--- no rule of the list is offended
-abbrev pub Free : List Rule → Text → Type 0
+-- no stage of the list is offended
+abbrev pub Free : List Stage → Text → Type 0
 Free [] t = Unit {0}
-Free (r ∷ rs) t = (r .offences t ≡ []) × Free rs t
+Free (r ∷ rs) t = (r t ≡ []) × Free rs t
 
--- "Stages in table order": the first rule of the list that is offended has the number n, and its lowest offence stands at p
-pub data First (t : Text) (n p : ℕ) : List Rule → Type 0 where
-  here : {r : Rule} {rs : List Rule} → r .number ≡ n → Lowest (r .offences t) p → First t n p (r ∷ rs)
-  there : {r : Rule} {rs : List Rule} → r .offences t ≡ [] → First t n p rs → First t n p (r ∷ rs)
+-- "Stages in table order": the lowest offence of the first stage that is offended has the number n, and stands at p
+pub data First (t : Text) (n p : ℕ) : List Stage → Type 0 where
+  here : {r : Stage} {rs : List Stage} → Lowest (r t) (record { number = n; place = p }) → First t n p (r ∷ rs)
+  there : {r : Stage} {rs : List Stage} → r t ≡ [] → First t n p rs → First t n p (r ∷ rs)
 
 -- "Places in 1 to 9 are byte offsets": that of token k, or the text's length n where there is no such token
 unfoldable pub placeOf : ℕ → List Token → ℕ → ℕ
@@ -65,3 +69,7 @@ pub data Refuses (b : List ℕ) : ℕ → ℕ → Type 0 where
   no-sentence : {k : ℕ} (ts : List Token) → length b ≤ 16384 → Lexes 0 b ts → Exactly ts (A.no-sentence k) → Refuses b 3 (placeOf (length b) ts k)
   past-limit : {k : ℕ} (ts : List Token) → length b ≤ 16384 → Lexes 0 b ts → Exactly ts (A.past-limit k) → Refuses b 4 (placeOf (length b) ts k)
   offends : {n p : ℕ} {t : Text} → Parses b t → First t n p table → Refuses b n p
+
+-- the numbers of the rows for texts, by which `Refuses` holds
+pub data OfText (q : ℕ) : Type 0 where
+  to-9 : 1 ≤ q → q ≤ 9 → OfText q

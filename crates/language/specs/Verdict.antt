@@ -4,16 +4,15 @@ use mathlib.Core.Bool.{Bool, true, false, cond}
 use mathlib.Core.Option.{Option, none, some}
 use mathlib.Core.List.{List, [], _∷_}
 use Prim.Native.Nat.{ℕ}
-use lib.Dec.{leb}
+use lib.Dec.{leb, ltb}
 use lib.ListN.{length}
 use Rattle.grammar.specs.Token.{Token}
 use Rattle.grammar.specs.Tree.{Text}
 use Rattle.grammar.specs.Acceptance as A
 use Rattle.grammar.specs.Reader.{answer}
 use Rattle.design.specs.Process.{Process}
-use Rattle.language.specs.Lists.{lowest}
 use Rattle.language.specs.Lexer.{Lexed, tokens, malformed, lex}
-use Rattle.language.specs.Rules.{Rule, table}
+use Rattle.language.specs.Rules.{Offence, Stage, table}
 use Rattle.language.specs.Elaboration.{elaborate}
 use Rattle.language.specs.Validity.{placeOf}
 
@@ -22,14 +21,33 @@ pub data Verdict : Type 0 where
   accepted : Process → Verdict
   refused : ℕ → ℕ → Verdict
 
-unfoldable pub judged : ℕ → Option ℕ → Verdict → Verdict
-judged r none v = v
-judged r (some p) v = refused r p
+-- a verdict by its cases: what comes of an accepted text's process, and of a refusal's number and place. All that is defined by a verdict goes through this
+abbrev pub onAccepted {ℓ} : {A : Type ℓ} → (Process → A) → (ℕ → ℕ → A) → Verdict → A
+onAccepted f g (accepted p) = f p
+onAccepted f g (refused n k) = g n k
 
--- the rules one after the other
-unfoldable pub ruled : List Rule → Text → Verdict
+-- "the lowest place first within a stage"; of two at one place the lower number, as "3 first at one token"
+unfoldable pub earlier : Offence → Offence → Offence
+earlier a b = cond (ltb (b .place) (a .place)) b (cond (ltb (a .place) (b .place)) a (cond (ltb (b .number) (a .number)) b a))
+
+-- the same of all that follow, and of a stage's offences
+unfoldable pub earliest : Offence → List Offence → Offence
+earliest a [] = a
+earliest a (b ∷ l) = earliest (earlier a b) l
+
+unfoldable pub lowestOffence : List Offence → Option Offence
+lowestOffence [] = none
+lowestOffence (a ∷ l) = some (earliest a l)
+
+-- a stage's lowest offence refuses; without one the verdict is that of the stages behind it
+unfoldable pub judged : Option Offence → Verdict → Verdict
+judged none v = v
+judged (some o) v = refused (o .number) (o .place)
+
+-- the stages one after the other
+unfoldable pub ruled : List Stage → Text → Verdict
 ruled [] t = accepted (elaborate t)
-ruled (r ∷ rs) t = let v = ruled rs t in judged (r .number) (lowest (r .offences t)) v
+ruled (r ∷ rs) t = let v = ruled rs t in judged (lowestOffence (r t)) v
 
 unfoldable pub parsed : ℕ → List Token → A.Answer → Verdict
 parsed n ts (A.accepted t) = ruled table t
@@ -45,5 +63,4 @@ verdict b = let v = lexed (length b) (lex b) in cond (leb (length b) 16384) v (r
 
 -- whether a text is accepted
 abbrev pub isAccepted : Verdict → Bool
-isAccepted (accepted p) = true
-isAccepted (refused n k) = false
+isAccepted v = onAccepted (λ p. true) (λ n k. false) v

@@ -4,8 +4,8 @@ use mathlib.Core.List.{List, [], _∷_}
 use Prim.Native.Nat.{ℕ, _+_, _*_, _-_, min}
 use Prim.Native.String.{String}
 use lib.Dec.{eqb}
-use Rattle.grammar.specs.Token.{NAME, ZERO, ONE, LP, RP, SEMI, COLON, COMMA, BECOMES, PLUS, MINUS, EQ, NE, LT, LE, GT, GE, AND, OR, XOR, NOT, TIMES, DIVIDE, MOD, REM}
-use Rattle.grammar.specs.Token.{ENTITY, IS, PORT, END, ARCHITECTURE, OF, BEGIN, PROCESS, IN, OUT, VARIABLE, NULL, WAIT, UNTIL, IF, THEN, ELSE, WHILE, LOOP, STD-LOGIC, INTEGER}
+use Rattle.codes.specs.Token.{NAME, ZERO, ONE, LP, RP, SEMI, COLON, COMMA, BECOMES, PLUS, MINUS, EQ, NE, LT, LE, GT, GE, AND, OR, XOR, NOT, TIMES, DIVIDE, MOD, REM}
+use Rattle.codes.specs.Token.{ENTITY, IS, PORT, END, ARCHITECTURE, OF, BEGIN, PROCESS, IN, OUT, VARIABLE, NULL, WAIT, UNTIL, IF, THEN, ELSE, WHILE, LOOP, STD-LOGIC, INTEGER}
 use Rattle.language.specs.Bytes.{bytes, isUnder, lower}
 
 -- "no doubled or last underscore"; u says that an underscore stands before

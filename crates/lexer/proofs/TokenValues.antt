@@ -9,7 +9,8 @@ use lib.Dec.{eqb}
 use lib.ListN.{length, take, drop, length-append, length-drop}
 use lib.Seq.{drop-drop, drop-append-seam, take-at}
 use borrow.Author.Tests.{eqb-true, eq-eqb, ne-eqb}
-use Rattle.grammar.specs.Token.{Token, NAME, NUMBER, ONE}
+use Rattle.grammar.specs.Token.{Token}
+use Rattle.codes.specs.Token.{NAME, NUMBER, ONE}
 use Rattle.grammar.specs.Limits.{Each}
 use Rattle.language.specs.Bytes.{bytes, between, ByteKind, letter, digit, underscore, blank, quote, mark, none, byteKind, is, isDigit, inWord, notLF, lower}
 use Rattle.language.specs.Words.{wellMade, folded, value, Word, reserved, wordKind, Fixed, fixed, isDashes}

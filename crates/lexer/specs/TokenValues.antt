@@ -5,7 +5,8 @@ use mathlib.Core.List.{List}
 use Prim.Native.Nat.{ℕ, _+_, _≤_, _<_}
 use lib.Dec.{eqb}
 use lib.ListN.{length}
-use Rattle.grammar.specs.Token.{Token, NAME, NUMBER, ZERO, ONE, GE, TIMES, DIVIDE}
+use Rattle.grammar.specs.Token.{Token}
+use Rattle.codes.specs.Token.{NAME, NUMBER, ZERO, ONE, GE, TIMES, DIVIDE}
 use Rattle.language.specs.Bytes.{between, inWord}
 use Rattle.language.specs.Words.{folded, value}
 use Rattle.language.specs.Lexing.{Meaning, all, meaning}

@@ -10,6 +10,7 @@ ghost use Rattle.lexer.specs.Tokens.{Lexing};
 pub mod parts;
 
 use answers::Refusal;
+use codes::limit;
 use scanner::bytes;
 use scanner::kinds;
 use scanner::pieces;
@@ -25,14 +26,14 @@ pub enum Lexed {
 // since there are as many of them as of tokens.
 pub fn lex(
     text: &[u8],
-    kinds: &mut [u8; 16384],
-    starts: &mut [u16; 16384],
-    sizes: &mut [u16; 16384],
+    kinds: &mut [u8; limit::TEXT],
+    starts: &mut [u16; limit::TEXT],
+    sizes: &mut [u16; limit::TEXT],
 ) -> Lexed
     ensures { λ r. ⌜ Lexing (now (text .entry)) r (now (kinds .entry)) (now (kinds .exit)) (now (starts .entry)) (now (starts .exit))
         (now (sizes .entry)) (now (sizes .exit)) ⌝ }
 {
-    if text.len() > 16384 {
+    if text.len() > limit::TEXT {
         return Lexed::NotLexed(Refusal::TextTooLong);
     }
     let table = kinds::table();

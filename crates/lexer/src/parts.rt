@@ -6,6 +6,7 @@ ghost use Rattle.language.specs.Bytes.{lower};
 ghost use Rattle.language.specs.Words.{value};
 ghost use Rattle.language.specs.Lexing.{equal};
 ghost use Rattle.scanner.specs.Places.{part};
+use codes::limit;
 use scanner::bytes;
 
 // So many bytes from a place; past the text's end there are none.
@@ -32,16 +33,21 @@ fn digit(b: u8) -> u64
     (b - b'0') as u64
 }
 
+// How many digits there are, and the first number above every literal.
+const DIGITS: u64 = 10;
+
+const ABOVE: u64 = limit::INTEGER as u64 + 1;
+
 // A value with one digit more, or 2147483648 where it is above that.
 fn next_value(v: u64, b: u8) -> u64
     requires { ⌜ v ≤ 2147483648 ⌝ }
     ensures { λ r. ⌜ r ≡ min (v * 10 + (b - 48)) 2147483648 ⌝ }
 {
-    let sum = v * 10 + digit(b);
-    if sum < 2147483648 {
+    let sum = v * DIGITS + digit(b);
+    if sum < ABOVE {
         return sum;
     }
-    2147483648
+    ABOVE
 }
 
 fn digits_value(digits: &[u8]) -> u64

@@ -8,7 +8,8 @@ use lib.Dec.{eqb, ltb}
 use lib.ListN.{length, getD, length-map, List·getD-map}
 use lib.Seq.{length-sets}
 use borrow.Author.Tests.{eqb-true}
-use Rattle.grammar.specs.Token.{Token, NAME, NUMBER}
+use Rattle.grammar.specs.Token.{Token}
+use Rattle.codes.specs.Token.{NAME, NUMBER}
 use Rattle.grammar.specs.Limits.{Each}
 use Rattle.grammar.specs.Meter.{tick, over}
 use Rattle.grammar.specs.Reader.{choose}

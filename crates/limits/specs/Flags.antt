@@ -4,7 +4,8 @@ use Prim.Native.Nat.{ℕ, zero, suc, _+_, min}
 use lib.Dec.{eqb, ltb}
 use lib.ListN.{getD}
 use lib.Seq.{sets}
-use Rattle.grammar.specs.Token.{NAME, NUMBER}
+use Rattle.codes.specs.Limit as L
+use Rattle.codes.specs.Token.{NAME, NUMBER}
 use Rattle.grammar.specs.Reader.{choose}
 use Rattle.language.specs.Words.{value}
 use Rattle.scanner.specs.Places.{part}
@@ -32,4 +33,4 @@ flagsFrom text kinds starts sizes i (suc c) = flagAt text kinds starts sizes i �
 
 -- the array after the call: the flags of n tokens first, at most as many as it has room for; the rest as before
 unfoldable pub marked : List ℕ → List ℕ → List ℕ → List ℕ → ℕ → List ℕ → List ℕ
-marked text kinds starts sizes n before = sets before 0 (flagsFrom text kinds starts sizes 0 (min n 16384))
+marked text kinds starts sizes n before = sets before 0 (flagsFrom text kinds starts sizes 0 (min n L.TEXT))

@@ -4,14 +4,15 @@ ghost use Prim.Native.Nat.{min};
 ghost use Rattle.language.specs.Words.{value};
 ghost use Rattle.scanner.specs.Places.{part};
 ghost use Rattle.limits.specs.Flags.{numberFlag, flagOf, marked};
+use codes::limit;
+use codes::token::NAME;
+use codes::token::NUMBER;
 use lexer::parts::number_value;
-use scanner::token::NAME;
-use scanner::token::NUMBER;
 
 // The longest name, and the largest literal.
-const MOST_BYTES: u16 = 32;
+const MOST_BYTES: u16 = limit::NAME as u16;
 
-const MOST: u64 = 2147483647;
+const MOST: u64 = limit::INTEGER as u64;
 
 // Whether the number in a part of the text is above the largest literal.
 fn number_flag(text: &[u8], start: usize, size: usize) -> u8
@@ -43,20 +44,20 @@ fn flag(text: &[u8], kind: u8, start: u16, size: u16) -> u8
 fn at_most(n: usize) -> usize
     ensures { λ r. ⌜ r ≡ min n 16384 ⌝ }
 {
-    if n < 16384 {
+    if n < limit::TEXT {
         return n;
     }
-    16384
+    limit::TEXT
 }
 
 // Writes the flag of each token, 1 where it passes a limit and 0 elsewhere.
 pub fn mark(
     text: &[u8],
-    kinds: &[u8; 16384],
-    starts: &[u16; 16384],
-    sizes: &[u16; 16384],
+    kinds: &[u8; limit::TEXT],
+    starts: &[u16; limit::TEXT],
+    sizes: &[u16; limit::TEXT],
     n: usize,
-    long: &mut [u8; 16384],
+    long: &mut [u8; limit::TEXT],
 )
     ensures { λ _. ⌜ now (long .exit) ≡ marked (now (text .entry)) (now (kinds .entry)) (now (starts .entry)) (now (sizes .entry)) n (now (long .entry)) ⌝ }
 {

@@ -14,7 +14,7 @@ use Rattle.lines.specs.declared.Move.{Move}
 use Rattle.lines.specs.declared.Move.the-variants.{Wait, Next, Refused}
 use Rattle.lines.specs.Fields.{kindAt, targetAt, nextAt, otherAt}
 use Rattle.lines.specs.Moves.{moveOf, moveAt, storedOf, storedAt}
-use Rattle.evaluator.specs.Value.{machineFor, partValue, evaluatedOf}
+use Rattle.evaluator.specs.Value.{machineFor, partValue, found, evaluatedOf}
 
 -- a test that is answered by o
 pub when-true : {A : Type 0} (o b : Bool) (r f g : A) → o ≡ b → o ≡ true → r ≡ f → r ≡ cond b f g
@@ -45,14 +45,14 @@ module _ (l : List ℕ) (x : ℕ) (E : Evaluated) (o v : List ℤ) where
   wait-at k a h = let z : kindAt l x ≡ 0 = sym a ∙ h in rw z (go E)
     where
       go : (e : Evaluated) → (Wait ≡ moveOf 0 e (nextAt l x) (otherAt l x)) × ((o ≡ storedOf 1 0 (targetAt l x) e o) × (v ≡ storedOf 2 0 (targetAt l x) e v))
-      go (Value t z) = (refl, (refl, refl))
+      go (Value y) = (refl, (refl, refl))
       go (Fault q) = (refl, (refl, refl))
 
   pub null-at : (k m : ℕ) → k ≡ kindAt l x → k ≡ 4 → m ≡ nextAt l x → At (Next m) o v
   null-at k m a h b = let z : kindAt l x ≡ 4 = sym a ∙ h in rw (z, ← b) (go E)
     where
       go : (e : Evaluated) → (Next m ≡ moveOf 4 e m (otherAt l x)) × ((o ≡ storedOf 1 4 (targetAt l x) e o) × (v ≡ storedOf 2 4 (targetAt l x) e v))
-      go (Value t z) = (refl, (refl, refl))
+      go (Value y) = (refl, (refl, refl))
       go (Fault q) = (refl, (refl, refl))
 
   pub fault-at : (k q : ℕ) (e : Evaluated) → k ≡ kindAt l x → (k ≡ 0 → ⊥) → (k ≡ 4 → ⊥) → e ≡ E → e ≡ Fault q → At (Refused q) o v
@@ -62,11 +62,11 @@ module _ (l : List ℕ) (x : ℕ) (E : Evaluated) (o v : List ℤ) where
       go true = refl
       go false = refl
 
-  pub branch-at : (k m t : ℕ) (z : ℤ) (e : Evaluated) → k ≡ kindAt l x → k ≡ 3 → e ≡ E → e ≡ Value t z → m ≡ cond (isOne z) (nextAt l x) (otherAt l x) → At (Next m) o v
-  branch-at k m t z e a h b d q = let y : kindAt l x ≡ 3 = sym a ∙ h in let w : E ≡ Value t z = sym b ∙ d in rw (y, w, ← q) (refl, (refl, refl))
+  pub branch-at : (k m t : ℕ) (z : ℤ) (e : Evaluated) → k ≡ kindAt l x → k ≡ 3 → e ≡ E → e ≡ found t z → m ≡ cond (isOne z) (nextAt l x) (otherAt l x) → At (Next m) o v
+  branch-at k m t z e a h b d q = let y : kindAt l x ≡ 3 = sym a ∙ h in let w : E ≡ found t z = sym b ∙ d in rw (y, w, ← q) (refl, (refl, refl))
 
-  pub store-at : (k m n t : ℕ) (z : ℤ) (e : Evaluated) (o′ v′ : List ℤ) → k ≡ kindAt l x → (k ≡ 0 → ⊥) → (k ≡ 4 → ⊥) → (k ≡ 3 → ⊥) → e ≡ E → e ≡ Value t z
+  pub store-at : (k m n t : ℕ) (z : ℤ) (e : Evaluated) (o′ v′ : List ℤ) → k ≡ kindAt l x → (k ≡ 0 → ⊥) → (k ≡ 4 → ⊥) → (k ≡ 3 → ⊥) → e ≡ E → e ≡ found t z
       → m ≡ nextAt l x → n ≡ targetAt l x → o′ ≡ cond (eqb k 1) (set o n z) o → v′ ≡ cond (eqb k 2) (set v n z) v → At (Next m) o′ v′
   store-at k m n t z e o′ v′ a h g f b d p r s u =
-      let w : E ≡ Value t z = sym b ∙ d in
+      let w : E ≡ found t z = sym b ∙ d in
       rw (w, ← a, ne-eqb k 0 h, ne-eqb k 4 g, ne-eqb k 3 f, ← p, ← r) (refl, (s, u))

@@ -34,9 +34,10 @@ use Rattle.images.specs.Outcome.{Typed}
 use Rattle.images.proofs.States.{types-length}
 use Rattle.semantics.proofs.Slots.{pad-take}
 use Rattle.images.proofs.Tables.{line-good, good-ranked}
+use Rattle.codes.specs.Types.{tagOf}
 use Rattle.evaluator.specs.declared.Evaluated.{Evaluated}
-use Rattle.evaluator.specs.declared.Evaluated.the-variants.{Value, Fault}
-use Rattle.evaluator.specs.Value.{typesFor, machineFor, partValue, evaluatedOf, tagOf}
+use Rattle.evaluator.specs.declared.Evaluated.the-variants.{Fault}
+use Rattle.evaluator.specs.Value.{typesFor, machineFor, partValue, found, evaluatedOf}
 use Rattle.evaluator.proofs.Evaluation.{value-of-code}
 use Rattle.evaluator.proofs.Slots.{value-slots}
 use Rattle.lines.specs.Fields.{kindAt, targetAt, offsetAt, sizeAt, nextAt, otherAt}
@@ -157,7 +158,7 @@ module _ (l c is vs : List ℕ) (t : Table) (h : Held l c t) (ti : typesFor is �
           on : (o : Out ℤ) → evaluate e i (ρ .memory .variables) ≡ o → Shows (then (acted (perform a i (ρ .memory)) x ρ) (λ τ. walk (t .lines) i k f τ)) here
           on (fine z) q =
               let d : perform a i (ρ .memory) ≡ fine (m z) = rw q at does in
-              let y : value ≡ Value (tagOf u) z = rw q at val in
+              let y : value ≡ found (tagOf u) z = rw q at val in
               rw d
               (goes-shows f (m z) (again f _ b (perform-typed _ _ _ i hi a ty (ρ .memory) (m z) w d))
               (store-at l x value (pad 16 (ρ .memory .outputs)) (pad 32 (ρ .memory .variables)) j f n (tagOf u) z value (pad 16 (m z .outputs)) (pad 32 (m z .variables))
@@ -174,7 +175,7 @@ module _ (l c is vs : List ℕ) (t : Table) (h : Held l c t) (ti : typesFor is �
       unfolding tested holds bind log
       branch-shows e f g u kind next other bf bg val = on (evaluate e i (ρ .memory .variables)) refl
         where
-          taken : (z : ℤ) → value ≡ Value (tagOf u) z → (b : Bool) → isOne z ≡ b
+          taken : (z : ℤ) → value ≡ found (tagOf u) z → (b : Bool) → isOne z ≡ b
               → Shows (tested (fine b) x ρ (λ τ. walk (t .lines) i k f τ) (λ τ. walk (t .lines) i k g τ)) here
           taken z y true q =
               goes-shows f (ρ .memory) (again f _ bf w)
@@ -185,7 +186,7 @@ module _ (l c is vs : List ℕ) (t : Table) (h : Held l c t) (ti : typesFor is �
 
           on : (o : Out ℤ) → evaluate e i (ρ .memory .variables) ≡ o
               → Shows (tested (holds e i (ρ .memory)) x ρ (λ τ. walk (t .lines) i k f τ) (λ τ. walk (t .lines) i k g τ)) here
-          on (fine z) q = let y : value ≡ Value (tagOf u) z = rw q at val in rw q (taken z y (isOne z) refl)
+          on (fine z) q = let y : value ≡ found (tagOf u) z = rw q at val in rw q (taken z y (isOne z) refl)
           on (fault r) q = let y : value ≡ Fault r = rw q at val in rw q (stops-shows 3 r kind (λ z. omega arith) (λ z. omega arith) y)
 
       -- any line

@@ -2,6 +2,7 @@
 use mathlib.Core.List.{List}
 use Prim.Native.Nat.{ℕ, zero, suc}
 use lib.IntN.{ℤ}
+use Rattle.codes.specs.Image as M
 use Rattle.lines.specs.Moves.{valueAt, moveAt, storedAt}
 use Rattle.lines.specs.declared.Move.{Move}
 use Rattle.lines.specs.declared.Move.the-variants.{Wait, Next, Refused}
@@ -25,6 +26,6 @@ unfoldable pub followAt : List ℕ → List ℕ → List ℕ → List ℕ → Li
 followAt l c is vs i zero x n o v = record { answer = Spent; outputs = o; variables = v }
 followAt l c is vs i (suc left) x n o v =
     let e = valueAt l c x is vs i v in
-    let o′ = storedAt 1 l x e o in
-    let v′ = storedAt 2 l x e v in
+    let o′ = storedAt M.OUTPUT l x e o in
+    let v′ = storedAt M.VARIABLE l x e v in
     wentOn (moveAt l x e) x n o′ v′ (λ y. followAt l c is vs i left y (suc n) o′ v′)

@@ -5,6 +5,7 @@ use Prim.Native.Nat.{ℕ}
 use lib.ListN.{set}
 use lib.IntN.{ℤ}
 use lib.Dec.{eqb}
+use Rattle.codes.specs.Image as M
 use Rattle.semantics.specs.Evaluation.{isOne}
 use Rattle.evaluator.specs.declared.Evaluated.{Evaluated}
 use Rattle.evaluator.specs.declared.Evaluated.the-variants.{Value, Fault}
@@ -19,24 +20,24 @@ valueAt l c x is vs i v = evaluatedOf (partValue (machineFor is vs i v) c (offse
 
 -- "a branch takes next if true, other if false"
 abbrev pub branched : Evaluated → ℕ → ℕ → Move
-branched (Value t z) f g = Next (cond (isOne z) f g)
+branched (Value x) f g = Next (cond (isOne (x .value)) f g)
 branched (Fault q) f g = Refused q
 
 -- an output or a variable is followed by next
 abbrev pub assigned : Evaluated → ℕ → Move
-assigned (Value t z) f = Next f
+assigned (Value x) f = Next f
 assigned (Fault q) f = Refused q
 
 -- "0 wait, 1 output, 2 variable, 3 branch, 4 null": what a line of kind k with the value e leads to
 abbrev pub moveOf : ℕ → Evaluated → ℕ → ℕ → Move
-moveOf k e f g = cond (eqb k 0) Wait (cond (eqb k 4) (Next f) (cond (eqb k 3) (branched e f g) (assigned e f)))
+moveOf k e f g = cond (eqb k M.WAIT) Wait (cond (eqb k M.NULL) (Next f) (cond (eqb k M.BRANCH) (branched e f g) (assigned e f)))
 
 abbrev pub moveAt : List ℕ → ℕ → Evaluated → Move
 moveAt l x e = moveOf (kindAt l x) e (nextAt l x) (otherAt l x)
 
 -- the slots that lines of kind w store into, after a line of kind k with the target n and the value e
 abbrev pub storedOf : ℕ → ℕ → ℕ → Evaluated → List ℤ → List ℤ
-storedOf w k n (Value t z) s = cond (eqb k w) (set s n z) s
+storedOf w k n (Value x) s = cond (eqb k w) (set s n (x .value)) s
 storedOf w k n (Fault q) s = s
 
 abbrev pub storedAt : ℕ → List ℕ → ℕ → Evaluated → List ℤ → List ℤ

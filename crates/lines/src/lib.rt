@@ -4,12 +4,25 @@ ghost use Prim.Native.Nat.{_+_, _*_, _<_};
 ghost use mathlib.Core.Bool.{cond};
 ghost use lib.ListN.{getD, set};
 ghost use lib.Dec.{eqb};
+ghost use Rattle.codes.specs.Image as M;
 ghost use Rattle.semantics.specs.Evaluation.{isOne};
 ghost use Rattle.format.specs.Words.{word2At};
 ghost use Rattle.lines.specs.Fields.{kindAt, targetAt, offsetAt, sizeAt, nextAt, otherAt};
 ghost use Rattle.lines.specs.Moves.{valueAt, moveAt, storedAt, storedOf};
 ghost use Rattle.lines.specs.Follow.{followAt};
+use codes::image;
 use evaluator::Evaluated;
+
+// The two-byte fields of a line, as bytes behind its beginning.
+pub const CODE: u8 = image::LINE_CODE as u8;
+
+pub const CODE_SIZE: u8 = image::LINE_CODE_SIZE as u8;
+
+pub const NEXT: u8 = image::LINE_NEXT as u8;
+
+pub const OTHER: u8 = image::LINE_OTHER as u8;
+
+pub const REACH: u8 = image::LINE_REACH as u8;
 
 // What a line leads to: the end of the cycle at this wait, the line to follow, or a refusal's number.
 pub enum Move {
@@ -20,24 +33,24 @@ pub enum Move {
 
 // The two-byte field that stands k bytes behind the beginning of line x.
 pub fn field(lines: &[u8], x: u32, k: u8) -> u32
-    ensures { λ r. ⌜ r ≡ word2At (now (lines .entry)) (x * 12 + k) ⌝ }
+    ensures { λ r. ⌜ r ≡ word2At (now (lines .entry)) (x * M.LINE + k) ⌝ }
     ensures { λ r. ⌜ r < 65536 ⌝ }
 {
-    words::word2(lines, (x as usize) * 12 + (k as usize))
+    words::word2(lines, (x as usize) * image::LINE + (k as usize))
 }
 
 // The kind byte of line x.
 pub fn kind(lines: &[u8], x: u32) -> u8
     ensures { λ r. ⌜ r ≡ kindAt (now (lines .entry)) x ⌝ }
 {
-    words::byte(lines, (x as usize) * 12)
+    words::byte(lines, (x as usize) * image::LINE)
 }
 
 // The target byte of line x.
 fn target(lines: &[u8], x: u32) -> u8
     ensures { λ r. ⌜ r ≡ targetAt (now (lines .entry)) x ⌝ }
 {
-    words::byte(lines, (x as usize) * 12 + 1)
+    words::byte(lines, (x as usize) * image::LINE + image::LINE_TARGET)
 }
 
 // Stores a value in the row that lines of kind w store into, if the line is of that kind and the row has that place.
@@ -57,9 +70,9 @@ fn branch(lines: &[u8], x: u32, v: i32) -> u32
     ensures { λ r. ⌜ r ≡ cond (isOne v) (nextAt (now (lines .entry)) x) (otherAt (now (lines .entry)) x) ⌝ }
 {
     if signed::is_one(v) {
-        field(lines, x, 6)
+        field(lines, x, NEXT)
     } else {
-        field(lines, x, 8)
+        field(lines, x, OTHER)
     }
 }
 
@@ -75,8 +88,8 @@ fn value(
 ) -> Evaluated
     ensures { λ r. ⌜ r ≡ valueAt (now (lines .entry)) (now (code .entry)) x (now («input_types» .entry)) (now («variable_types» .entry)) (now (inputs .entry)) (now (variables .entry)) ⌝ }
 {
-    let start = field(lines, x, 2) as usize;
-    let size = field(lines, x, 4) as usize;
+    let start = field(lines, x, CODE) as usize;
+    let size = field(lines, x, CODE_SIZE) as usize;
     evaluator::evaluate(
         code,
         start,
@@ -100,15 +113,15 @@ pub fn perform(
     variables: &mut [i32],
 ) -> Move
     ensures { λ r. ⌜ r ≡ moveAt (now (lines .entry)) x (valueAt (now (lines .entry)) (now (code .entry)) x (now («input_types» .entry)) (now («variable_types» .entry)) (now (inputs .entry)) (now (variables .entry))) ⌝ }
-    ensures { λ _. ⌜ now (outputs .exit) ≡ storedAt 1 (now (lines .entry)) x (valueAt (now (lines .entry)) (now (code .entry)) x (now («input_types» .entry)) (now («variable_types» .entry)) (now (inputs .entry)) (now (variables .entry))) (now (outputs .entry)) ⌝ }
-    ensures { λ _. ⌜ now (variables .exit) ≡ storedAt 2 (now (lines .entry)) x (valueAt (now (lines .entry)) (now (code .entry)) x (now («input_types» .entry)) (now («variable_types» .entry)) (now (inputs .entry)) (now (variables .entry))) (now (variables .entry)) ⌝ }
+    ensures { λ _. ⌜ now (outputs .exit) ≡ storedAt M.OUTPUT (now (lines .entry)) x (valueAt (now (lines .entry)) (now (code .entry)) x (now («input_types» .entry)) (now («variable_types» .entry)) (now (inputs .entry)) (now (variables .entry))) (now (outputs .entry)) ⌝ }
+    ensures { λ _. ⌜ now (variables .exit) ≡ storedAt M.VARIABLE (now (lines .entry)) x (valueAt (now (lines .entry)) (now (code .entry)) x (now («input_types» .entry)) (now («variable_types» .entry)) (now (inputs .entry)) (now (variables .entry))) (now (variables .entry)) ⌝ }
 {
     let k = kind(lines, x);
-    if k == 0 {
+    if k == image::WAIT {
         return Move::Wait;
     }
-    if k == 4 {
-        return Move::Next(field(lines, x, 6));
+    if k == image::NULL {
+        return Move::Next(field(lines, x, NEXT));
     }
     let e = value(
         lines,
@@ -121,14 +134,15 @@ pub fn perform(
     );
     match e {
         Evaluated::Fault(q) => Move::Refused(q),
-        Evaluated::Value(_, v) => {
-            if k == 3 {
+        Evaluated::Value(f) => {
+            let v = f.value;
+            if k == image::BRANCH {
                 return Move::Next(branch(lines, x, v));
             }
             let n = target(lines, x) as usize;
-            store(outputs, 1, k, n, v);
-            store(variables, 2, k, n, v);
-            Move::Next(field(lines, x, 6))
+            store(outputs, image::OUTPUT, k, n, v);
+            store(variables, image::VARIABLE, k, n, v);
+            Move::Next(field(lines, x, NEXT))
         }
     }
 }

@@ -7,6 +7,7 @@ use lib.ListN.{length, getD, set}
 use lib.IntN.{ℤ}
 use lib.Seq.{sets}
 use lib.Dec.{eqb}
+use Rattle.codes.specs.Statement as S
 use Rattle.design.specs.Statement.{Stmt, size}
 use Rattle.ir.specs.Entries.{Block}
 use Rattle.ir.specs.Arrays.{Row, rowIn, At}
@@ -46,7 +47,7 @@ whileLinks e j f x = link (link x (j + 1) e j) j (j + 1) f
 
 -- statement j, which the line f follows, and the blocks in it
 unfoldable pub opened : Row → ℕ → ℕ → Links → Links
-opened r j f x = cond (eqb (r .kind) 3) (ifLinks (r .other) (r .end) j f x) (cond (eqb (r .kind) 5) (whileLinks (r .end) j f x) (link x j f 0))
+opened r j f x = cond (eqb (r .kind) S.IF) (ifLinks (r .other) (r .end) j f x) (cond (eqb (r .kind) S.WHILE) (whileLinks (r .end) j f x) (link x j f 0))
 
 -- one statement
 unfoldable pub stepAt : List ℕ → ℕ → Links → Links

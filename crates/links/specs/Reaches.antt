@@ -7,6 +7,8 @@ use lib.IntN.{ℤ}
 use lib.ListN.{length, getD, set}
 use lib.Seq.{sets}
 use lib.Dec.{eqb, ltb}
+use Rattle.codes.specs.Statement as S
+use Rattle.codes.specs.Limit as L
 use Rattle.design.specs.Statement.{Stmt, size, C, classOf, LoopsC}
 use Rattle.ir.specs.Arrays.{At}
 use Rattle.format.specs.Lines.{linesOf, reachesOf}
@@ -18,15 +20,15 @@ upOne v = cond (ltb v 65535) (v + 1) v
 
 -- an if or a while
 abbrev pub isBranch : ℕ → Bool
-isBranch k = eqb k 3 || eqb k 5
+isBranch k = eqb k S.IF || eqb k S.WHILE
 
 -- "Reach is 0 for a wait, else 1 plus the larger reach of its followers", of a statement of the kind k whose followers have the reaches a and b
 unfoldable pub reachBy : ℕ → ℕ → ℕ → ℕ
-reachBy k a b = cond (eqb k 0) 0 (cond (isBranch k) (upOne (max a b)) (upOne a))
+reachBy k a b = cond (eqb k S.WAIT) 0 (cond (isBranch k) (upOne (max a b)) (upOne a))
 
 -- of the line j
 abbrev pub reachAt : List ℕ → Links → ℕ → List ℕ → ℕ
-reachAt rows x j r = reachBy (getD rows (6 * j) 0) (getD r (getD (x .next) j 0) 0) (getD r (getD (x .other) j 0) 0)
+reachAt rows x j r = reachBy (getD rows (S.ROW * j) 0) (getD r (getD (x .next) j 0) 0) (getD r (getD (x .other) j 0) 0)
 
 -- the reaches of the lines below a number stored anew, the last first
 unfoldable pub sweep : List ℕ → Links → ℕ → List ℕ → List ℕ
@@ -53,6 +55,6 @@ pub record Swept (rows : List ℕ) (x : Links) (n : ℕ) (before after : List �
 -- followers, then reaches of n statements: x and r are the arrays before, y and q behind. No body has more than 512 statements; for a higher n they are
 -- left as they were
 pub record Found (rows : List ℕ) (n : ℕ) (x y : Links) (r q : List ℕ) : Type 0 where
-  pub followed : n ≤ 512 → Followed rows n x y
-  pub reached : n ≤ 512 → Reached rows n y r q
-  pub kept : 512 < n → (y ≡ x) × (q ≡ r)
+  pub followed : n ≤ L.STATEMENTS → Followed rows n x y
+  pub reached : n ≤ L.STATEMENTS → Reached rows n y r q
+  pub kept : L.STATEMENTS < n → (y ≡ x) × (q ≡ r)

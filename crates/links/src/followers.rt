@@ -2,10 +2,12 @@
 ghost use mathlib.Core.Path.{_≡_};
 ghost use Prim.Native.Nat.{_+_, _*_, _<_, _≤_};
 ghost use lib.ListN.{getD, set};
+ghost use Rattle.codes.specs.Statement.{ROW};
 ghost use Rattle.links.specs.Followers.{links, link, ifLinks, whileLinks, stepAt, Followed};
 ghost use mathlib.Core.Bool.{cond};
 ghost use lib.Dec.{eqb};
 use crate::number;
+use codes::statement;
 
 // Stores a number at an index, unless that is past the end.
 pub(crate) fn store(s: &mut [u16], i: usize, v: u16)
@@ -17,19 +19,19 @@ pub(crate) fn store(s: &mut [u16], i: usize, v: u16)
 }
 
 // A number of the row of statement j.
-fn field(rows: &[u16; 3072], j: usize, k: usize) -> u16
-    requires { ⌜ (j < 512) × (k < 6) ⌝ }
-    ensures { λ r. ⌜ r ≡ getD (now (rows .entry)) (6 * j + k) 0 ⌝ }
+fn field(rows: &[u16; statement::ROWS], j: usize, k: usize) -> u16
+    requires { ⌜ (j < 512) × (k < ROW) ⌝ }
+    ensures { λ r. ⌜ r ≡ getD (now (rows .entry)) (ROW * j + k) 0 ⌝ }
 {
-    rows[6 * j + k]
+    rows[statement::ROW * j + k]
 }
 
 // The kind of statement j.
-pub(crate) fn kind(rows: &[u16; 3072], j: usize) -> u16
+pub(crate) fn kind(rows: &[u16; statement::ROWS], j: usize) -> u16
     requires { ⌜ j < 512 ⌝ }
-    ensures { λ r. ⌜ r ≡ getD (now (rows .entry)) (6 * j) 0 ⌝ }
+    ensures { λ r. ⌜ r ≡ getD (now (rows .entry)) (ROW * j) 0 ⌝ }
 {
-    rows[6 * j]
+    rows[statement::ROW * j]
 }
 
 // Stores both numbers of statement j.
@@ -82,22 +84,22 @@ fn link_while(next: &mut [u16], other: &mut [u16], j: u16, f: u16, end: u16)
 }
 
 // One statement.
-fn step(rows: &[u16; 3072], j: usize, next: &mut [u16], other: &mut [u16])
+fn step(rows: &[u16; statement::ROWS], j: usize, next: &mut [u16], other: &mut [u16])
     requires { ⌜ j < 512 ⌝ }
     ensures { λ _. ⌜ links (now (next .exit)) (now (other .exit)) ≡ stepAt (now (rows .entry)) j (links (now (next .entry)) (now (other .entry))) ⌝ }
 {
     let kind = kind(rows, j);
-    let second = field(rows, j, 4);
-    let end = field(rows, j, 5);
+    let second = field(rows, j, statement::OTHER);
+    let end = field(rows, j, statement::END);
     let block = number(next, j);
     let after = number(other, j);
     let f = follower(end, block, after);
     announce_rest(next, other, end, block, after);
-    if kind == 3 {
+    if kind == statement::IF {
         link_if(next, other, j as u16, f, second, end);
         return;
     }
-    if kind == 5 {
+    if kind == statement::WHILE {
         link_while(next, other, j as u16, f, end);
         return;
     }
@@ -105,7 +107,12 @@ fn step(rows: &[u16; 3072], j: usize, next: &mut [u16], other: &mut [u16])
 }
 
 // Next and other of each of n statements, which follow one another from the first again.
-pub(crate) fn followers(rows: &[u16; 3072], n: usize, next: &mut [u16], other: &mut [u16])
+pub(crate) fn followers(
+    rows: &[u16; statement::ROWS],
+    n: usize,
+    next: &mut [u16],
+    other: &mut [u16],
+)
     requires { ⌜ n ≤ 512 ⌝ }
     ensures { λ _. ⌜ Followed (now (rows .entry)) n (links (now (next .entry)) (now (other .entry))) (links (now (next .exit)) (now (other .exit))) ⌝ }
 {

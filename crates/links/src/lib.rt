@@ -3,6 +3,8 @@ ghost use mathlib.Core.Path.{_≡_};
 ghost use lib.ListN.{getD};
 ghost use Rattle.links.specs.Followers.{links};
 ghost use Rattle.links.specs.Reaches.{Found};
+use codes::limit;
+use codes::statement;
 
 mod followers;
 mod reaches;
@@ -15,10 +17,16 @@ pub fn number(s: &[u16], i: usize) -> u16
 }
 
 // Next, other and reach of each of n statements; of more than 512, which no body has, none.
-pub fn find(rows: &[u16; 3072], n: usize, next: &mut [u16], other: &mut [u16], reach: &mut [u16])
+pub fn find(
+    rows: &[u16; statement::ROWS],
+    n: usize,
+    next: &mut [u16],
+    other: &mut [u16],
+    reach: &mut [u16],
+)
     ensures { λ _. ⌜ Found (now (rows .entry)) n (links (now (next .entry)) (now (other .entry))) (links (now (next .exit)) (now (other .exit))) (now (reach .entry)) (now (reach .exit)) ⌝ }
 {
-    if 512 < n {
+    if limit::STATEMENTS < n {
         return;
     }
     followers::followers(rows, n, next, other);

@@ -8,12 +8,13 @@ ghost use Rattle.links.specs.Reaches.{upOne, reachBy, reachAt, Swept, Re
 use crate::followers::kind;
 use crate::followers::store;
 use crate::number;
+use codes::statement;
 
 // One more, where 16 bits hold it.
 fn up_one(v: u16) -> u16
     ensures { λ r. ⌜ r ≡ upOne v ⌝ }
 {
-    if v < 65535 { v + 1 } else { v }
+    if v < u16::MAX { v + 1 } else { v }
 }
 
 // The larger of two numbers.
@@ -27,20 +28,26 @@ fn larger(a: u16, b: u16) -> u16
 fn reach_by(kind: u16, a: u16, b: u16) -> u16
     ensures { λ r. ⌜ r ≡ reachBy kind a b ⌝ }
 {
-    if kind == 0 {
+    if kind == statement::WAIT {
         return 0;
     }
-    if kind == 3 {
+    if kind == statement::IF {
         return up_one(larger(a, b));
     }
-    if kind == 5 {
+    if kind == statement::WHILE {
         return up_one(larger(a, b));
     }
     up_one(a)
 }
 
 // The reach of the line j from the reaches so far.
-fn reach_at(rows: &[u16; 3072], j: usize, next: &[u16], other: &[u16], reaches: &[u16]) -> u16
+fn reach_at(
+    rows: &[u16; statement::ROWS],
+    j: usize,
+    next: &[u16],
+    other: &[u16],
+    reaches: &[u16],
+) -> u16
     requires { ⌜ j < 512 ⌝ }
     ensures { λ r. ⌜ r ≡ reachAt (now (rows .entry)) (links (now (next .entry)) (now (other .entry))) j (now (reaches .entry)) ⌝ }
 {
@@ -60,7 +67,13 @@ fn changes(already: bool, a: u16, b: u16) -> bool
 }
 
 // One sweep over n lines; whether it changed a reach.
-fn sweep(rows: &[u16; 3072], n: usize, next: &[u16], other: &[u16], reaches: &mut [u16]) -> bool
+fn sweep(
+    rows: &[u16; statement::ROWS],
+    n: usize,
+    next: &[u16],
+    other: &[u16],
+    reaches: &mut [u16],
+) -> bool
     requires { ⌜ n ≤ 512 ⌝ }
     ensures { λ r. ⌜ Swept (now (rows .entry)) (links (now (next .entry)) (now (other .entry))) n (now (reaches .entry)) (now (reaches .exit)) r ⌝ }
 {
@@ -85,7 +98,7 @@ fn left(changed: bool, k: usize) -> usize
 
 // The reaches of n lines with these followers.
 pub(crate) fn reaches(
-    rows: &[u16; 3072],
+    rows: &[u16; statement::ROWS],
     n: usize,
     next: &[u16],
     other: &[u16],

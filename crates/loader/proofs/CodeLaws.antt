@@ -11,16 +11,20 @@ use lib.ListN.{length, getD, drop, length-drop, drop-of-length-le}
 use lib.Seq.{getD-drop, drop-drop, drop-cons}
 use lib.Dec.{ltb, leb, eqb}
 use borrow.Author.Tests.{lt-ltb, le-ltb, le-leb, lt-leb, eqb-true, eqb-false, ne-eqb}
-use Rattle.design.specs.Types.{Ty, std-logic, integer, ExprTy, plain, boolean, sameTy, sameType}
-use Rattle.design.specs.Expression.{Leaf, int, bit, input, variable, Unary, sign, invert, Binary, plus, minus, equal, unequal, less, at-most, greater, at-least, and, or, xor, times, divide, modulo, remainder, Expr, leaf, unary, binary, items, Out, fine, fault, bind, nth, plainly, leafType, sumType, orderType, equalityType, logicalType, unaryType, binaryType}
+use Rattle.design.specs.Types.{Ty, integer, ExprTy, plain, sameType}
+use Rattle.design.specs.Expression.{Leaf, int, bit, input, variable, Unary, Binary, Expr, leaf, unary, binary, items, Out, fine, fault, bind, nth, plainly, leafType, unaryType, binaryType}
+use Rattle.codes.specs.Operation.{INTEGER, STD-LOGIC, INPUT, VARIABLE, unaryFor, binaryFor, countOr, operandsOf, widthOf}
+use Rattle.codes.specs.Types.{NONE, tagOf, tagOr, typeAfter}
+use Rattle.codes.specs.Limit.{ITEMS}
+use Rattle.codes.proofs.TypeLaws.{type-of-tag, tag-there, same-tag, unary-is, binary-is, one-operand, two-operands, no-operands}
 use Rattle.semantics.proofs.Basic.{none-some, fault-fine, some-injective, fine-injective}
 use Rattle.format.specs.Words.{Bytes, word4At, onlyIf}
 use Rattle.semantics.specs.Twos.{signed32}
-use Rattle.format.specs.Code.{Operation, push, apply1, apply2, Taken, readInt, bitOf, readBit, readName, operator, readOperation, operations, Machine, onto, run, runOperations, runCode, withType, typed, trees, valueOf, decode}
+use Rattle.format.specs.Code.{Operation, push, apply1, apply2, Taken, readInt, bitOf, readBit, readName, applying, operator, readOperation, operations, Machine, onto, run, runOperations, runCode, withType, typed, trees, valueOf, decode}
 use Rattle.format.proofs.Words.{word4-small, signed-range, byte-at}
 use Rattle.format.proofs.Basic.{andThen-some, map-some, cond-case}
 use Rattle.format.proofs.Coding.{operations-any}
-use Rattle.loader.specs.Code.{tag, tagOr, tagAt, codeType, sumTag, orderTag, equalityTag, logicalTag, unaryTag, binaryTag, leafTag, pushed, unaryStep, binaryStep, stepAt, width}
+use Rattle.loader.specs.Code.{tagAt, codeType, leafTag, pushed, unaryStep, binaryStep, stepAt}
 use Rattle.loader.proofs.SectionLaws.{word-drop}
 
 -- Reading.
@@ -70,45 +74,21 @@ operations-few (suc f) (k ∷ s) is e =
 
 -- Running on tags.
 
-unfoldable pub untag : ℕ → Option ExprTy
-untag zero = some (plain std-logic)
-untag (suc zero) = some (plain integer)
-untag (suc (suc zero)) = some boolean
-untag (suc (suc (suc n))) = none
-
-tag-back : (t : ExprTy) → untag (tag t) ≡ some t
-unfolding untag
-tag-back (plain std-logic) = refl
-tag-back (plain integer) = refl
-tag-back boolean = refl
-
-tag-same : (t u : ExprTy) → eqb (tag t) (tag u) ≡ sameType t u
-unfolding sameType sameTy
-tag-same (plain std-logic) (plain std-logic) = refl
-tag-same (plain std-logic) (plain integer) = refl
-tag-same (plain std-logic) boolean = refl
-tag-same (plain integer) (plain std-logic) = refl
-tag-same (plain integer) (plain integer) = refl
-tag-same (plain integer) boolean = refl
-tag-same boolean (plain std-logic) = refl
-tag-same boolean (plain integer) = refl
-tag-same boolean boolean = refl
-
 abbrev outTag : Option ExprTy → Out ℕ
 outTag none = fault 13
-outTag (some t) = fine (tag t)
+outTag (some t) = fine (tagOf t)
 
 -- the machine on tags
 abbrev tags : List Ty → List Ty → Machine ℕ
 tags is vs =
     record {
       ofLeaf = λ l. outTag (leafType is vs l);
-      ofUnary = λ o x. outTag (andThen (untag x) (unaryType o));
-      ofBinary = λ o x y. cond (eqb x y) (outTag (andThen (untag x) (binaryType o))) (fault 13);
+      ofUnary = λ o x. outTag (typeAfter (unaryType o) x);
+      ofBinary = λ o x y. cond (eqb x y) (outTag (typeAfter (binaryType o) x)) (fault 13);
     }
 
 abbrev top : ExprTy × Expr → ℕ
-top p = tag (p .0)
+top p = tagOf (p .0)
 
 abbrev mapOut : Out (ExprTy × Expr) → Out ℕ
 mapOut (fine p) = fine (top p)
@@ -139,11 +119,11 @@ module _ (is vs : List Ty) where
   run-tags (push l ∷ ops) st = push-same (leafType is vs l) (leaf l) st ops (λ u. run-tags ops u)
   run-tags (apply1 o ∷ ops) [] = refl
   run-tags (apply1 o ∷ ops) (x ∷ st) =
-      rw (tag-back (x .0)) (push-same (unaryType o (x .0)) (unary o (x .0) (x .1)) st ops (λ u. run-tags ops u))
+      rw (type-of-tag (x .0)) (push-same (unaryType o (x .0)) (unary o (x .0) (x .1)) st ops (λ u. run-tags ops u))
   run-tags (apply2 o ∷ ops) [] = refl
   run-tags (apply2 o ∷ ops) (y ∷ []) = refl
   run-tags (apply2 o ∷ ops) (y ∷ x ∷ st) =
-      rw (tag-back (x .0), tag-same (x .0) (y .0))
+      rw (type-of-tag (x .0), same-tag (x .0) (y .0))
       (two-same (sameType (x .0) (y .0)) (binaryType o (x .0)) (binary o (x .0) (x .1) (y .1)) st ops (λ u. run-tags ops u))
 
   -- an expression has as many items as its code has operations
@@ -182,18 +162,18 @@ module _ (is vs : List Ty) where
       let q = pushed-fine (binaryType o (x .0)) (binary o (x .0) (x .1) (y .1)) st _ p (two-fine (sameType (x .0) (y .0)) _ st _ p h) in
       run-items ops ((q .0, binary o (x .0) (x .1) (y .1)) ∷ st) p (q .1) ∙ omega arith
 
--- the tag that a run leaves; 3 where it leaves none
+-- the tag that a run leaves; that of no type where it leaves none
 abbrev pub leaves : Out ℕ → ℕ
 leaves (fine t) = t
-leaves (fault q) = 3
+leaves (fault q) = NONE
 
 -- the operations that were read, run on tags
 abbrev pub runRest : List Ty → List Ty → Option (List Operation) → List ℕ → ℕ
-runRest is vs none st = 3
+runRest is vs none st = NONE
 runRest is vs (some ops) st = leaves (run (tags is vs) ops st)
 
 abbrev limited : Option (ExprTy × Expr) → ℕ
-limited d = tagOr (andThen d (λ p. onlyIf (leb (items (p .1)) 64) (some (p .0))))
+limited d = tagOr (andThen d (λ p. onlyIf (leb (items (p .1)) ITEMS) (some (p .0))))
 
 -- What code is judged by: at most 64 operations, run on tags.
 pub code-tags : (is vs : List Ty) (s : List ℕ) → tagOr (codeType is vs s) ≡ runRest is vs (operations 64 s) []
@@ -206,7 +186,7 @@ code-tags is vs s = go (operations (length s) s) refl (operations 64 s) refl
         rw (le-leb (items (p .1)) 64 (omega arith))
     few ops (fault q) e h = refl
 
-    many : (ops : List Operation) (r : Out (ExprTy × Expr)) → run (typed is vs trees) ops [] ≡ r → 64 < length ops → limited (valueOf r) ≡ 3
+    many : (ops : List Operation) (r : Out (ExprTy × Expr)) → run (typed is vs trees) ops [] ≡ r → 64 < length ops → limited (valueOf r) ≡ NONE
     many ops (fine p) e h =
         let z : items (p .1) ≡ length ops + 0 = run-items is vs ops [] p e in
         rw (lt-leb (items (p .1)) 64 (omega arith))
@@ -218,7 +198,7 @@ code-tags is vs s = go (operations (length s) s) refl (operations 64 s) refl
     go none e (some ops) m = none-some ops (sym e ∙ operations-any 64 (length s) s ops m (operations-few 64 s ops m .1))
     go (some ops) e none m = judged (decLt 64 (length ops))
       where
-        judged : Dec (64 < length ops) → limited (valueOf (run (typed is vs trees) ops [])) ≡ 3
+        judged : Dec (64 < length ops) → limited (valueOf (run (typed is vs trees) ops [])) ≡ NONE
         judged (yes h) = many ops (run (typed is vs trees) ops []) refl h
         judged (no h) = none-some ops (sym m ∙ operations-any (length s) 64 s ops e (omega arith))
     go (some ops) e (some pos) m =
@@ -228,12 +208,6 @@ code-tags is vs s = go (operations (length s) s) refl (operations 64 s) refl
         ∙ ap (λ (l : List Operation). leaves (run (tags is vs) l [])) z
 
 -- Reading by place.
-
-above : (n k : ℕ) → n ≤ k → (k ≡ n → ⊥) → suc n ≤ k
-above n k h e = omega arith
-
-apart : (k : ℕ) → 33 ≤ k → k < 33 → ⊥
-apart k h l = omega arith
 
 -- a number is n or another
 pub byte-case : (P : ℕ → Type 0) (k n : ℕ) → P n → ((k ≡ n → ⊥) → P k) → P k
@@ -246,55 +220,25 @@ byte-case P k n p f = go (eqb k n) refl
 -- the stack with a type on top
 abbrev stacked : Option ExprTy → List ℕ → Option (List ℕ)
 stacked none st = none
-stacked (some t) st = some (tag t ∷ st)
+stacked (some t) st = some (tagOf t ∷ st)
 
 stacked-pushed : (o : Option ExprTy) (st : List ℕ) → stacked o st ≡ pushed (tagOr o) st
 stacked-pushed none st = refl
-stacked-pushed (some (plain std-logic)) st = refl
-stacked-pushed (some (plain integer)) st = refl
-stacked-pushed (some boolean) st = refl
-
-sum-tag : (x : ℕ) (st : List ℕ) → stacked (andThen (untag x) sumType) st ≡ pushed (sumTag x) st
-unfolding untag andThen sumType
-sum-tag zero st = refl
-sum-tag (suc zero) st = refl
-sum-tag (suc (suc zero)) st = refl
-sum-tag (suc (suc (suc x))) st = rw (ne-eqb (suc (suc (suc x))) 1 (λ e. omega arith))
-
-order-tag : (x : ℕ) (st : List ℕ) → stacked (andThen (untag x) orderType) st ≡ pushed (orderTag x) st
-unfolding untag andThen orderType
-order-tag zero st = refl
-order-tag (suc zero) st = refl
-order-tag (suc (suc zero)) st = refl
-order-tag (suc (suc (suc x))) st = rw (ne-eqb (suc (suc (suc x))) 1 (λ e. omega arith))
-
-equality-tag : (x : ℕ) (st : List ℕ) → stacked (andThen (untag x) equalityType) st ≡ pushed (equalityTag x) st
-unfolding untag andThen equalityType
-equality-tag zero st = refl
-equality-tag (suc zero) st = refl
-equality-tag (suc (suc zero)) st = refl
-equality-tag (suc (suc (suc x))) st = rw (le-ltb (suc (suc (suc x))) 2 (omega arith))
-
-logical-tag : (x : ℕ) (st : List ℕ) → stacked (andThen (untag x) logicalType) st ≡ pushed (logicalTag x) st
-unfolding untag andThen logicalType
-logical-tag zero st = refl
-logical-tag (suc zero) st = refl
-logical-tag (suc (suc zero)) st = refl
-logical-tag (suc (suc (suc x))) st = rw (ne-eqb (suc (suc (suc x))) 0 (λ e. omega arith), ne-eqb (suc (suc (suc x))) 2 (λ e. omega arith))
+stacked-pushed (some t) st = rw (tag-there t)
 
 -- what an operation makes of a stack of tags
 abbrev pub onStep : Option (List ℕ) → (List ℕ → ℕ) → ℕ
-onStep none k = 3
+onStep none k = NONE
 onStep (some u) k = k u
 
 module _ (is vs : List Ty) where
   abbrev applied : Operation → List ℕ → Option (List ℕ)
   applied (push l) st = stacked (leafType is vs l) st
   applied (apply1 o) [] = none
-  applied (apply1 o) (x ∷ st) = stacked (andThen (untag x) (unaryType o)) st
+  applied (apply1 o) (x ∷ st) = stacked (typeAfter (unaryType o) x) st
   applied (apply2 o) [] = none
   applied (apply2 o) (y ∷ []) = none
-  applied (apply2 o) (y ∷ x ∷ st) = cond (eqb x y) (stacked (andThen (untag x) (binaryType o)) st) none
+  applied (apply2 o) (y ∷ x ∷ st) = cond (eqb x y) (stacked (typeAfter (binaryType o) x) st) none
 
   onto-step : (o : Option ExprTy) (st : List ℕ) (k : List ℕ → Out ℕ) → leaves (onto (outTag o) st k) ≡ onStep (stacked o st) (λ u. leaves (k u))
   unfolding onto
@@ -312,12 +256,12 @@ module _ (is vs : List Ty) where
   unfolding run
   run-step (push l) ops st = onto-step (leafType is vs l) st _
   run-step (apply1 o) ops [] = refl
-  run-step (apply1 o) ops (x ∷ st) = onto-step (andThen (untag x) (unaryType o)) st _
+  run-step (apply1 o) ops (x ∷ st) = onto-step (typeAfter (unaryType o) x) st _
   run-step (apply2 o) ops [] = refl
   run-step (apply2 o) ops (y ∷ []) = refl
-  run-step (apply2 o) ops (y ∷ x ∷ st) = two-step (eqb x y) (andThen (untag x) (binaryType o)) st _
+  run-step (apply2 o) ops (y ∷ x ∷ st) = two-step (eqb x y) (typeAfter (binaryType o) x) st _
 
-  step-none : (o : Option (List ℕ)) → 3 ≡ onStep o (λ u. 3)
+  step-none : (o : Option (List ℕ)) → NONE ≡ onStep o (λ u. NONE)
   step-none none = refl
   step-none (some u) = refl
 
@@ -326,57 +270,17 @@ module _ (is vs : List Ty) where
   rest-step i none st = step-none (applied i st)
   rest-step i (some ops) st = run-step i ops st
 
-  unary-step : (k : ℕ) (o : Unary) → ((x : ℕ) (u : List ℕ) → stacked (andThen (untag x) (unaryType o)) u ≡ pushed (unaryTag k x) u) → (st : List ℕ)
-      → applied (apply1 o) st ≡ unaryStep k st
+  unary-step : (k : ℕ) (o : Unary) → unaryFor k ≡ some o → (st : List ℕ) → applied (apply1 o) st ≡ unaryStep k st
   unfolding unaryStep
-  unary-step k o h [] = refl
-  unary-step k o h (x ∷ st) = h x st
+  unary-step k o e [] = refl
+  unary-step k o e (x ∷ st) = stacked-pushed (typeAfter (unaryType o) x) st ∙ ap (λ z. pushed (tagOr z) st) (sym (unary-is k o e x))
 
-  binary-step : (k : ℕ) (o : Binary) → ((x : ℕ) (u : List ℕ) → stacked (andThen (untag x) (binaryType o)) u ≡ pushed (binaryTag k x) u) → (st : List ℕ)
-      → applied (apply2 o) st ≡ binaryStep k st
+  binary-step : (k : ℕ) (o : Binary) → binaryFor k ≡ some o → (st : List ℕ) → applied (apply2 o) st ≡ binaryStep k st
   unfolding binaryStep
-  binary-step k o h [] = refl
-  binary-step k o h (y ∷ []) = refl
-  binary-step k o h (y ∷ x ∷ st) = ap (λ z. cond (eqb x y) z none) (h x st)
-
-  binary-past : (k : ℕ) → 33 ≤ k → (st : List ℕ) → binaryStep k st ≡ none
-  unfolding binaryStep
-  binary-past k h [] = refl
-  binary-past k h (y ∷ []) = refl
-  binary-past k h (y ∷ x ∷ st) =
-      rw (le-ltb k 20 (omega arith), le-ltb k 22 (omega arith), le-ltb k 26 (omega arith), le-ltb k 29 (omega arith), le-ltb k 33 h)
-      (either (eqb x y))
-    where
-      either : (b : Bool) → _≡_ {A = Option (List ℕ)} (cond b none none) none
-      either true = refl
-      either false = refl
-
-  -- no operator has these first bytes
-  no-operation : (k : ℕ) (r : List ℕ) → (k ≡ 1 → ⊥) → (k ≡ 2 → ⊥) → (k ≡ 3 → ⊥) → (k ≡ 4 → ⊥) → (16 ≤ k → k < 33 → ⊥) → readOperation k r ≡ none
-  no-operation k r n1 n2 n3 n4 n =
-      rw (
-        ne-eqb k 1 n1,
-        ne-eqb k 2 n2,
-        ne-eqb k 3 n3,
-        ne-eqb k 4 n4,
-        ne-eqb k 16 (λ e. n (omega arith) (omega arith)),
-        ne-eqb k 17 (λ e. n (omega arith) (omega arith)),
-        ne-eqb k 18 (λ e. n (omega arith) (omega arith)),
-        ne-eqb k 19 (λ e. n (omega arith) (omega arith)),
-        ne-eqb k 20 (λ e. n (omega arith) (omega arith)),
-        ne-eqb k 21 (λ e. n (omega arith) (omega arith)),
-        ne-eqb k 22 (λ e. n (omega arith) (omega arith)),
-        ne-eqb k 23 (λ e. n (omega arith) (omega arith)),
-        ne-eqb k 24 (λ e. n (omega arith) (omega arith)),
-        ne-eqb k 25 (λ e. n (omega arith) (omega arith)),
-        ne-eqb k 26 (λ e. n (omega arith) (omega arith)),
-        ne-eqb k 27 (λ e. n (omega arith) (omega arith)),
-        ne-eqb k 28 (λ e. n (omega arith) (omega arith)),
-        ne-eqb k 29 (λ e. n (omega arith) (omega arith)),
-        ne-eqb k 30 (λ e. n (omega arith) (omega arith)),
-        ne-eqb k 31 (λ e. n (omega arith) (omega arith)),
-        ne-eqb k 32 (λ e. n (omega arith) (omega arith)),
-      )
+  binary-step k o e [] = refl
+  binary-step k o e (y ∷ []) = refl
+  binary-step k o e (y ∷ x ∷ st) =
+      ap (λ z. cond (eqb x y) z none) (stacked-pushed (typeAfter (binaryType o) x) st ∙ ap (λ z. pushed (tagOr z) st) (sym (binary-is k o e x)))
 
   -- One operation by place, in the code s whose elements are bytes.
   module _ (s : List ℕ) (b : Bytes s) (f at : ℕ) (st : List ℕ) where
@@ -384,9 +288,9 @@ module _ (is vs : List Ty) where
     abbrev Step : ℕ → Type 0
     Step k =
         runRest is vs (andThen (readOperation k (drop (suc at) s)) (λ p. Option·map (λ l. p .0 ∷ l) (operations f (p .1)))) st
-        ≡ onStep (stepAt is vs s at k st) (λ u. runRest is vs (operations f (drop (at + width k) s)) u)
+        ≡ onStep (stepAt is vs s at k st) (λ u. runRest is vs (operations f (drop (at + widthOf k) s)) u)
 
-    step-some : (k w : ℕ) (i : Operation) (o : Option (List ℕ)) → width k ≡ w → readOperation k (drop (suc at) s) ≡ some (i, drop (at + w) s)
+    step-some : (k w : ℕ) (i : Operation) (o : Option (List ℕ)) → widthOf k ≡ w → readOperation k (drop (suc at) s) ≡ some (i, drop (at + w) s)
         → applied i st ≡ o → o ≡ stepAt is vs s at k st → Step k
     unfolding andThen
     step-some k w i o ew e h g =
@@ -441,14 +345,14 @@ module _ (is vs : List Ty) where
         (byte-at s (at + 1) b) (byte-at s (at + 1 + 1) b) (byte-at s (at + 1 + 2) b) (byte-at s (at + 1 + 3) b)))
 
     step-1 : Step 1
-    unfolding stepAt leafTag
+    unfolding stepAt leafTag operandsOf countOr widthOf
     step-1 = go (decLt (length s) (at + 5))
       where
         go : Dec (length s < at + 5) → Step 1
-        go (yes h) = step-stop 1 (integer-short h) (rw (lt-leb (at + 5) (length s) h))
+        go (yes h) = step-stop 1 (integer-short h) (rw (lt-ltb (length s) (at + 5) h))
         go (no h) =
             step-some 1 5 (push (int (signed32 (word4At s (at + 1))))) (some (1 ∷ st)) refl (integer-read (omega arith)) (rw integer-typed)
-            (rw (le-leb (at + 5) (length s) (omega arith)))
+            (rw (le-ltb (length s) (at + 5) (omega arith)))
 
     -- the byte after the first
     byte-there : at + 2 ≤ length s → drop (suc at) s ≡ getD s (at + 1) 0 ∷ drop (at + 2) s
@@ -464,7 +368,7 @@ module _ (is vs : List Ty) where
     byte-short h = let l : length s ≤ suc at = omega arith in drop-of-length-le s l
 
     step-2 : Step 2
-    unfolding stepAt leafTag leafType
+    unfolding stepAt leafTag leafType operandsOf countOr widthOf
     step-2 = go (decLt (length s) (at + 2))
       where
         bits : (x : ℕ) → drop (suc at) s ≡ x ∷ drop (at + 2) s → getD s (at + 1) 0 ≡ x → at + 2 ≤ length s → Step 2
@@ -472,14 +376,14 @@ module _ (is vs : List Ty) where
         bits (suc zero) e g h = step-some 2 2 (push (bit true)) (some (0 ∷ st)) refl (ap readBit e) refl (rw (le-ltb (length s) (at + 2) h, g))
         bits (suc (suc x)) e g h =
             step-stop 2 (ap readBit e ∙ rw (ne-eqb (suc (suc x)) 0 (λ q. omega arith), ne-eqb (suc (suc x)) 1 (λ q. omega arith)))
-            (rw (le-ltb (length s) (at + 2) h, g, le-ltb (suc (suc x)) 2 (omega arith)))
+            (rw (le-ltb (length s) (at + 2) h, g, lt-leb (suc (suc x)) 1 (omega arith)))
 
         go : Dec (length s < at + 2) → Step 2
         go (yes h) = step-stop 2 (ap readBit (byte-short h)) (rw (lt-ltb (length s) (at + 2) h))
         go (no h) = bits (getD s (at + 1) 0) (byte-there (omega arith)) refl (omega arith)
 
     step-3 : Step 3
-    unfolding stepAt leafTag leafType
+    unfolding stepAt leafTag leafType operandsOf countOr widthOf
     step-3 = go (decLt (length s) (at + 2))
       where
         go : Dec (length s < at + 2) → Step 3
@@ -489,7 +393,7 @@ module _ (is vs : List Ty) where
             (stacked-pushed (plainly (nth is (getD s (at + 1) 0))) st) (rw (le-ltb (length s) (at + 2) (omega arith)))
 
     step-4 : Step 4
-    unfolding stepAt leafTag leafType
+    unfolding stepAt leafTag leafType operandsOf countOr widthOf
     step-4 = go (decLt (length s) (at + 2))
       where
         go : Dec (length s < at + 2) → Step 4
@@ -499,80 +403,54 @@ module _ (is vs : List Ty) where
             (ap (readName variable) (byte-there (omega arith)))
             (stacked-pushed (plainly (nth vs (getD s (at + 1) 0))) st) (rw (le-ltb (length s) (at + 2) (omega arith)))
 
-    -- an operator is one byte
-    operator-read : (k : ℕ) (i : Operation) → readOperation k (drop (suc at) s) ≡ some (i, drop (suc at) s)
-        → readOperation k (drop (suc at) s) ≡ some (i, drop (at + 1) s)
-    operator-read k i e = e ∙ ap (λ z. some (i, z)) one-more
+    -- the first byte k is that of no literal and of no name
+    module _ (k : ℕ) (n1 : k ≡ INTEGER → ⊥) (n2 : k ≡ STD-LOGIC → ⊥) (n3 : k ≡ INPUT → ⊥) (n4 : k ≡ VARIABLE → ⊥) where
+      operator-width : widthOf k ≡ 1
+      unfolding widthOf
+      operator-width = rw (ne-eqb k INTEGER n1, ne-eqb k STD-LOGIC n2, ne-eqb k INPUT n3, ne-eqb k VARIABLE n4)
 
-    step-unary : (k : ℕ) (o : Unary) → width k ≡ 1 → readOperation k (drop (suc at) s) ≡ some (apply1 o, drop (suc at) s)
-        → ((x : ℕ) (u : List ℕ) → stacked (andThen (untag x) (unaryType o)) u ≡ pushed (unaryTag k x) u) → unaryStep k st ≡ stepAt is vs s at k st → Step k
-    step-unary k o w e h g = step-some k 1 (apply1 o) (unaryStep k st) w (operator-read k (apply1 o) e) (unary-step k o h st) g
+      operator-read : readOperation k (drop (suc at) s) ≡ Option·map (λ i. (i, drop (suc at) s)) (operator k)
+      operator-read = rw (ne-eqb k INTEGER n1, ne-eqb k STD-LOGIC n2, ne-eqb k INPUT n3, ne-eqb k VARIABLE n4)
 
-    step-binary : (k : ℕ) (o : Binary) → width k ≡ 1 → readOperation k (drop (suc at) s) ≡ some (apply2 o, drop (suc at) s)
-        → ((x : ℕ) (u : List ℕ) → stacked (andThen (untag x) (binaryType o)) u ≡ pushed (binaryTag k x) u) → binaryStep k st ≡ stepAt is vs s at k st → Step k
-    step-binary k o w e h g = step-some k 1 (apply2 o) (binaryStep k st) w (operator-read k (apply2 o) e) (binary-step k o h st) g
+      no-leaf : NONE ≡ leafTag is vs s at k
+      unfolding leafTag
+      no-leaf = rw (ne-eqb k INTEGER n1, ne-eqb k STD-LOGIC n2, ne-eqb k INPUT n3, ne-eqb k VARIABLE n4) (either (ltb (length s) (at + widthOf k)))
+        where
+          either : (b : Bool) → NONE ≡ cond b NONE NONE
+          either true = refl
+          either false = refl
 
-    step-other : (k : ℕ) → (k ≡ 1 → ⊥) → (k ≡ 2 → ⊥) → (k ≡ 3 → ⊥) → (k ≡ 4 → ⊥) → (16 ≤ k → k < 33 → ⊥) → Step k
-    unfolding stepAt leafTag
-    step-other k n1 n2 n3 n4 n = step-stop k (no-operation k (drop (suc at) s) n1 n2 n3 n4 n) (go (decLt k 16))
-      where
-        three : (b : Bool) → _≡_ {A = ℕ} 3 (cond b 3 3)
-        three true = refl
-        three false = refl
+      -- an operator is one byte
+      step-applied : (i : Operation) (o : Option (List ℕ)) → operator k ≡ some i → applied i st ≡ o → o ≡ stepAt is vs s at k st → Step k
+      step-applied i o e h g =
+          step-some k 1 i o operator-width (operator-read ∙ ap (λ z. Option·map (λ i. (i, drop (suc at) s)) z) e ∙ ap (λ z. some (i, z)) one-more) h g
 
-        go : Dec (k < 16)
-            → none ≡ cond (ltb k 16) (pushed (leafTag is vs s at k) st) (cond (ltb k 18) (unaryStep k st) (binaryStep k st))
-        go (yes h) =
-            rw (lt-ltb k 16 h, ne-eqb k 1 n1, ne-eqb k 2 n2, ne-eqb k 3 n3, ne-eqb k 4 n4) (ap (λ z. pushed z st) (three (ltb (length s) (at + 2))))
-        go (no h) =
-            let l : 33 ≤ k = late (decLt k 33) (omega arith) in
-            rw (le-ltb k 16 (omega arith), le-ltb k 18 (omega arith)) (sym (binary-past k l st))
-          where
-            late : Dec (k < 33) → 16 ≤ k → 33 ≤ k
-            late (yes q) p = absurd (n p q)
-            late (no q) p = omega arith
+      step-operator : (u : Option Unary) → unaryFor k ≡ u → (b : Option Binary) → binaryFor k ≡ b → Step k
+      unfolding stepAt
+      step-operator (some o) e b q =
+          step-applied (apply1 o) (unaryStep k st) (ap (λ z. applying z (binaryFor k)) e) (unary-step k o e st) (rw (one-operand k o e))
+      step-operator none e (some o) q =
+          step-applied (apply2 o) (binaryStep k st) (ap (λ z. applying z (binaryFor k)) e ∙ ap (applying none) q) (binary-step k o q st)
+          (rw (two-operands k o e q))
+      step-operator none e none q =
+          step-stop k (operator-read ∙ ap (λ z. Option·map (λ i. (i, drop (suc at) s)) z) (ap (λ z. applying z (binaryFor k)) e ∙ ap (applying none) q))
+          (rw (no-operands k e q, ← no-leaf))
 
     step-any : (k : ℕ) → Step k
-    unfolding stepAt unaryType binaryType
     step-any k =
-        byte-case Step k 1 step-1 (λ n1. byte-case Step k 2 step-2 (λ n2. byte-case Step k 3 step-3 (λ n3. byte-case Step k 4 step-4 (λ n4.
-        byte-case Step k 16 (step-unary 16 sign refl refl sum-tag refl) (λ n16.
-        byte-case Step k 17 (step-unary 17 invert refl refl logical-tag refl) (λ n17.
-        byte-case Step k 18 (step-binary 18 plus refl refl sum-tag refl) (λ n18.
-        byte-case Step k 19 (step-binary 19 minus refl refl sum-tag refl) (λ n19.
-        byte-case Step k 20 (step-binary 20 equal refl refl equality-tag refl) (λ n20.
-        byte-case Step k 21 (step-binary 21 unequal refl refl equality-tag refl) (λ n21.
-        byte-case Step k 22 (step-binary 22 less refl refl order-tag refl) (λ n22.
-        byte-case Step k 23 (step-binary 23 at-most refl refl order-tag refl) (λ n23.
-        byte-case Step k 24 (step-binary 24 greater refl refl order-tag refl) (λ n24.
-        byte-case Step k 25 (step-binary 25 at-least refl refl order-tag refl) (λ n25.
-        byte-case Step k 26 (step-binary 26 and refl refl logical-tag refl) (λ n26.
-        byte-case Step k 27 (step-binary 27 or refl refl logical-tag refl) (λ n27.
-        byte-case Step k 28 (step-binary 28 xor refl refl logical-tag refl) (λ n28.
-        byte-case Step k 29 (step-binary 29 times refl refl sum-tag refl) (λ n29.
-        byte-case Step k 30 (step-binary 30 divide refl refl sum-tag refl) (λ n30.
-        byte-case Step k 31 (step-binary 31 modulo refl refl sum-tag refl) (λ n31.
-        byte-case Step k 32 (step-binary 32 remainder refl refl sum-tag refl) (λ n32.
-        step-other k n1 n2 n3 n4 (λ l h. none-left l h n16 n17 n18 n19 n20 n21 n22 n23 n24 n25 n26 n27 n28 n29 n30 n31 n32))))))))))))))))))))))
-      where
-        none-left : 16 ≤ k → k < 33 → (k ≡ 16 → ⊥) → (k ≡ 17 → ⊥) → (k ≡ 18 → ⊥) → (k ≡ 19 → ⊥) → (k ≡ 20 → ⊥) → (k ≡ 21 → ⊥) → (k ≡ 22 → ⊥)
-            → (k ≡ 23 → ⊥) → (k ≡ 24 → ⊥) → (k ≡ 25 → ⊥) → (k ≡ 26 → ⊥) → (k ≡ 27 → ⊥) → (k ≡ 28 → ⊥) → (k ≡ 29 → ⊥) → (k ≡ 30 → ⊥)
-            → (k ≡ 31 → ⊥) → (k ≡ 32 → ⊥) → ⊥
-        none-left l h n16 n17 n18 n19 n20 n21 n22 n23 n24 n25 n26 n27 n28 n29 n30 n31 n32 =
-            apart k (above 32 k (above 31 k (above 30 k (above 29 k (above 28 k (above 27 k (above 26 k (above 25 k (above 24 k
-            (above 23 k (above 22 k (above 21 k (above 20 k (above 19 k (above 18 k (above 17 k (above 16 k l
-            n16) n17) n18) n19) n20) n21) n22) n23) n24) n25) n26) n27) n28) n29) n30) n31) n32) h
+        byte-case Step k INTEGER step-1 (λ n1. byte-case Step k STD-LOGIC step-2 (λ n2. byte-case Step k INPUT step-3 (λ n3. byte-case Step k VARIABLE step-4
+        (λ n4. step-operator k n1 n2 n3 n4 (unaryFor k) refl (binaryFor k) refl))))
 
   -- What the loop over the operations keeps: the rest of the code, with f operations left.
   abbrev pub restOf : List ℕ → ℕ → ℕ → List ℕ → ℕ
   restOf s f at st = runRest is vs (operations f (drop at s)) st
 
   pub rest-turn : (s : List ℕ) → Bytes s → (f at : ℕ) (st : List ℕ) → at < length s
-      → restOf s (suc f) at st ≡ onStep (stepAt is vs s at (getD s at 0) st) (λ u. restOf s f (at + width (getD s at 0)) u)
+      → restOf s (suc f) at st ≡ onStep (stepAt is vs s at (getD s at 0) st) (λ u. restOf s f (at + widthOf (getD s at 0)) u)
   unfolding operations
   rest-turn s b f at st h = ap (λ z. runRest is vs (operations (suc f) z) st) (drop-cons s at 0 h) ∙ step-any s b f at st (getD s at 0)
 
-  pub rest-out : (s : List ℕ) (at : ℕ) (st : List ℕ) → at < length s → restOf s 0 at st ≡ 3
+  pub rest-out : (s : List ℕ) (at : ℕ) (st : List ℕ) → at < length s → restOf s 0 at st ≡ NONE
   unfolding operations
   rest-out s at st h = ap (λ z. runRest is vs (operations 0 z) st) (drop-cons s at 0 h)
 

@@ -8,8 +8,11 @@ use lib.ListN.{length, getD}
 use mir.Syntax.{w8}
 use mir.Val.{Fits}
 use borrow.Author.Tests.{eq-eqb, ne-eqb}
+use Rattle.codes.specs.Operation.{widthOf}
+use Rattle.codes.specs.Types.{NONE, tagOr}
+use Rattle.codes.specs.Limit.{ITEMS}
 use Rattle.format.specs.Code.{run}
-use Rattle.loader.specs.Code.{tagOr, inputTypes, variableTypes, codeType, stepAt, width, stackOf, Stepped}
+use Rattle.loader.specs.Code.{inputTypes, variableTypes, codeType, stepAt, stackOf, Stepped}
 use Rattle.loader.proofs.NameTypes.{all-bytes}
 use Rattle.loader.proofs.CodeLaws.{code-tags, onStep, restOf, rest-turn, rest-out, rest-end}
 
@@ -21,10 +24,10 @@ module _ (sig s : List ℕ) where
   -- l operations are left, from the place `at` on, with a stack of depth d in the array a
   pub record Left (a : List ℕ) (at d l : ℕ) : Type 0 where
     pub same : restOf (inputTypes sig) (variableTypes sig) s l at (stackOf a d) ≡ answer
-    pub room : d + l ≤ 64
-    pub size : length a ≡ 64
+    pub room : d + l ≤ ITEMS
+    pub size : length a ≡ ITEMS
 
-  pub left-first : (a : List ℕ) → length a ≡ 64 → Left a 0 0 64
+  pub left-first : (a : List ℕ) → length a ≡ ITEMS → Left a 0 0 ITEMS
   unfolding stackOf
   left-first a z = record { same = sym (code-tags (inputTypes sig) (variableTypes sig) s); room = omega arith; size = z }
 
@@ -39,7 +42,7 @@ module _ (sig s : List ℕ) where
   stepped-none {o} {d} {r} {b} p h = sym (p .same) ∙ rw (eq-eqb r 0 h)
 
   pub left-again : ((i : ℕ) → Fits w8 (getD s i 0)) → {a b : List ℕ} (at d l : ℕ) {r w : ℕ} → Left a at d l → at < length s → (l ≡ 0 → ⊥)
-      → Stepped (step a at d) d b r → (r ≡ 0 → ⊥) → w ≡ width (getD s at 0) → Left b (at + w) r (l - 1)
+      → Stepped (step a at d) d b r → (r ≡ 0 → ⊥) → w ≡ widthOf (getD s at 0) → Left b (at + w) r (l - 1)
   left-again f at d zero p h n q m e = absurd (n refl)
   left-again f {a} {b} at d (suc l) {r} {w} p h n q m e =
       let z : suc l - 1 ≡ l = omega arith in
@@ -49,19 +52,19 @@ module _ (sig s : List ℕ) where
         same =
             rw (z, e)
             (sym (rest-turn (inputTypes sig) (variableTypes sig) s (all-bytes s f) l at (stackOf a d) h
-            ∙ ap (λ o. onStep o (λ u. restOf (inputTypes sig) (variableTypes sig) s l (at + width (getD s at 0)) u)) (stepped-some q m)) ∙ p .same);
+            ∙ ap (λ o. onStep o (λ u. restOf (inputTypes sig) (variableTypes sig) s l (at + widthOf (getD s at 0)) u)) (stepped-some q m)) ∙ p .same);
         room = omega arith;
         size = q .size;
       }
 
   pub left-stop : ((i : ℕ) → Fits w8 (getD s i 0)) → {a b : List ℕ} (at d l : ℕ) {r : ℕ} → Left a at d l → at < length s → (l ≡ 0 → ⊥)
-      → Stepped (step a at d) d b r → r ≡ 0 → 3 ≡ answer
+      → Stepped (step a at d) d b r → r ≡ 0 → NONE ≡ answer
   left-stop f at d zero p h n q m = absurd (n refl)
   left-stop f {a} {b} at d (suc l) p h n q m =
       sym (rest-turn (inputTypes sig) (variableTypes sig) s (all-bytes s f) l at (stackOf a d) h
-      ∙ ap (λ o. onStep o (λ u. restOf (inputTypes sig) (variableTypes sig) s l (at + width (getD s at 0)) u)) (stepped-none q m)) ∙ p .same
+      ∙ ap (λ o. onStep o (λ u. restOf (inputTypes sig) (variableTypes sig) s l (at + widthOf (getD s at 0)) u)) (stepped-none q m)) ∙ p .same
 
-  pub left-spent : {a : List ℕ} (at d l : ℕ) → Left a at d l → at < length s → l ≡ 0 → 3 ≡ answer
+  pub left-spent : {a : List ℕ} (at d l : ℕ) → Left a at d l → at < length s → l ≡ 0 → NONE ≡ answer
   left-spent {a} at d l p h e = sym (rest-out (inputTypes sig) (variableTypes sig) s at (stackOf a d) h) ∙ (rw e at (p .same))
 
   pub left-one : {a : List ℕ} (at d l : ℕ) → Left a at d l → length s ≤ at → d ≡ 1 → getD a 0 0 ≡ answer
@@ -70,7 +73,7 @@ module _ (sig s : List ℕ) where
       sym (ap (λ z. restOf (inputTypes sig) (variableTypes sig) s l at (stackOf a z)) e
       ∙ rest-end (inputTypes sig) (variableTypes sig) s l at (stackOf a 1) h) ∙ p .same
 
-  pub left-other : {a : List ℕ} (at d l : ℕ) → Left a at d l → length s ≤ at → (d ≡ 1 → ⊥) → 3 ≡ answer
+  pub left-other : {a : List ℕ} (at d l : ℕ) → Left a at d l → length s ≤ at → (d ≡ 1 → ⊥) → NONE ≡ answer
   unfolding stackOf run
   left-other {a} at zero l p h n = sym (rest-end (inputTypes sig) (variableTypes sig) s l at (stackOf a 0) h) ∙ p .same
   left-other {a} at (suc zero) l p h n = absurd (n refl)

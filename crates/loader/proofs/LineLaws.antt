@@ -12,7 +12,7 @@ use lib.ListN.{length, getD, take, drop, length-drop, List·getD-map}
 use lib.Seq.{getD-drop, drop-drop}
 use lib.Dec.{ltb, leb, eqb}
 use borrow.Author.Tests.{eq-eqb, ne-eqb, le-leb, lt-leb}
-use Rattle.design.specs.Types.{Ty, std-logic, integer, ExprTy, plain, boolean, sameTy, sameType}
+use Rattle.design.specs.Types.{Ty, ExprTy, boolean, sameTy, sameType}
 use Rattle.design.specs.Expression.{Expr, items, nth, plainly}
 use Rattle.design.specs.Statement.{output, variable, null}
 use Rattle.design.specs.Process.{isType, fits, typedAct}
@@ -24,8 +24,10 @@ use Rattle.format.specs.Good.{goodLine}
 use Rattle.format.specs.Opening.{rawAt, raws, isEmpty, lineOf, openLine}
 use Rattle.format.proofs.Words.{bytes-take, bytes-drop}
 use Rattle.format.proofs.Decoding.{decode-back}
+use Rattle.codes.specs.Types.{BOOLEAN, tagOr}
+use Rattle.codes.proofs.TypeLaws.{tag-there, same-tag}
 use Rattle.loader.specs.Sections.{isSome}
-use Rattle.loader.specs.Code.{tagOr, tagAt, signatureAt, inputTypes, outputTypes, variableTypes, codeType}
+use Rattle.loader.specs.Code.{tagAt, signatureAt, inputTypes, outputTypes, variableTypes, codeType}
 use Rattle.loader.specs.Lines.{sameTag, leavesType, codeFits, followersFit, storedReaches}
 use Rattle.loader.proofs.Bools.{and-true}
 use Rattle.loader.proofs.SignatureLaws.{isSome-onlyIf}
@@ -38,18 +40,8 @@ type-tag : (l : Bool) (t : ExprTy) (u : Option ExprTy)
     → (l && isType (some t) u) ≡ sameTag (tagOr (onlyIf l (some t))) (tagOr u)
 unfolding isType sameType sameTy
 type-tag false t u = refl
-type-tag true (plain std-logic) none = refl
-type-tag true (plain std-logic) (some (plain std-logic)) = refl
-type-tag true (plain std-logic) (some (plain integer)) = refl
-type-tag true (plain std-logic) (some boolean) = refl
-type-tag true (plain integer) none = refl
-type-tag true (plain integer) (some (plain std-logic)) = refl
-type-tag true (plain integer) (some (plain integer)) = refl
-type-tag true (plain integer) (some boolean) = refl
-type-tag true boolean none = refl
-type-tag true boolean (some (plain std-logic)) = refl
-type-tag true boolean (some (plain integer)) = refl
-type-tag true boolean (some boolean) = refl
+type-tag true t none = rw (tag-there t)
+type-tag true t (some u) = rw (tag-there t, same-tag t u)
 
 -- a line with code: the code leaves the type u, and the tests a, m and q hold
 coded : (is vs : List Ty) (c : List ℕ) (u : Option ExprTy) (F : Expr → Line) (good : Line → Bool) (a m q : Bool) → Bytes c
@@ -153,7 +145,7 @@ module _ (sig : List ℕ) (n : ℕ) (rs : List ℕ) (q t f g : ℕ) (c : List �
   kind-3 =
       coded (inputTypes sig) (variableTypes sig) c (some boolean) (λ e. branches e f g) (goodLine (signatureAt sig) n rs q)
       (eqb t 0) (ltb f n && ltb g n) (eqb q (suc (max (reach rs f) (reach rs g)))) b (λ e. refl)
-      ∙ rw add-one (branch-order (leavesType sig c 2) (eqb t 0) (ltb f n) (ltb g n) (eqb q (suc (max (reach rs f) (reach rs g)))))
+      ∙ rw add-one (branch-order (leavesType sig c BOOLEAN) (eqb t 0) (ltb f n) (ltb g n) (eqb q (suc (max (reach rs f) (reach rs g)))))
 
   kind-4 : Judged 4
   unfolding lineOf goodLine typedAct codeFits followersFit

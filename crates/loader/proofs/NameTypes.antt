@@ -9,12 +9,13 @@ use lib.ListN.{length, getD}
 use lib.Seq.{getD-append-add}
 use mir.Syntax.{w8}
 use mir.Val.{Fits}
-use Rattle.design.specs.Types.{Ty, std-logic, integer}
+use Rattle.design.specs.Types.{Ty, typeByte}
 use Rattle.design.specs.Expression.{nth, plainly}
+use Rattle.codes.specs.Types.{NONE}
 use Rattle.semantics.proofs.Basic.{false-true}
 use Rattle.format.specs.Words.{Bytes, bytes4}
 use Rattle.semantics.specs.Twos.{unsigned32}
-use Rattle.format.specs.Signature.{Cell, Signature, types, typeByte, typeBytes, cellBytes, signatureBytes, signatureOf}
+use Rattle.format.specs.Signature.{Cell, Signature, types, typeBytes, cellBytes, signatureBytes, signatureOf}
 use Rattle.format.proofs.Signature.{signature-exactly}
 use Rattle.loader.specs.Sections.{isSome}
 use Rattle.loader.specs.Code.{tagAt, orEmpty, signatureAt, inputTypes, outputTypes, variableTypes}
@@ -25,18 +26,13 @@ unfolding Bytes
 all-bytes [] h = tt
 all-bytes (k ∷ s) h = (h 0 .fits, all-bytes s (λ i. h (suc i)))
 
-tag-byte : (t : Ty) (l : List Ty) → typeByte t ≡ tagAt (t ∷ l) 0
-unfolding nth plainly
-tag-byte std-logic l = refl
-tag-byte integer l = refl
-
 types-at : (l : List Ty) (r : List ℕ) (k : ℕ) → k < length l → getD (typeBytes l ++ r) k 0 ≡ tagAt l k
 unfolding typeBytes nth plainly
 types-at [] r k h = absurd (omega arith)
-types-at (t ∷ l) r zero h = tag-byte t l
+types-at (t ∷ l) r zero h = refl
 types-at (t ∷ l) r (suc k) h = types-at l r k (omega arith)
 
-pub types-past : (l : List Ty) (k : ℕ) → length l ≤ k → 3 ≡ tagAt l k
+pub types-past : (l : List Ty) (k : ℕ) → length l ≤ k → NONE ≡ tagAt l k
 unfolding nth plainly
 types-past [] k h = refl
 types-past (t ∷ l) zero h = absurd (omega arith)
@@ -45,7 +41,7 @@ types-past (t ∷ l) (suc k) h = types-past l k (omega arith)
 cells-at : (l : List Cell) (r : List ℕ) (k : ℕ) → k < length l → getD (cellBytes l ++ r) (5 * k) 0 ≡ tagAt (types l) k
 unfolding cellBytes nth plainly
 cells-at [] r k h = absurd (omega arith)
-cells-at (c ∷ l) r zero h = tag-byte (c .type) (types l)
+cells-at (c ∷ l) r zero h = refl
 cells-at (c ∷ l) r (suc k) h =
     let e : 5 * suc k ≡ 5 + 5 * k = omega arith in
     rw e (getD-append-add (typeByte (c .type) ∷ bytes4 (unsigned32 (c .initial))) (cellBytes l ++ r) (5 * k) 0 ∙ cells-at l r k (omega arith))
@@ -126,7 +122,7 @@ module _ (s : List ℕ) (f : (i : ℕ) → Fits w8 (getD s i 0)) (h : isSome (si
       let b : k < length (z .σ .inputs) = omega (arith, counts .0, ap (λ (x : Signature). length (x .inputs)) (z .same)) in
       ap (λ x. getD x (3 + k) 0) (z .bytes) ∙ at-input (z .σ) k b ∙ sym (ap (λ (x : Signature). tagAt (x .inputs) k) (z .same))
 
-  pub input-past : {i k : ℕ} → i ≡ getD s 0 0 → i ≤ k → 3 ≡ tagAt (inputTypes s) k
+  pub input-past : {i k : ℕ} → i ≡ getD s 0 0 → i ≤ k → NONE ≡ tagAt (inputTypes s) k
   input-past {i} {k} e l = types-past (inputTypes s) k (omega (arith, counts .0))
 
   pub output-there : {i o k : ℕ} → i ≡ getD s 0 0 → o ≡ getD s 1 0 → k < o → getD s (3 + i + 5 * k) 0 ≡ tagAt (outputTypes s) k
@@ -138,7 +134,7 @@ module _ (s : List ℕ) (f : (i : ℕ) → Fits w8 (getD s i 0)) (h : isSome (si
       rw n (ap (λ x. getD x (3 + length (z .σ .inputs) + 5 * k) 0) (z .bytes) ∙ at-output (z .σ) k (omega arith)
       ∙ sym (ap (λ (x : Signature). tagAt (types (x .outputs)) k) (z .same)))
 
-  pub output-past : {o k : ℕ} → o ≡ getD s 1 0 → o ≤ k → 3 ≡ tagAt (outputTypes s) k
+  pub output-past : {o k : ℕ} → o ≡ getD s 1 0 → o ≤ k → NONE ≡ tagAt (outputTypes s) k
   output-past {o} {k} e l = types-past (outputTypes s) k (omega (arith, counts .1))
 
   pub variable-there : {i o v k : ℕ} → i ≡ getD s 0 0 → o ≡ getD s 1 0 → v ≡ getD s 2 0 → k < v → getD s (3 + i + 5 * o + 5 * k) 0 ≡ tagAt (variableTypes s) k
@@ -152,5 +148,5 @@ module _ (s : List ℕ) (f : (i : ℕ) → Fits w8 (getD s i 0)) (h : isSome (si
       rw (n, m) (ap (λ x. getD x (3 + length (z .σ .inputs) + 5 * length (z .σ .outputs) + 5 * k) 0) (z .bytes) ∙ at-variable (z .σ) k (omega arith)
       ∙ sym (ap (λ (x : Signature). tagAt (types (x .variables)) k) (z .same)))
 
-  pub variable-past : {v k : ℕ} → v ≡ getD s 2 0 → v ≤ k → 3 ≡ tagAt (variableTypes s) k
+  pub variable-past : {v k : ℕ} → v ≡ getD s 2 0 → v ≤ k → NONE ≡ tagAt (variableTypes s) k
   variable-past {v} {k} e l = types-past (variableTypes s) k (omega (arith, counts .2))

@@ -13,15 +13,16 @@ use mir.Syntax.{w32}
 use mir.Val.{SFits, toZ, ofZ}
 use mir.Facts.{toZ-ofZ}
 use native.Mathlib.Decide.{decLt}
-use borrow.Author.Tests.{lt-ltb, le-ltb, le-leb, lt-leb, leb-true, ne-eqb}
-use Rattle.design.specs.Types.{Ty, inType}
+use borrow.Author.Tests.{lt-ltb, le-ltb, le-leb, lt-leb, leb-true}
+use Rattle.design.specs.Types.{Ty, inType, typeOfByte}
 use Rattle.semantics.proofs.Basic.{none-some, some-injective}
 use Rattle.format.specs.Words.{word4, word4At, onlyIf}
 use Rattle.semantics.specs.Twos.{signed32}
-use Rattle.format.specs.Signature.{Cell, Signature, typeOfByte, readTypes, readCell, readCells, atEnd, signatureOf}
+use Rattle.format.specs.Signature.{Cell, Signature, readTypes, readCell, readCells, atEnd, signatureOf}
 use Rattle.format.specs.Opening.{isEmpty}
 use Rattle.format.proofs.Basic.{andThen-some, onlyIf-some}
 use Rattle.signed.specs.Signed.{inSome, inTypeByte}
+use Rattle.codes.specs.Types.{isThere, isTypeByte}
 use Rattle.loader.specs.Sections.{isSome}
 use Rattle.loader.proofs.Bools.{same-test, and-true}
 use Rattle.loader.proofs.SectionLaws.{word-drop, empty-drop, drop-empty}
@@ -72,12 +73,14 @@ types-rest (suc n) (k ∷ s) p e =
     let q = andThen-some (readTypes n s) _ p (t .2) in
     ap (λ (q : List Ty × List ℕ). q .1) (sym (some-injective _ p (q .2))) ∙ types-rest n s (q .0) (q .1)
 
--- a byte is a type's where it is below 2
-pub type-below : (k : ℕ) → ltb k 2 ≡ isSome (typeOfByte k)
-type-below zero = refl
-type-below (suc zero) = refl
-type-below (suc (suc k)) =
-    rw (le-ltb (suc (suc k)) 2 (omega arith), ne-eqb (suc (suc k)) 0 (λ e. omega arith), ne-eqb (suc (suc k)) 1 (λ e. omega arith))
+-- a byte is a type's
+pub type-there : (k : ℕ) → isTypeByte k ≡ isSome (typeOfByte k)
+unfolding isTypeByte
+type-there k = go (typeOfByte k)
+  where
+    go : (o : Option Ty) → isThere o ≡ isSome o
+    go none = refl
+    go (some t) = refl
 
 -- Cells.
 

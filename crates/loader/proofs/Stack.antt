@@ -6,9 +6,12 @@ use mathlib.Core.Path.{_≡_, refl, _∙_}
 use mathlib.Core.List.{List, _∷_}
 use lib.ListN.{length, getD, set, length-set}
 use lib.Seq.{getD-set-same, getD-set-other}
-use borrow.Author.Tests.{eq-eqb, ne-eqb, lt-ltb, le-ltb}
+use borrow.Author.Tests.{eq-eqb, ne-eqb}
 use Rattle.design.specs.Types.{Ty}
-use Rattle.loader.specs.Code.{unaryTag, binaryTag, leafTag, pushed, unaryStep, binaryStep, stepAt, stackOf, Stepped}
+use Rattle.codes.specs.Operation.{operandsOf}
+use Rattle.codes.specs.Types.{NONE, tagOr, unaryTypeFor, binaryTypeFor}
+use Rattle.codes.specs.Limit.{ITEMS}
+use Rattle.loader.specs.Code.{leafTag, pushed, unaryStep, binaryStep, stepAt, stackOf, Stepped}
 
 stack-above : (a : List ℕ) (n v m : ℕ) → m ≤ n → stackOf (set a n v) m ≡ stackOf a m
 unfolding stackOf
@@ -27,26 +30,26 @@ stack-push a n v h =
 
 -- A tag that is no type ends the run; a type is pushed.
 
-pub push-none : (t d : ℕ) (a : List ℕ) → t ≡ 3 → length a ≡ 64 → Stepped (pushed t (stackOf a d)) d a 0
-push-none t d a h z = record { same = rw (eq-eqb t 3 h); depth = omega arith; size = z }
+pub push-none : (t d : ℕ) (a : List ℕ) → t ≡ NONE → length a ≡ ITEMS → Stepped (pushed t (stackOf a d)) d a 0
+push-none t d a h z = record { same = rw (eq-eqb t NONE h); depth = omega arith; size = z }
 
-pub push-some : (t d : ℕ) (a : List ℕ) → (t ≡ 3 → ⊥) → d < 64 → length a ≡ 64 → Stepped (pushed t (stackOf a d)) d (set a d t) (d + 1)
+pub push-some : (t d : ℕ) (a : List ℕ) → (t ≡ NONE → ⊥) → d < ITEMS → length a ≡ ITEMS → Stepped (pushed t (stackOf a d)) d (set a d t) (d + 1)
 push-some t d a h l z =
     let i : d < length a = omega arith in
     record {
-      same = rw (ne-eqb t 3 h, ne-eqb (d + 1) 0 (λ e. omega arith), stack-push a d t i);
+      same = rw (ne-eqb t NONE h, ne-eqb (d + 1) 0 (λ e. omega arith), stack-push a d t i);
       depth = omega arith;
       size = length-set a d t ∙ z;
     }
 
 -- One operand.
 
-pub unary-none : (k d : ℕ) (a : List ℕ) → d < 1 → length a ≡ 64 → Stepped (unaryStep k (stackOf a d)) d a 0
+pub unary-none : (k d : ℕ) (a : List ℕ) → d < 1 → length a ≡ ITEMS → Stepped (unaryStep k (stackOf a d)) d a 0
 unfolding unaryStep stackOf
 unary-none k zero a h z = record { same = refl; depth = omega arith; size = z }
 unary-none k (suc d) a h z = absurd (omega arith)
 
-pub unary-some : (k d : ℕ) (a : List ℕ) {b : List ℕ} {t r : ℕ} → 1 ≤ d → t ≡ unaryTag k (getD a (d - 1) 0)
+pub unary-some : (k d : ℕ) (a : List ℕ) {b : List ℕ} {t r : ℕ} → 1 ≤ d → t ≡ tagOr (unaryTypeFor k (getD a (d - 1) 0))
     → Stepped (pushed t (stackOf a (d - 1))) (d - 1) b r → Stepped (unaryStep k (stackOf a d)) d b r
 unfolding unaryStep stackOf
 unary-some k zero a h e p = absurd (omega arith)
@@ -57,29 +60,29 @@ unary-some k (suc d) a h e p =
 
 -- Two operands.
 
-pub binary-none : (k d : ℕ) (a : List ℕ) → d < 2 → length a ≡ 64 → Stepped (binaryStep k (stackOf a d)) d a 0
+pub binary-none : (k d : ℕ) (a : List ℕ) → d ≤ 1 → length a ≡ ITEMS → Stepped (binaryStep k (stackOf a d)) d a 0
 unfolding binaryStep stackOf
 binary-none k zero a h z = record { same = refl; depth = omega arith; size = z }
 binary-none k (suc zero) a h z = record { same = refl; depth = omega arith; size = z }
 binary-none k (suc (suc d)) a h z = absurd (omega arith)
 
-pub binary-differ : (k d : ℕ) (a : List ℕ) → 2 ≤ d → (getD a (d - 2) 0 ≡ getD a (d - 1) 0 → ⊥) → length a ≡ 64 → Stepped (binaryStep k (stackOf a d)) d a 0
+pub binary-differ : (k d : ℕ) (a : List ℕ) → 1 < d → (getD a (d - 1 - 1) 0 ≡ getD a (d - 1) 0 → ⊥) → length a ≡ ITEMS → Stepped (binaryStep k (stackOf a d)) d a 0
 unfolding binaryStep stackOf
 binary-differ k zero a h n z = absurd (omega arith)
 binary-differ k (suc zero) a h n z = absurd (omega arith)
 binary-differ k (suc (suc d)) a h n z =
-    let m : suc (suc d) - 2 ≡ d = omega arith in
+    let m : suc (suc d) - 1 - 1 ≡ d = omega arith in
     let m′ : suc (suc d) - 1 ≡ suc d = omega arith in
     let q : getD a d 0 ≡ getD a (suc d) 0 → ⊥ = rw (m, m′) at n in
     record { same = rw (ne-eqb (getD a d 0) (getD a (suc d) 0) q); depth = omega arith; size = z }
 
-pub binary-some : (k d : ℕ) (a : List ℕ) {b : List ℕ} {t r : ℕ} → 2 ≤ d → getD a (d - 2) 0 ≡ getD a (d - 1) 0 → t ≡ binaryTag k (getD a (d - 2) 0)
-    → Stepped (pushed t (stackOf a (d - 2))) (d - 2) b r → Stepped (binaryStep k (stackOf a d)) d b r
+pub binary-some : (k d : ℕ) (a : List ℕ) {b : List ℕ} {t r : ℕ} → 1 < d → getD a (d - 1 - 1) 0 ≡ getD a (d - 1) 0 → t ≡ tagOr (binaryTypeFor k (getD a (d - 1 - 1) 0))
+    → Stepped (pushed t (stackOf a (d - 1 - 1))) (d - 1 - 1) b r → Stepped (binaryStep k (stackOf a d)) d b r
 unfolding binaryStep stackOf
 binary-some k zero a h n e p = absurd (omega arith)
 binary-some k (suc zero) a h n e p = absurd (omega arith)
 binary-some k (suc (suc d)) a h n e p =
-    let m : suc (suc d) - 2 ≡ d = omega arith in
+    let m : suc (suc d) - 1 - 1 ≡ d = omega arith in
     let m′ : suc (suc d) - 1 ≡ suc d = omega arith in
     let q : getD a d 0 ≡ getD a (suc d) 0 = rw (m, m′) at n in
     let z = p .depth in
@@ -87,16 +90,17 @@ binary-some k (suc (suc d)) a h n e p =
 
 -- One operation, by its first byte.
 
-module _ (is vs : List Ty) (s : List ℕ) (at d : ℕ) (a : List ℕ) {b : List ℕ} {k r : ℕ} (e : k ≡ getD s at 0) where
-  pub step-leaf : {t : ℕ} → k < 16 → t ≡ leafTag is vs s at k → Stepped (pushed t (stackOf a d)) d b r
+module _ (is vs : List Ty) (s : List ℕ) (at d : ℕ) (a : List ℕ) {b : List ℕ} {k n r : ℕ} (e : k ≡ getD s at 0) (o : n ≡ operandsOf k) where
+  pub step-leaf : {t : ℕ} → n ≡ 0 → t ≡ leafTag is vs s at k → Stepped (pushed t (stackOf a d)) d b r
       → Stepped (stepAt is vs s at (getD s at 0) (stackOf a d)) d b r
   unfolding stepAt
-  step-leaf {t} h q p = record { same = p .same ∙ rw (← e, lt-ltb k 16 h, q); depth = p .depth; size = p .size }
+  step-leaf {t} h q p = record { same = p .same ∙ rw (← e, ← o, eq-eqb n 0 h, q); depth = p .depth; size = p .size }
 
-  pub step-unary : 16 ≤ k → k < 18 → Stepped (unaryStep k (stackOf a d)) d b r → Stepped (stepAt is vs s at (getD s at 0) (stackOf a d)) d b r
+  pub step-unary : (n ≡ 0 → ⊥) → n ≡ 1 → Stepped (unaryStep k (stackOf a d)) d b r → Stepped (stepAt is vs s at (getD s at 0) (stackOf a d)) d b r
   unfolding stepAt
-  step-unary h l p = record { same = p .same ∙ rw (← e, le-ltb k 16 h, lt-ltb k 18 l); depth = p .depth; size = p .size }
+  step-unary h l p = record { same = p .same ∙ rw (← e, ← o, ne-eqb n 0 h, eq-eqb n 1 l); depth = p .depth; size = p .size }
 
-  pub step-binary : 16 ≤ k → 18 ≤ k → Stepped (binaryStep k (stackOf a d)) d b r → Stepped (stepAt is vs s at (getD s at 0) (stackOf a d)) d b r
+  pub step-binary : (n ≡ 0 → ⊥) → (n ≡ 1 → ⊥) → Stepped (binaryStep k (stackOf a d)) d b r
+      → Stepped (stepAt is vs s at (getD s at 0) (stackOf a d)) d b r
   unfolding stepAt
-  step-binary h l p = record { same = p .same ∙ rw (← e, le-ltb k 16 h, le-ltb k 18 l); depth = p .depth; size = p .size }
+  step-binary h l p = record { same = p .same ∙ rw (← e, ← o, ne-eqb n 0 h, ne-eqb n 1 l); depth = p .depth; size = p .size }

@@ -1,19 +1,22 @@
 -- What is checked of a line by its fields (document 01, "Image, form 1"). `kind-any` ties the tests to `lineOf` and `goodLine` of the crate `format`.
 -- Assumes nothing.
-use mathlib.Core.Bool.{Bool, false, cond, _&&_}
+use mathlib.Core.Bool.{Bool, false, cond}
 use mathlib.Core.List.{List}
 use Prim.Native.Nat.{ℕ, _+_, _*_, _-_, max}
 use lib.ListN.{length, drop}
 use lib.Dec.{ltb, eqb}
+use Rattle.codes.specs.Statement.{WAIT, OUTPUT, VARIABLE, IF, NULL}
+use Rattle.codes.specs.Types.{BOOLEAN, NONE, tagOr}
+use Rattle.codes.specs.Image.{LINE}
 use Rattle.format.specs.Lines.{reach}
 use Rattle.format.specs.Opening.{raws, rawReaches, Lined, lined, bad-at, openLines}
-use Rattle.loader.specs.Code.{tagOr, tagAt, signatureAt, inputTypes, outputTypes, variableTypes, codeType}
+use Rattle.loader.specs.Code.{tagAt, signatureAt, inputTypes, outputTypes, variableTypes, codeType}
 use Rattle.loader.specs.declared.lines.Judgement.{Judgement}
 use Rattle.loader.specs.declared.lines.Judgement.the-variants.{Good, BadAt}
 
 -- "It must leave one value of the type the line needs": t is the type that code leaves, u the one that is needed
 abbrev pub sameTag : ℕ → ℕ → Bool
-sameTag t u = ltb t 3 && eqb t u
+sameTag t u = cond (eqb t NONE) false (eqb t u)
 
 -- the code c leaves a value of the type with the tag u
 unfoldable pub leavesType : List ℕ → List ℕ → ℕ → Bool
@@ -22,18 +25,18 @@ leavesType sig c u = sameTag (tagOr (codeType (inputTypes sig) (variableTypes si
 -- kind, target and code of a line: "0 wait, 1 output, 2 variable, 3 branch, 4 null"; "Unused fields are 0", "a line without code has length 0"
 unfoldable pub codeFits : List ℕ → ℕ → ℕ → List ℕ → Bool
 codeFits sig k t c =
-    cond (eqb k 1) (leavesType sig c (tagAt (outputTypes sig) t))
-    (cond (eqb k 2) (leavesType sig c (tagAt (variableTypes sig) t))
+    cond (eqb k OUTPUT) (leavesType sig c (tagAt (outputTypes sig) t))
+    (cond (eqb k VARIABLE) (leavesType sig c (tagAt (variableTypes sig) t))
     (cond (eqb t 0)
-    (cond (eqb k 3) (leavesType sig c 2) (cond (eqb k 0) (eqb (length c) 0) (cond (eqb k 4) (eqb (length c) 0) false)))
+    (cond (eqb k IF) (leavesType sig c BOOLEAN) (cond (eqb k WAIT) (eqb (length c) 0) (cond (eqb k NULL) (eqb (length c) 0) false)))
     false))
 
 -- next, other and reach of a line of kind k: "Reach is 0 for a wait, else 1 plus the larger reach of its followers."
 unfoldable pub followersFit : ℕ → List ℕ → ℕ → ℕ → ℕ → ℕ → Bool
 followersFit n rs k f g q =
     cond (ltb f n)
-    (cond (eqb k 3) (cond (ltb g n) (eqb q (max (reach rs f) (reach rs g) + 1)) false)
-    (cond (eqb g 0) (cond (eqb k 0) (eqb q 0) (eqb q (reach rs f + 1))) false))
+    (cond (eqb k IF) (cond (ltb g n) (eqb q (max (reach rs f) (reach rs g) + 1)) false)
+    (cond (eqb g 0) (cond (eqb k WAIT) (eqb q 0) (eqb q (reach rs f + 1))) false))
     false
 
 -- the reaches that the n lines of a lines section have
@@ -48,4 +51,4 @@ judged (bad-at x) = BadAt x
 -- what the lines from the line x on come to, whose code begins at the offset p
 unfoldable pub linesFrom : List ℕ → List ℕ → List ℕ → ℕ → ℕ → ℕ → Judgement
 linesFrom sig lines code n x p =
-    judged (openLines (signatureAt sig) n (storedReaches n lines) x p (drop p code) (raws (n - x) (drop (12 * x) lines)))
+    judged (openLines (signatureAt sig) n (storedReaches n lines) x p (drop p code) (raws (n - x) (drop (LINE * x) lines)))

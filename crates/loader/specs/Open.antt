@@ -4,12 +4,13 @@ use Prim.Native.Nat.{ℕ}
 use lib.ListN.{length}
 use Rattle.answers.specs.declared.Sections.{Sections}
 use Rattle.answers.specs.Answers.{Told, done, refusal}
+use Rattle.codes.specs.Image.{HEADER}
 use Rattle.format.specs.Opening.{Opened, opened, not-opened}
 use Rattle.loader.specs.Sections.{linesStart, codeStart}
 
 -- "the first starts at byte 28, no gaps, the last ends the image"
 abbrev pub placesOf : List ℕ → Sections
-placesOf b = record { signature = 28; lines = linesStart b; code = codeStart b; end = length b }
+placesOf b = record { signature = HEADER; lines = linesStart b; code = codeStart b; end = length b }
 
 -- what is told of the image b: its sections; or number and place
 abbrev pub openAnswer : List ℕ → Opened → Told Sections

@@ -6,6 +6,8 @@ use mathlib.Core.List.{List}
 use Prim.Native.Nat.{ℕ, _+_, _/_, _%_}
 use lib.ListN.{length, take, drop}
 use lib.Dec.{leb, eqb}
+use Rattle.codes.specs.Image.{FORM, SECTIONS, SIGNATURE, SIGNATURE-SIZE, LINES, LINES-SIZE, CODE, CODE-SIZE, HEADER, FORM-1, THREE, LINE}
+use Rattle.codes.specs.Limit.{STATEMENTS, IMAGE}
 use Rattle.format.specs.Words.{word2At, word4At}
 use Rattle.format.specs.Image.{Sections}
 
@@ -16,20 +18,20 @@ isSome (some x) = true
 
 -- "pairs of four-byte offset and length": the length of the signature section, of the lines section, of the code section
 abbrev pub signatureLength : List ℕ → ℕ
-signatureLength b = word4At b 8
+signatureLength b = word4At b SIGNATURE-SIZE
 
 abbrev pub linesLength : List ℕ → ℕ
-linesLength b = word4At b 16
+linesLength b = word4At b LINES-SIZE
 
 abbrev pub codeLength : List ℕ → ℕ
-codeLength b = word4At b 24
+codeLength b = word4At b CODE-SIZE
 
 -- "the first starts at byte 28, no gaps": where the lines section and the code section start
 abbrev pub linesStart : List ℕ → ℕ
-linesStart b = 28 + signatureLength b
+linesStart b = HEADER + signatureLength b
 
 abbrev pub codeStart : List ℕ → ℕ
-codeStart b = 28 + signatureLength b + linesLength b
+codeStart b = HEADER + signatureLength b + linesLength b
 
 -- the n bytes from the place o on
 abbrev pub part : List ℕ → ℕ → ℕ → List ℕ
@@ -39,24 +41,24 @@ part b o n = take n (drop o b)
 unfoldable pub parts : List ℕ → Sections
 parts b =
     record {
-      signature = part b 28 (signatureLength b);
+      signature = part b HEADER (signatureLength b);
       lines = part b (linesStart b) (linesLength b);
       code = part b (codeStart b) (codeLength b);
     }
 
 -- "at most 65,535 bytes", with a header; "Two-byte form 1, two-byte count 3"
 unfoldable pub headed : List ℕ → Bool
-headed b = leb (length b) 65535 && (leb 28 (length b) && (eqb (word2At b 0) 1 && eqb (word2At b 2) 3))
+headed b = leb (length b) IMAGE && (leb HEADER (length b) && (eqb (word2At b FORM) FORM-1 && eqb (word2At b SECTIONS) THREE))
 
 -- "sorted by offset ..; the first starts at byte 28, no gaps, the last ends the image"
 unfoldable pub paired : List ℕ → Bool
 paired b =
-    eqb (word4At b 4) 28
-    && (eqb (word4At b 12) (linesStart b) && (eqb (word4At b 20) (codeStart b) && eqb (length b) (codeStart b + codeLength b)))
+    eqb (word4At b SIGNATURE) HEADER
+    && (eqb (word4At b LINES) (linesStart b) && (eqb (word4At b CODE) (codeStart b) && eqb (length b) (codeStart b + codeLength b)))
 
 -- a lines section of n bytes has "1 to 512 whole lines"
 unfoldable pub whole : ℕ → Bool
-whole n = eqb (n % 12) 0 && (leb 1 (n / 12) && leb (n / 12) 512)
+whole n = eqb (n % LINE) 0 && (leb 1 (n / LINE) && leb (n / LINE) STATEMENTS)
 
 -- all that refusal 11 asks
 unfoldable pub sectioned : List ℕ → Bool

@@ -13,6 +13,7 @@ ghost use Rattle.loader.specs.Open.{openAnswer};
 use answers::Opened;
 use answers::Refusal;
 use answers::Sections;
+use codes::image;
 use lines::Judgement;
 
 // The image, whose sections are found.
@@ -23,11 +24,15 @@ fn open_sections(image: &[u8], lines: usize, code: usize) -> Opened
     ensures { λ r. ⌜ openTold r ≡ openAnswer (now (image .entry)) (openOf (now (image .entry))) ⌝ }
 {
     let end = image.len();
-    if signature::has_signature(&image[28..lines]) {
-        let judged = lines::judge(&image[28..lines], &image[lines..code], &image[code..end]);
+    if signature::has_signature(&image[image::HEADER..lines]) {
+        let judged = lines::judge(
+            &image[image::HEADER..lines],
+            &image[lines..code],
+            &image[code..end],
+        );
         match judged {
             Judgement::Good => Opened::Image(Sections {
-                signature: 28,
+                signature: image::HEADER,
                 lines,
                 code,
                 end,
@@ -44,8 +49,8 @@ pub fn open(image: &[u8]) -> Opened
     ensures { λ r. ⌜ openTold r ≡ openAnswer (now (image .entry)) (openOf (now (image .entry))) ⌝ }
 {
     if sections::has_sections(image) {
-        let lines = 28 + sections::long(image, 8);
-        let code = lines + sections::long(image, 16);
+        let lines = image::HEADER + sections::long(image, image::SIGNATURE_SIZE);
+        let code = lines + sections::long(image, image::LINES_SIZE);
         return open_sections(image, lines, code);
     }
     Opened::NotOpened(Refusal::BadSections)

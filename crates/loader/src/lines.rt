@@ -6,10 +6,14 @@ ghost use lib.ListN.{length, getD, drop};
 ghost use Rattle.format.specs.Words.{word2At};
 ghost use Rattle.format.specs.Signature.{signatureOf};
 ghost use Rattle.format.specs.Opening.{rawAt, openLine};
+ghost use Rattle.codes.specs.Image.{LINE};
+ghost use Rattle.codes.specs.Limit.{STATEMENTS};
 ghost use Rattle.loader.specs.Sections.{isSome};
 ghost use Rattle.loader.specs.Code.{signatureAt};
 ghost use Rattle.loader.specs.Lines.{leavesType, codeFits, followersFit, storedReaches, linesFrom};
 use crate::signature::count;
+use codes::image;
+use codes::types;
 
 // All lines are good, or the lowest bad line, or the line count where only the code section is not filled.
 pub(crate) enum Judgement {
@@ -38,10 +42,10 @@ fn leaves(signature: &[u8], run: &[u8], needed: u8) -> bool
     ensures { λ r. ⌜ r ≡ leavesType (now (signature .entry)) (now (run .entry)) needed ⌝ }
 {
     let t = crate::code::code_type(signature, run);
-    if t < 3 {
-        return t == needed;
+    if t == types::NONE {
+        return false;
     }
-    false
+    t == needed
 }
 
 // Kind, target and code of a line are right.
@@ -50,10 +54,10 @@ fn code_fits(signature: &[u8], kind: u8, target: usize, run: &[u8]) -> bool
     requires { ⌜ target < 256 ⌝ }
     ensures { λ r. ⌜ r ≡ codeFits (now (signature .entry)) kind target (now (run .entry)) ⌝ }
 {
-    if kind == 1 {
+    if kind == image::OUTPUT {
         return leaves(signature, run, crate::code::output_type(signature, target));
     }
-    if kind == 2 {
+    if kind == image::VARIABLE {
         return leaves(
             signature,
             run,
@@ -61,13 +65,13 @@ fn code_fits(signature: &[u8], kind: u8, target: usize, run: &[u8]) -> bool
         );
     }
     if target == 0 {
-        if kind == 3 {
-            return leaves(signature, run, 2);
+        if kind == image::BRANCH {
+            return leaves(signature, run, types::BOOLEAN);
         }
-        if kind == 0 {
+        if kind == image::WAIT {
             return run.len() == 0;
         }
-        if kind == 4 {
+        if kind == image::NULL {
             return run.len() == 0;
         }
         return false;
@@ -78,27 +82,27 @@ fn code_fits(signature: &[u8], kind: u8, target: usize, run: &[u8]) -> bool
 // The reach of a line.
 fn reach_of(lines: &[u8], n: usize, k: usize) -> usize
     requires { ⌜ k < n ⌝ }
-    requires { ⌜ n ≤ 512 ⌝ }
+    requires { ⌜ n ≤ STATEMENTS ⌝ }
     ensures { λ r. ⌜ r ≡ getD (storedReaches n (now (lines .entry))) k 0 ⌝ }
     ensures { λ r. ⌜ r < 65536 ⌝ }
 {
-    short(lines, 12 * k + 10)
+    short(lines, image::LINE * k + image::LINE_REACH)
 }
 
 // Next, other and reach of a line are right.
 fn followers_fit(lines: &[u8], n: usize, kind: u8, next: usize, other: usize, reach: usize) -> bool
-    requires { ⌜ n ≤ 512 ⌝ }
+    requires { ⌜ n ≤ STATEMENTS ⌝ }
     ensures { λ r. ⌜ r ≡ followersFit n (storedReaches n (now (lines .entry))) kind next other reach ⌝ }
 {
     if next < n {
-        if kind == 3 {
+        if kind == image::BRANCH {
             if other < n {
                 return reach == larger(reach_of(lines, n, next), reach_of(lines, n, other)) + 1;
             }
             return false;
         }
         if other == 0 {
-            if kind == 0 {
+            if kind == image::WAIT {
                 return reach == 0;
             }
             return reach == reach_of(lines, n, next) + 1;
@@ -111,21 +115,33 @@ fn followers_fit(lines: &[u8], n: usize, kind: u8, next: usize, other: usize, re
 // The line x is good, where the runs before it end at the offset p of the code section.
 fn line_fits(signature: &[u8], lines: &[u8], code: &[u8], n: usize, x: usize, p: usize) -> bool
     requires { ⌜ isSome (signatureOf (now signature)) ≡ true ⌝ }
-    requires { ⌜ n ≤ 512 ⌝ }
+    requires { ⌜ n ≤ STATEMENTS ⌝ }
     requires { ⌜ x < n ⌝ }
     requires { ⌜ p ≤ length (now code) ⌝ }
-    ensures { λ r. ⌜ r ≡ isSome (openLine (signatureAt (now (signature .entry))) n (storedReaches n (now (lines .entry))) p (drop p (now (code .entry))) (rawAt (drop (12 * x) (now (lines .entry))))) ⌝ }
+    ensures { λ r. ⌜ r ≡ isSome (openLine (signatureAt (now (signature .entry))) n (storedReaches n (now (lines .entry))) p (drop p (now (code .entry))) (rawAt (drop (LINE * x) (now (lines .entry))))) ⌝ }
 {
-    let at = 12 * x;
-    let size = short(lines, at + 4);
-    if short(lines, at + 2) == p {
+    let at = image::LINE * x;
+    let size = short(lines, at + image::LINE_CODE_SIZE);
+    if short(lines, at + image::LINE_CODE) == p {
         if size <= code.len() - p {
             let kind = words::byte(lines, at);
             let end = p + size;
-            if code_fits(signature, kind, count(lines, at + 1), &code[p..end]) {
-                let next = short(lines, at + 6);
-                let other = short(lines, at + 8);
-                return followers_fit(lines, n, kind, next, other, short(lines, at + 10));
+            if code_fits(
+                signature,
+                kind,
+                count(lines, at + image::LINE_TARGET),
+                &code[p..end],
+            ) {
+                let next = short(lines, at + image::LINE_NEXT);
+                let other = short(lines, at + image::LINE_OTHER);
+                return followers_fit(
+                    lines,
+                    n,
+                    kind,
+                    next,
+                    other,
+                    short(lines, at + image::LINE_REACH),
+                );
             }
         }
     }
@@ -135,15 +151,15 @@ fn line_fits(signature: &[u8], lines: &[u8], code: &[u8], n: usize, x: usize, p:
 // All lines and the code section's end.
 pub(crate) fn judge(signature: &[u8], lines: &[u8], code: &[u8]) -> Judgement
     requires { ⌜ isSome (signatureOf (now signature)) ≡ true ⌝ }
-    requires { ⌜ length (now lines) / 12 ≤ 512 ⌝ }
-    ensures { λ r. ⌜ r ≡ linesFrom (now (signature .entry)) (now (lines .entry)) (now (code .entry)) (length (now (lines .entry)) / 12) 0 0 ⌝ }
+    requires { ⌜ length (now lines) / LINE ≤ STATEMENTS ⌝ }
+    ensures { λ r. ⌜ r ≡ linesFrom (now (signature .entry)) (now (lines .entry)) (now (code .entry)) (length (now (lines .entry)) / LINE) 0 0 ⌝ }
 {
-    let n = lines.len() / 12;
+    let n = lines.len() / image::LINE;
     let mut x: usize = 0;
     let mut p: usize = 0;
     while x < n {
         if line_fits(signature, lines, code, n, x, p) {
-            p += short(lines, 12 * x + 4);
+            p += short(lines, image::LINE * x + image::LINE_CODE_SIZE);
             x += 1;
         } else {
             return Judgement::BadAt(x);

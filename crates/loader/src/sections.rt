@@ -1,10 +1,11 @@
 // Refusal 11: the form, the count, the pairs, the image's length and the number of lines.
 ghost use mathlib.Core.Path.{_≡_};
 ghost use Prim.Native.Nat.{_<_};
-ghost use lib.ListN.{length};
 ghost use Rattle.format.specs.Words.{word4At};
 ghost use Rattle.format.specs.Opening.{sectionsOf};
 ghost use Rattle.loader.specs.Sections.{isSome, headed, paired, whole};
+use codes::image;
+use codes::limit;
 
 // A four-byte number as a place.
 pub(crate) fn long(s: &[u8], at: usize) -> usize
@@ -18,14 +19,14 @@ pub(crate) fn long(s: &[u8], at: usize) -> usize
 fn header(image: &[u8]) -> bool
     ensures { λ r. ⌜ r ≡ headed (now (image .entry)) ⌝ }
 {
-    if 65535 < image.len() {
+    if limit::IMAGE < image.len() {
         return false;
     }
-    if image.len() < 28 {
+    if image.len() < image::HEADER {
         return false;
     }
-    if words::word2(image, 0) == 1 {
-        return words::word2(image, 2) == 3;
+    if words::word2(image, image::FORM) == image::FORM_1 {
+        return words::word2(image, image::SECTIONS) == image::THREE;
     }
     false
 }
@@ -34,13 +35,13 @@ fn header(image: &[u8]) -> bool
 fn pairs(image: &[u8]) -> bool
     ensures { λ r. ⌜ r ≡ paired (now (image .entry)) ⌝ }
 {
-    let signature = long(image, 8);
-    let lines = long(image, 16);
-    let code = long(image, 24);
-    if long(image, 4) == 28 {
-        if long(image, 12) == 28 + signature {
-            if long(image, 20) == 28 + signature + lines {
-                return image.len() == 28 + signature + lines + code;
+    let signature = long(image, image::SIGNATURE_SIZE);
+    let lines = long(image, image::LINES_SIZE);
+    let code = long(image, image::CODE_SIZE);
+    if long(image, image::SIGNATURE) == image::HEADER {
+        if long(image, image::LINES) == image::HEADER + signature {
+            if long(image, image::CODE) == image::HEADER + signature + lines {
+                return image.len() == image::HEADER + signature + lines + code;
             }
         }
     }
@@ -51,9 +52,9 @@ fn pairs(image: &[u8]) -> bool
 fn whole_lines(size: usize) -> bool
     ensures { λ r. ⌜ r ≡ whole size ⌝ }
 {
-    if size % 12 == 0 {
-        if 1 <= size / 12 {
-            return size / 12 <= 512;
+    if size % image::LINE == 0 {
+        if 1 <= size / image::LINE {
+            return size / image::LINE <= limit::STATEMENTS;
         }
     }
     false
@@ -65,7 +66,7 @@ pub(crate) fn has_sections(image: &[u8]) -> bool
 {
     if header(image) {
         if pairs(image) {
-            return whole_lines(long(image, 16));
+            return whole_lines(long(image, image::LINES_SIZE));
         }
     }
     false

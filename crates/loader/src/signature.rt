@@ -4,8 +4,13 @@ ghost use mathlib.Core.Bool.{_&&_};
 ghost use Prim.Native.Nat.{_+_, _*_, _<_, _≤_};
 ghost use lib.ListN.{length, getD, drop};
 ghost use lib.Dec.{ltb};
-ghost use Rattle.format.specs.Signature.{typeOfByte, readTypes, readCell, readCells, signatureOf};
+ghost use Rattle.format.specs.Signature.{readTypes, readCell, readCells, signatureOf};
+ghost use Rattle.design.specs.Types.{typeOfByte};
+ghost use Rattle.codes.specs.Image.{SLOT};
+ghost use Rattle.codes.specs.Limit.{IMAGE};
 ghost use Rattle.loader.specs.Sections.{isSome};
+use codes::image;
+use codes::limit;
 
 // The byte at a position as a count.
 pub(crate) fn count(s: &[u8], at: usize) -> usize
@@ -15,19 +20,19 @@ pub(crate) fn count(s: &[u8], at: usize) -> usize
     words::wide(words::byte(s, at)) as usize
 }
 
-// There is a type byte at a position: 0 std_logic, 1 integer.
+// There is a type byte at a position.
 fn type_byte(s: &[u8], at: usize) -> bool
     ensures { λ r. ⌜ r ≡ (ltb at (length (now (s .entry))) && isSome (typeOfByte (getD (now (s .entry)) at 0))) ⌝ }
 {
     if at < s.len() {
-        return count(s, at) < 2;
+        return codes::types::is_type_byte(words::byte(s, at));
     }
     false
 }
 
 // There are n type bytes from a position on.
 fn types(s: &[u8], at: usize, n: usize) -> bool
-    requires { ⌜ at + n ≤ 65535 ⌝ }
+    requires { ⌜ at + n ≤ IMAGE ⌝ }
     ensures { λ r. ⌜ r ≡ isSome (readTypes n (drop at (now (s .entry)))) ⌝ }
 {
     let mut place = at;
@@ -45,10 +50,10 @@ fn types(s: &[u8], at: usize, n: usize) -> bool
 
 // There is a type byte with a value of its type at a position.
 fn cell(s: &[u8], at: usize) -> bool
-    requires { ⌜ at ≤ 65535 ⌝ }
+    requires { ⌜ at ≤ IMAGE ⌝ }
     ensures { λ r. ⌜ r ≡ isSome (readCell (drop at (now (s .entry)))) ⌝ }
 {
-    if s.len() < at + 5 {
+    if s.len() < at + image::SLOT {
         return false;
     }
     signed::in_type(
@@ -59,14 +64,14 @@ fn cell(s: &[u8], at: usize) -> bool
 
 // There are n types with their initial values from a position on.
 fn cells(s: &[u8], at: usize, n: usize) -> bool
-    requires { ⌜ at + 5 * n ≤ 65535 ⌝ }
+    requires { ⌜ at + SLOT * n ≤ IMAGE ⌝ }
     ensures { λ r. ⌜ r ≡ isSome (readCells n (drop at (now (s .entry)))) ⌝ }
 {
     let mut place = at;
     let mut left = n;
     while 0 < left {
         if cell(s, place) {
-            place += 5;
+            place += image::SLOT;
             left -= 1;
         } else {
             return false;
@@ -79,25 +84,26 @@ fn cells(s: &[u8], at: usize, n: usize) -> bool
 pub(crate) fn has_signature(s: &[u8]) -> bool
     ensures { λ r. ⌜ r ≡ isSome (signatureOf (now (s .entry))) ⌝ }
 {
-    if s.len() < 3 {
+    if s.len() < image::COUNTS {
         return false;
     }
-    let inputs = count(s, 0);
-    let outputs = count(s, 1);
-    let variables = count(s, 2);
-    if 16 < inputs {
+    let inputs = count(s, image::INPUTS);
+    let outputs = count(s, image::OUTPUTS);
+    let variables = count(s, image::VARIABLES);
+    if limit::INPUTS < inputs {
         return false;
     }
-    if 16 < outputs {
+    if limit::OUTPUTS < outputs {
         return false;
     }
-    if 32 < variables {
+    if limit::VARIABLES < variables {
         return false;
     }
-    if types(s, 3, inputs) {
-        if cells(s, 3 + inputs, outputs) {
-            if cells(s, 3 + inputs + 5 * outputs, variables) {
-                return s.len() <= 3 + inputs + 5 * outputs + 5 * variables;
+    if types(s, image::COUNTS, inputs) {
+        if cells(s, image::COUNTS + inputs, outputs) {
+            if cells(s, image::COUNTS + inputs + image::SLOT * outputs, variables) {
+                return s.len()
+                    <= image::COUNTS + inputs + image::SLOT * outputs + image::SLOT * variables;
             }
         }
     }

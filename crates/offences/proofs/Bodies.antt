@@ -1,23 +1,24 @@
 -- A rule over the statements of a body, or over the names in its expressions, and the same over the rows and the items of the arrays. Assumes nothing.
 use mathlib.Core.Path.{_≡_, refl, sym, _∙_, ap, subst}
+use mathlib.Core.Bool.{true}
 use mathlib.Core.List.{List, [], _∷_, _++_, map, map-append, append-assoc, append-nil}
-use Prim.Native.Nat.{ℕ, zero, suc, _+_, _*_, _<_}
+use Prim.Native.Nat.{ℕ, zero, suc, _+_, _*_}
 use native.Mathlib.Omega.{arith}
-use borrow.Author.Tests.{ne-eqb}
 use lib.Dec.{eqb}
 use lib.ListN.{length, getD}
-use Rattle.grammar.specs.Token.{Token, NAME}
+use Rattle.grammar.specs.Token.{Token}
+use Rattle.codes.specs.Token.{NAME}
 use Rattle.grammar.specs.Reader.{choose}
 use Rattle.grammar.specs.Tree.{Expr, number, bit, name, sign, negate, binary, parens, Stmt, output, assign, null, wait, if-then, if-else, while, Body, only, andThen}
 use Rattle.grammar.specs.Limits.{Each}
 use Rattle.grammar.proofs.Each.{each-join}
 use Rattle.language.specs.Lists.{each}
 use Rattle.language.specs.Declarations.{within, statements}
-use Rattle.language.proofs.Facts.{each-append}
+use Rattle.language.proofs.Facts.{clash, each-append}
 use Rattle.cursor.specs.Tokens.{tokenAt}
-use Rattle.expressions.specs.Postfix.{Item, itemOf, operatorCode, postfix}
+use Rattle.expressions.specs.Postfix.{Item, itemOf, postfix}
 use Rattle.expressions.specs.Written.{itemAtIndex}
-use Rattle.expressions.proofs.Codes.{code-above}
+use Rattle.codes.proofs.OperationLaws.{operation-apart}
 use Rattle.expressions.proofs.Folds.{Steps, postfix-whole}
 use Rattle.statements.specs.Entries.{Entry, entry, stmtEntries, bodyEntries, entryItems}
 use Rattle.statements.specs.Rows.{Line, seen, linesFrom}
@@ -27,6 +28,7 @@ use Rattle.syntax.specs.Kinded.{KindedStmt, KindedBody}
 use Rattle.syntax.specs.Lowest.{lowestOf, lowestFrom}
 pub use Rattle.syntax.proofs.Named.{NamedItem}
 use Rattle.syntax.proofs.Named.{IsNamed, postfix-named}
+use Rattle.offences.specs.Positions.{hasName}
 use Rattle.offences.proofs.Loops.{listFrom, list-lowest, each-same, each-map, all-map, all-imply}
 
 -- the entries of a body are those of its statements, one for each
@@ -69,17 +71,17 @@ mutual
 
 -- a wait and an assignment have a name
 abbrev pub NamedRow : ℕ → Token → Type 0
-NamedRow k x = k < 3 → x .kind ≡ NAME
+NamedRow k x = hasName k ≡ true → x .kind ≡ NAME
 
 named-row : (s : Stmt) → KindedStmt s → NamedRow (stmtEntry s .kind) (stmtEntry s .token)
-unfolding stmtEntry
+unfolding stmtEntry hasName
 named-row (output x e) k h = k .0
 named-row (assign x e) k h = k .0
-named-row null k h = absurd (omega arith)
+named-row null k h = clash (sym h)
 named-row (wait x) k h = k
-named-row (if-then i e a) k h = absurd (omega arith)
-named-row (if-else i e a b) k h = absurd (omega arith)
-named-row (while w e a) k h = absurd (omega arith)
+named-row (if-then i e a) k h = clash (sym h)
+named-row (if-else i e a b) k h = clash (sym h)
+named-row (while w e a) k h = clash (sym h)
 
 -- The rows.
 rows-list : (ts : List Token) (rows : List ℕ) (j c : ℕ) → listFrom (λ (i : ℕ). seen ts (rowIn rows i)) j c ≡ map (seen ts) (rowsFrom rows j c)
@@ -157,7 +159,7 @@ names-steps r q =
       name = λ x w k f c. sym (append-assoc w (r x) (each (itemRule r) k)) ∙ c;
       sign = λ x a w k f. (tt, λ c. c);
       negate = λ x a w k f. (tt, λ c. c);
-      binary = λ x a b w k f. (tt, tt, λ c. rw (ne-eqb (operatorCode (x .kind)) 1 (λ e. let h = code-above (x .kind) in omega arith)) (ap (λ (l : List ℕ). l ++ each (itemRule r) k) (append-assoc w (ofNames r a) (ofNames r b)) ∙ c));
+      binary = λ x a b w k f. (tt, tt, λ c. rw (operation-apart (x .kind) 1 (omega arith) (omega arith)) (ap (λ (l : List ℕ). l ++ each (itemRule r) k) (append-assoc w (ofNames r a) (ofNames r b)) ∙ c));
       parens = λ a w k f. (tt, λ c. c);
     }
 

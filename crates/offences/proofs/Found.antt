@@ -9,12 +9,14 @@ use native.Mathlib.Nat.{add-zero}
 use borrow.Author.Tests.{lt-ltb, le-ltb, eqb-true, eqb-false, eq-eqb, ne-eqb}
 use lib.Dec.{eqb}
 use lib.ListN.{length, getD, length-map}
+use Rattle.codes.specs.Declaration as D
 use Rattle.grammar.specs.Token.{Token}
 use Rattle.grammar.specs.Tree.{Group, Text}
 use Rattle.language.specs.Declarations.{Decl, declare, spread, groups, declared, find}
 use Rattle.language.specs.Elaboration.{position}
 use Rattle.cursor.specs.Tokens.{tokenAt}
-use Rattle.syntax.specs.Headings.{modeCode, typeCode, Heading, namesOf, groupNames, groupsNames, headings, declsFrom, headingSeen, DeclsIn}
+use Rattle.syntax.specs.Headings.{modeCode, Heading, namesOf, groupNames, groupsNames, headings, declsFrom, headingSeen, DeclsIn}
+use Rattle.design.specs.Types.{typeByte}
 use Rattle.offences.specs.Positions.{modeIn, typeIn}
 use Rattle.offences.proofs.Loops.{listFrom}
 
@@ -25,7 +27,7 @@ pub record Outline : Type 0 where
   pub type : ℕ
 
 abbrev pub ofDecl : Decl → Outline
-ofDecl d = record { name = d .name; mode = modeCode (d .mode); type = typeCode (d .type) }
+ofDecl d = record { name = d .name; mode = modeCode (d .mode); type = typeByte (d .type) }
 
 abbrev ofHeading : Heading → Outline
 ofHeading h = record { name = h .name; mode = h .mode; type = h .type }
@@ -94,12 +96,12 @@ numbered at v (d ∷ Δ) j (suc c) e = go (eqb (d .name .value) v) (numbered at 
 
 -- the mode and the type of a declaration that is there or not
 unfoldable pub modeOf : Option Decl → ℕ
-modeOf none = 3
+modeOf none = D.NO-MODE
 modeOf (some d) = modeCode (d .mode)
 
 unfoldable pub typeOf : Option Decl → ℕ
-typeOf none = 2
-typeOf (some d) = typeCode (d .type)
+typeOf none = D.NO-TYPE
+typeOf (some d) = typeByte (d .type)
 
 module _ (ts : List Token) (t : Text) (decls : List ℕ) (d : ℕ) (h : DeclsIn ts (headings t) decls d) (v : ℕ) where
   under : Numbered (outlineIn ts decls) d (declared t) 0 (position (declared t) v) (find (declared t) v)

@@ -1,14 +1,22 @@
--- What the stages of names and of the clock look at, by position: what is declared under a number. Assumes nothing.
+-- What the stages of names and of the clock look at, by position: which statements have a name, what is declared under a number. Assumes nothing.
+use mathlib.Core.Bool.{Bool, _||_}
 use mathlib.Core.List.{List}
 use Prim.Native.Nat.{ℕ, _+_, _*_}
-use lib.Dec.{ltb}
+use lib.Dec.{eqb, ltb}
 use lib.ListN.{getD}
+use Rattle.codes.specs.Statement as S
+use Rattle.codes.specs.Declaration as D
+use Rattle.codes.specs.Limit as L
 use Rattle.grammar.specs.Reader.{choose}
+
+-- a wait or an assignment: its row has the index of a name
+unfoldable pub hasName : ℕ → Bool
+hasName kind = eqb kind S.WAIT || (eqb kind S.OUTPUT || eqb kind S.VARIABLE)
 
 -- the mode under a declaration's number: 0 in, 1 out, 2 variable, 3 for none
 abbrev pub modeIn : List ℕ → ℕ → ℕ → ℕ
-modeIn decls d o = choose (ltb o d) (choose (ltb o 65) (getD decls (6 * o + 1) 0) 3) 3
+modeIn decls d o = choose (ltb o d) (choose (ltb o L.NAMES) (getD decls (D.ROW * o + D.MODE) 0) D.NO-MODE) D.NO-MODE
 
 -- the type under a declaration's number: 0 std_logic, 1 integer, 2 for none
 abbrev pub typeIn : List ℕ → ℕ → ℕ → ℕ
-typeIn decls d o = choose (ltb o d) (choose (ltb o 65) (getD decls (6 * o + 2) 0) 2) 2
+typeIn decls d o = choose (ltb o d) (choose (ltb o L.NAMES) (getD decls (D.ROW * o + D.TYPE) 0) D.NO-TYPE) D.NO-TYPE

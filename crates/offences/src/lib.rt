@@ -2,7 +2,10 @@
 ghost use mathlib.Core.Path.{_≡_};
 ghost use Prim.Native.Nat.{min};
 ghost use Rattle.syntax.specs.Arrays.{numberIn};
-ghost use Rattle.offences.specs.Positions.{modeIn, typeIn};
+ghost use Rattle.offences.specs.Positions.{hasName, modeIn, typeIn};
+use codes::declaration;
+use codes::limit;
+use codes::statement;
 
 // The smaller of two numbers.
 pub fn at_most(a: usize, b: usize) -> usize
@@ -29,11 +32,11 @@ pub fn wide(x: u16) -> usize
 }
 
 // The number of the declaration that the name at an index stands for, or 0 past the last token.
-pub fn owner_at(owners: &[u8; 16384], n: usize, i: usize) -> usize
+pub fn owner_at(owners: &[u8; limit::TEXT], n: usize, i: usize) -> usize
     ensures { λ r. ⌜ r ≡ numberIn (now (owners .entry)) n i ⌝ }
 {
     if i < n {
-        if i < 16384 {
+        if i < limit::TEXT {
             return wide_byte(owners[i]);
         }
         return 0;
@@ -41,28 +44,38 @@ pub fn owner_at(owners: &[u8; 16384], n: usize, i: usize) -> usize
     0
 }
 
+// A wait or an assignment: its row has the index of a name.
+pub fn has_name(kind: u16) -> bool
+    ensures { λ r. ⌜ r ≡ hasName kind ⌝ }
+{
+    match kind {
+        statement::WAIT | statement::OUTPUT | statement::VARIABLE => true,
+        _ => false,
+    }
+}
+
 // The mode under a declaration's number, or 3 for none.
-pub fn mode_at(decls: &[u16; 390], d: usize, o: usize) -> u16
+pub fn mode_at(decls: &[u16; declaration::ROWS], d: usize, o: usize) -> u16
     ensures { λ r. ⌜ r ≡ modeIn (now (decls .entry)) d o ⌝ }
 {
     if o < d {
-        if o < 65 {
-            return decls[6 * o + 1];
+        if o < limit::NAMES {
+            return decls[declaration::ROW * o + declaration::MODE];
         }
-        return 3;
+        return declaration::NO_MODE;
     }
-    3
+    declaration::NO_MODE
 }
 
 // The type under a declaration's number, or 2 for none.
-pub fn type_at(decls: &[u16; 390], d: usize, o: usize) -> u16
+pub fn type_at(decls: &[u16; declaration::ROWS], d: usize, o: usize) -> u16
     ensures { λ r. ⌜ r ≡ typeIn (now (decls .entry)) d o ⌝ }
 {
     if o < d {
-        if o < 65 {
-            return decls[6 * o + 2];
+        if o < limit::NAMES {
+            return decls[declaration::ROW * o + declaration::TYPE];
         }
-        return 2;
+        return declaration::NO_TYPE;
     }
-    2
+    declaration::NO_TYPE
 }

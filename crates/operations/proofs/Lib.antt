@@ -1,3 +1,2 @@
-pub mod OperatorLaws
 pub mod StackLaws
 pub mod ExpressionLaws

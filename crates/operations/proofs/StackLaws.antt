@@ -18,7 +18,9 @@ use Rattle.signed.specs.declared.Checked.{Checked}
 use Rattle.signed.specs.declared.Checked.the-variants.{Value, Refused}
 use Rattle.ir.specs.Operations.{op}
 use Rattle.ir.specs.Arrays.{opsFrom}
-use Rattle.operations.specs.Machine.{unaryFor, unaryOf, binaryFor, binaryOf, pushed, pushedWithin, unaryNext, binaryNext, stepOf, runOps, topOf, valueIn}
+use Rattle.codes.specs.Operation.{operandsOf}
+use Rattle.operators.specs.Operators.{unaryOn, binaryOn}
+use Rattle.operations.specs.Machine.{kindOf, pushed, pushedWithin, unaryNext, binaryNext, stepOf, runOps, topOf, valueIn}
 use Rattle.operations.specs.Stack.{stackOf, outcomeOf, Room, Says}
 use Rattle.operations.specs.declared.Transition.{Transition}
 use Rattle.operations.specs.declared.Transition.the-variants.{Go, Stop}
@@ -64,38 +66,38 @@ kept a i v e q f m =
 pub stopped : (a : List ℤ) (n q : ℕ) {o : Out (List ℤ)} → Room a n → fault q ≡ o → Says a (Stop q) o
 stopped a n q m e = record { room = record { numbers = m .numbers; depth = omega arith }; says = e }
 
-pub push-full : (a : List ℤ) (n : ℕ) (z : ℤ) → 64 ≤ n → fault 13 ≡ pushedWithin 64 z (stackOf a n)
+pub push-full : (a : List ℤ) (n : ℕ) (z : ℤ) → 64 ≤ n → fault 13 ≡ pushedWithin z (stackOf a n)
 push-full a n z h = rw (stack-length a n, le-ltb n 64 h)
 
-pub push-room : (a : List ℤ) (n : ℕ) (z : ℤ) → n < 64 → pushedWithin 64 z (stackOf a n) ≡ pushed (fine z) (stackOf a n)
+pub push-room : (a : List ℤ) (n : ℕ) (z : ℤ) → n < 64 → pushedWithin z (stackOf a n) ≡ pushed (fine z) (stackOf a n)
 push-room a n z h = rw (stack-length a n, lt-ltb n 64 h)
 
 -- operators on too few numbers, and on enough
-pub unary-short : (a : List ℤ) (n k : ℕ) → n < 1 → fault 13 ≡ unaryNext k (stackOf a n)
+pub unary-short : (a : List ℤ) (n k t : ℕ) → n < 1 → fault 13 ≡ unaryNext k t (stackOf a n)
 unfolding stackOf
-unary-short a zero k h = refl
-unary-short a (suc n) k h = absurd (omega arith)
+unary-short a zero k t h = refl
+unary-short a (suc n) k t h = absurd (omega arith)
 
-pub binary-short : (a : List ℤ) (n k : ℕ) → n < 2 → fault 13 ≡ binaryNext k (stackOf a n)
+pub binary-short : (a : List ℤ) (n k t : ℕ) → n ≤ 1 → fault 13 ≡ binaryNext k t (stackOf a n)
 unfolding stackOf
-binary-short a zero k h = refl
-binary-short a (suc zero) k h = refl
-binary-short a (suc (suc n)) k h = absurd (omega arith)
+binary-short a zero k t h = refl
+binary-short a (suc zero) k t h = refl
+binary-short a (suc (suc n)) k t h = absurd (omega arith)
 
-pub unary-more : (a : List ℤ) (n k : ℕ) → 1 ≤ n → unaryNext k (stackOf a n) ≡ pushed (unaryOf (unaryFor k) (getD a (n - 1) (pos 0))) (stackOf a (n - 1))
+pub unary-more : (a : List ℤ) (n k t : ℕ) → 1 ≤ n → unaryNext k t (stackOf a n) ≡ pushed (unaryOn k t (getD a (n - 1) (pos 0))) (stackOf a (n - 1))
 unfolding stackOf
-unary-more a zero k h = absurd (omega arith)
-unary-more a (suc n) k h = let e : suc n - 1 ≡ n = omega arith in rw e
+unary-more a zero k t h = absurd (omega arith)
+unary-more a (suc n) k t h = let e : suc n - 1 ≡ n = omega arith in rw e
 
-pub binary-more : (a : List ℤ) (n k : ℕ) → 2 ≤ n
-    → binaryNext k (stackOf a n) ≡ pushed (binaryOf (binaryFor k) (getD a (n - 2) (pos 0)) (getD a (n - 1) (pos 0))) (stackOf a (n - 2))
+pub binary-more : (a : List ℤ) (n k t : ℕ) → 2 ≤ n
+    → binaryNext k t (stackOf a n) ≡ pushed (binaryOn k t (getD a (n - 1 - 1) (pos 0)) (getD a (n - 1) (pos 0))) (stackOf a (n - 1 - 1))
 unfolding stackOf
-binary-more a zero k h = absurd (omega arith)
-binary-more a (suc zero) k h = absurd (omega arith)
-binary-more a (suc (suc n)) k h =
+binary-more a zero k t h = absurd (omega arith)
+binary-more a (suc zero) k t h = absurd (omega arith)
+binary-more a (suc (suc n)) k t h =
+    let d : suc (suc n) - 1 - 1 ≡ n = omega arith in
     let e : suc (suc n) - 1 ≡ suc n = omega arith in
-    let d : suc (suc n) - 2 ≡ n = omega arith in
-    rw (e, d)
+    rw (d, e)
 
 -- the number on top
 pub top-none : (a : List ℤ) (n : ℕ) → n < 1 → Refused 13 ≡ checkedOf (topOf (stackOf a n))
@@ -110,25 +112,25 @@ top-some a (suc n) h = let e : suc n - 1 ≡ n = omega arith in rw e
 
 -- an operation by the tests of its code
 module _ (i v : List ℤ) (k : ℕ) (z : ℤ) (st : List ℤ) where
-  pub step-literal : k < 3 → stepOf i v (op k z) st ≡ pushedWithin 64 z st
+  pub step-literal : k < 3 → stepOf i v (op k z) st ≡ pushedWithin z st
   unfolding stepOf
   step-literal h = rw (lt-ltb k 3 h)
 
-  pub step-input : k ≡ 3 → stepOf i v (op k z) st ≡ pushedWithin 64 (getD i (unsigned32 z) (pos 0)) st
+  pub step-input : k ≡ 3 → stepOf i v (op k z) st ≡ pushedWithin (getD i (unsigned32 z) (pos 0)) st
   unfolding stepOf
   step-input h = rw h
 
-  pub step-variable : k ≡ 4 → stepOf i v (op k z) st ≡ pushedWithin 64 (getD v (unsigned32 z) (pos 0)) st
+  pub step-variable : k ≡ 4 → stepOf i v (op k z) st ≡ pushedWithin (getD v (unsigned32 z) (pos 0)) st
   unfolding stepOf
   step-variable h = rw h
 
-  pub step-unary : 3 ≤ k → (k ≡ 3 → ⊥) → (k ≡ 4 → ⊥) → k < 18 → stepOf i v (op k z) st ≡ unaryNext k st
+  pub step-unary : 3 ≤ k → (k ≡ 3 → ⊥) → (k ≡ 4 → ⊥) → operandsOf k ≡ 1 → stepOf i v (op k z) st ≡ unaryNext k (kindOf z) st
   unfolding stepOf
-  step-unary a b c d = rw (le-ltb k 3 a, ne-eqb k 3 b, ne-eqb k 4 c, lt-ltb k 18 d)
+  step-unary a b c d = rw (le-ltb k 3 a, ne-eqb k 3 b, ne-eqb k 4 c, d)
 
-  pub step-binary : 3 ≤ k → (k ≡ 3 → ⊥) → (k ≡ 4 → ⊥) → 18 ≤ k → stepOf i v (op k z) st ≡ binaryNext k st
+  pub step-binary : 3 ≤ k → (k ≡ 3 → ⊥) → (k ≡ 4 → ⊥) → (operandsOf k ≡ 1 → ⊥) → stepOf i v (op k z) st ≡ binaryNext k (kindOf z) st
   unfolding stepOf
-  step-binary a b c d = rw (le-ltb k 3 a, ne-eqb k 3 b, ne-eqb k 4 c, le-ltb k 18 d)
+  step-binary a b c d = rw (le-ltb k 3 a, ne-eqb k 3 b, ne-eqb k 4 c, ne-eqb (operandsOf k) 1 d)
 
 -- THE LOOP
 module _ (codes : List ℕ) (args : List ℤ) (from to : ℕ) (i v : List ℤ) where

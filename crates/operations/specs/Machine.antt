@@ -1,67 +1,52 @@
 -- Operations of an expression run on a stack of numbers: what each does by its code, and what they leave. Assumes nothing.
 use mathlib.Core.Bool.{cond}
-use mathlib.Core.Option.{Option, none, some}
+use mathlib.Core.Path.{_≡_}
+use mathlib.Core.Option.{some}
 use mathlib.Core.List.{List, [], _∷_}
-use Prim.Native.Nat.{ℕ, _-_}
+use Prim.Native.Nat.{ℕ, _-_, _≤_}
 use lib.ListN.{length, getD}
 use lib.IntN.{ℤ, pos}
 use lib.Dec.{eqb, ltb}
-use Rattle.design.specs.Types.{boolean}
-use Rattle.design.specs.Expression.{Unary, sign, invert, Binary, plus, minus, equal, unequal, less, at-most, greater, at-least, and, or, xor, Out, fine, fault, bind}
-use Rattle.semantics.specs.Evaluation.{applyUnary, applyBinary}
+use Rattle.design.specs.Types.{Ty, ExprTy}
+use Rattle.design.specs.Expression.{Expr, items, typeOf, Out, fine, fault, bind}
 use Rattle.semantics.specs.Twos.{unsigned32}
-use Rattle.signed.specs.Signed.{scaling}
+use Rattle.codes.specs.Operation.{INPUT, VARIABLE, operandsOf}
+use Rattle.codes.specs.Types.{NONE}
+use Rattle.operators.specs.Operators.{unaryOn, binaryOn}
 use Rattle.ir.specs.Operations.{Op}
 use Rattle.ir.specs.Arrays.{opsFrom}
 
--- "16 sign, 17 not"
-abbrev pub unaryFor : ℕ → Option Unary
-unaryFor k = cond (eqb k 16) (some sign) (cond (eqb k 17) (some invert) none)
-
--- "18 +, 19 -, 20 =, 21 /=, 22 <, 23 <=, 24 >, 25 >=, 26 and, 27 or, 28 xor", "29 *, 30 /, 31 mod, 32 rem"
-abbrev pub binaryFor : ℕ → Option Binary
-binaryFor k =
-    cond (eqb k 18) (some plus) (cond (eqb k 19) (some minus) (cond (eqb k 20) (some equal) (cond (eqb k 21) (some unequal)
-    (cond (eqb k 22) (some less) (cond (eqb k 23) (some at-most) (cond (eqb k 24) (some greater) (cond (eqb k 25) (some at-least)
-    (cond (eqb k 26) (some and) (cond (eqb k 27) (some or) (cond (eqb k 28) (some xor) (scaling k)))))))))))
-
--- an operator applied; 13 where there is none. No operator's result depends on the type of its operands: see `unary-any` and `binary-any`.
-abbrev pub unaryOf : Option Unary → ℤ → Out ℤ
-unaryOf none x = fault 13
-unaryOf (some o) x = applyUnary o boolean x
-
--- for the left operand x and the right operand y
-abbrev pub binaryOf : Option Binary → ℤ → ℤ → Out ℤ
-binaryOf none x y = fault 13
-binaryOf (some o) x y = applyBinary o boolean x y
+-- the number of a type that an operator's operation has as its argument; 255, no type's, where it has none
+abbrev pub kindOf : ℤ → ℕ
+kindOf z = cond (ltb (unsigned32 z) NONE) (unsigned32 z) NONE
 
 -- a number, if there is one, goes on the stack, whose top is first
 abbrev pub pushed : Out ℤ → List ℤ → Out (List ℤ)
 pushed (fine z) st = fine (z ∷ st)
 pushed (fault q) st = fault q
 
--- a number goes on a stack that has room for m
-abbrev pub pushedWithin : ℕ → ℤ → List ℤ → Out (List ℤ)
-pushedWithin m z st = cond (ltb (length st) m) (fine (z ∷ st)) (fault 13)
+-- a number goes on a stack that has room for 64
+abbrev pub pushedWithin : ℤ → List ℤ → Out (List ℤ)
+pushedWithin z st = cond (ltb (length st) 64) (fine (z ∷ st)) (fault 13)
 
--- the operator with the code k on the stack; 13 where there are too few operands
-abbrev pub unaryNext : ℕ → List ℤ → Out (List ℤ)
-unaryNext k [] = fault 13
-unaryNext k (x ∷ st) = pushed (unaryOf (unaryFor k) x) st
+-- the operator with the code k for operands of the type with the number t, on the stack; 13 where there are too few
+abbrev pub unaryNext : ℕ → ℕ → List ℤ → Out (List ℤ)
+unaryNext k t [] = fault 13
+unaryNext k t (x ∷ st) = pushed (unaryOn k t x) st
 
 -- an operator of two operands, the right one on top
-abbrev pub binaryNext : ℕ → List ℤ → Out (List ℤ)
-binaryNext k [] = fault 13
-binaryNext k (y ∷ []) = fault 13
-binaryNext k (y ∷ x ∷ st) = pushed (binaryOf (binaryFor k) x y) st
+abbrev pub binaryNext : ℕ → ℕ → List ℤ → Out (List ℤ)
+binaryNext k t [] = fault 13
+binaryNext k t (y ∷ []) = fault 13
+binaryNext k t (y ∷ x ∷ st) = pushed (binaryOn k t x y) st
 
 -- one operation on the stack, over the input row i and the variables v: literals, inputs and variables are pushed, operators applied
 unfoldable pub stepOf : List ℤ → List ℤ → Op → List ℤ → Out (List ℤ)
 stepOf i v o st =
-    cond (ltb (o .code) 3) (pushedWithin 64 (o .arg) st)
-    (cond (eqb (o .code) 3) (pushedWithin 64 (getD i (unsigned32 (o .arg)) (pos 0)) st)
-    (cond (eqb (o .code) 4) (pushedWithin 64 (getD v (unsigned32 (o .arg)) (pos 0)) st)
-    (cond (ltb (o .code) 18) (unaryNext (o .code) st) (binaryNext (o .code) st))))
+    cond (ltb (o .code) INPUT) (pushedWithin (o .arg) st)
+    (cond (eqb (o .code) INPUT) (pushedWithin (getD i (unsigned32 (o .arg)) (pos 0)) st)
+    (cond (eqb (o .code) VARIABLE) (pushedWithin (getD v (unsigned32 (o .arg)) (pos 0)) st)
+    (cond (eqb (operandsOf (o .code)) 1) (unaryNext (o .code) (kindOf (o .arg)) st) (binaryNext (o .code) (kindOf (o .arg)) st))))
 
 -- operations one after another, each as `step` has it; the first refusal ends them
 unfoldable pub runOps : {X : Type 0} → (Op → List X → Out (List X)) → List Op → List X → Out (List X)
@@ -76,3 +61,11 @@ topOf (x ∷ st) = fine x
 -- what the operations from .. to leave
 unfoldable pub valueIn : List ℕ → List ℤ → ℕ → ℕ → List ℤ → List ℤ → Out ℤ
 valueIn codes args from to i v = bind (runOps (stepOf i v) (opsFrom codes args from (to - from)) []) topOf
+
+-- an expression that operations can perform: "64 literals, names and operators in an expression", and every operator takes the type that it stands with
+pub record Performable (e : Expr) : Type 0 where
+  pub short : items e ≤ 64
+  pub inputs : List Ty
+  pub variables : List Ty
+  pub type : ExprTy
+  pub typed : typeOf inputs variables e ≡ some type

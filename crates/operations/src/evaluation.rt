@@ -1,18 +1,21 @@
-// The value of an expression: its operations, one after another, on a stack of 64 numbers.
+// The value of an expression: its operations, one after another, on a stack of numbers.
 ghost use mathlib.Core.Path.{_≡_};
 ghost use Prim.Native.Nat.{_+_, _≤_};
 ghost use lib.ListN.{length, getD};
 ghost use lib.IntN.{pos};
-ghost use Rattle.design.specs.Expression.{Expr, items};
+ghost use Rattle.design.specs.Expression.{Expr};
 ghost use Rattle.semantics.specs.Evaluation.{evaluate as evaluateOf};
 ghost use Rattle.semantics.specs.Twos.{unsigned32};
 ghost use Rattle.signed.specs.Signed.{checkedOf};
 ghost use Rattle.ir.specs.Operations.{op as operation, ops};
 ghost use Rattle.ir.specs.Arrays.{opsFrom};
-ghost use Rattle.operations.specs.Machine.{unaryNext, binaryNext, pushed, pushedWithin, stepOf, topOf, valueIn};
+ghost use Rattle.operations.specs.Machine.{kindOf, unaryNext, binaryNext, pushed, pushedWithin, stepOf, topOf, valueIn, Performable};
 ghost use Rattle.operations.specs.Stack.{stackOf, outcomeOf, Room, Says};
 use crate::Transition;
-use crate::operators;
+use codes::limit;
+use codes::operation;
+use codes::refusal;
+use codes::types;
 use signed::Checked;
 
 // The k-th number of a row; 0 where it has none.
@@ -36,8 +39,20 @@ fn named(row: &[i32], arg: i32) -> i32
     number(row, signed::to_bits(arg) as usize)
 }
 
+// The number of a type from an operator's argument.
+fn kind(arg: i32) -> u8
+    ensures { λ r. ⌜ r ≡ kindOf arg ⌝ }
+{
+    let n = signed::to_bits(arg);
+    if n < (types::NONE as u32) {
+        n as u8
+    } else {
+        types::NONE
+    }
+}
+
 // Puts an answer on the stack at element i, the last there.
-fn keep(stack: &mut [i32; 64], i: usize, e: Checked) -> Transition
+fn keep(stack: &mut [i32; limit::ITEMS], i: usize, e: Checked) -> Transition
     requires { ⌜ Room (now stack) (i + 1) ⌝ }
     ensures { λ r. ⌜ Says (now (stack .exit)) r (pushed (outcomeOf e) (stackOf (now (stack .entry)) i)) ⌝ }
 {
@@ -51,77 +66,77 @@ fn keep(stack: &mut [i32; 64], i: usize, e: Checked) -> Transition
 }
 
 // Pushes an operand.
-fn push(stack: &mut [i32; 64], depth: usize, v: i32) -> Transition
+fn push(stack: &mut [i32; limit::ITEMS], depth: usize, v: i32) -> Transition
     requires { ⌜ Room (now stack) depth ⌝ }
-    ensures { λ r. ⌜ Says (now (stack .exit)) r (pushedWithin 64 v (stackOf (now (stack .entry)) depth)) ⌝ }
+    ensures { λ r. ⌜ Says (now (stack .exit)) r (pushedWithin v (stackOf (now (stack .entry)) depth)) ⌝ }
 {
-    if 64 <= depth {
-        return Transition::Stop(13);
+    if limit::ITEMS <= depth {
+        return Transition::Stop(refusal::BAD_LINE);
     }
     keep(stack, depth, Checked::Value(v))
 }
 
-// Applies an operator of one operand.
-fn apply_unary(stack: &mut [i32; 64], depth: usize, op: u8) -> Transition
+// Applies an operator of one operand of the type t.
+fn apply_unary(stack: &mut [i32; limit::ITEMS], depth: usize, op: u8, t: u8) -> Transition
     requires { ⌜ Room (now stack) depth ⌝ }
-    ensures { λ r. ⌜ Says (now (stack .exit)) r (unaryNext op (stackOf (now (stack .entry)) depth)) ⌝ }
+    ensures { λ r. ⌜ Says (now (stack .exit)) r (unaryNext op t (stackOf (now (stack .entry)) depth)) ⌝ }
 {
     if depth < 1 {
-        return Transition::Stop(13);
+        return Transition::Stop(refusal::BAD_LINE);
     }
     let i = depth - 1;
-    let e = operators::unary(op, stack[i]);
+    let e = operators::unary(op, t, stack[i]);
     keep(stack, i, e)
 }
 
-// Applies an operator of two operands; the left one lies below the right one.
-fn apply_binary(stack: &mut [i32; 64], depth: usize, op: u8) -> Transition
+// Applies an operator of two operands of the type t; the left one lies below the right one.
+fn apply_binary(stack: &mut [i32; limit::ITEMS], depth: usize, op: u8, t: u8) -> Transition
     requires { ⌜ Room (now stack) depth ⌝ }
-    ensures { λ r. ⌜ Says (now (stack .exit)) r (binaryNext op (stackOf (now (stack .entry)) depth)) ⌝ }
+    ensures { λ r. ⌜ Says (now (stack .exit)) r (binaryNext op t (stackOf (now (stack .entry)) depth)) ⌝ }
 {
-    if depth < 2 {
-        return Transition::Stop(13);
+    if depth <= 1 {
+        return Transition::Stop(refusal::BAD_LINE);
     }
-    let i = depth - 2;
     let j = depth - 1;
-    let e = operators::binary(op, stack[i], stack[j]);
+    let i = j - 1;
+    let e = operators::binary(op, t, stack[i], stack[j]);
     keep(stack, i, e)
 }
 
-// Performs an operation: 1 and 2 are literals, 3 an input, 4 a variable, 16 and 17 take one operand, the others two.
+// Performs an operation: literals come first among the codes, then inputs and variables, then operators.
 fn step(
     op: u8,
     arg: i32,
     inputs: &[i32],
     variables: &[i32],
-    stack: &mut [i32; 64],
+    stack: &mut [i32; limit::ITEMS],
     depth: usize,
 ) -> Transition
     requires { ⌜ Room (now stack) depth ⌝ }
     ensures { λ r. ⌜ Says (now (stack .exit)) r (stepOf (now (inputs .entry)) (now (variables .entry)) (operation op arg) (stackOf (now (stack .entry)) depth)) ⌝ }
 {
-    if op < 3 {
+    if op < operation::INPUT {
         return push(stack, depth, arg);
     }
-    if op == 3 {
+    if op == operation::INPUT {
         return push(stack, depth, named(inputs, arg));
     }
-    if op == 4 {
+    if op == operation::VARIABLE {
         return push(stack, depth, named(variables, arg));
     }
-    if op < 18 {
-        return apply_unary(stack, depth, op);
+    if operation::operands(op) == 1 {
+        return apply_unary(stack, depth, op, kind(arg));
     }
-    apply_binary(stack, depth, op)
+    apply_binary(stack, depth, op, kind(arg))
 }
 
 // The number on top of the stack.
-fn top(stack: &[i32; 64], depth: usize) -> Checked
+fn top(stack: &[i32; limit::ITEMS], depth: usize) -> Checked
     requires { ⌜ Room (now stack) depth ⌝ }
     ensures { λ r. ⌜ r ≡ checkedOf (topOf (stackOf (now (stack .entry)) depth)) ⌝ }
 {
     if depth < 1 {
-        return Checked::Refused(13);
+        return Checked::Refused(refusal::BAD_LINE);
     }
     Checked::Value(stack[depth - 1])
 }
@@ -134,7 +149,7 @@ fn run(
     to: usize,
     inputs: &[i32],
     variables: &[i32],
-    stack: &mut [i32; 64],
+    stack: &mut [i32; limit::ITEMS],
 ) -> Checked
     requires { ⌜ Room (now stack) 0 ⌝ }
     ensures { λ r. ⌜ r ≡ checkedOf (valueIn (now (codes .entry)) (now (args .entry)) from to (now (inputs .entry)) (now (variables .entry))) ⌝ }
@@ -173,9 +188,9 @@ pub fn evaluate(
     variables: &[i32],
 ) -> Checked
     ensures { λ r. ⌜ r ≡ checkedOf (valueIn (now (codes .entry)) (now (args .entry)) from to (now (inputs .entry)) (now (variables .entry))) ⌝ }
-    ensures { λ r. ⌜ ((e : Expr) → opsFrom (now (codes .entry)) (now (args .entry)) from (length (ops e)) ≡ ops e → to ≡ from + length (ops e) → items e ≤ 64
+    ensures { λ r. ⌜ ((e : Expr) → opsFrom (now (codes .entry)) (now (args .entry)) from (length (ops e)) ≡ ops e → to ≡ from + length (ops e) → Performable e
         → r ≡ checkedOf (evaluateOf e (now (inputs .entry)) (now (variables .entry)))) ⌝ }
 {
-    let mut stack = [0i32; 64];
+    let mut stack = [0i32; limit::ITEMS];
     run(codes, args, from, to, inputs, variables, &mut stack)
 }

@@ -4,6 +4,7 @@ use mathlib.Core.Bool.{Bool, false}
 use mathlib.Core.List.{List, [], _∷_, _++_}
 use Prim.Native.Nat.{ℕ, _+_, _≤_}
 use Rattle.grammar.specs.Token.{Token}
+use Rattle.codes.specs.Token.{NAME, LP, RP, SEMI, ENTITY, IS, PORT, END, ARCHITECTURE, OF, BEGIN, PROCESS}
 use Rattle.grammar.specs.Tree.{Group, Body}
 use Rattle.grammar.specs.Grammar.{NonTerminal, ports, vars, body, Says, Sym, nt, tok, Fun}
 use Rattle.grammar.proofs.Steps.{Ok}
@@ -20,18 +21,18 @@ use Rattle.parser.specs.Runs.{start, headOf, toks, feed}
 
 -- "entity E is port (", ") ; end E ;"
 abbrev pub entityKinds : List ℕ
-entityKinds = 23 ∷ 1 ∷ 24 ∷ 25 ∷ 5 ∷ []
+entityKinds = ENTITY ∷ NAME ∷ IS ∷ PORT ∷ LP ∷ []
 
 abbrev pub entityEndKinds : List ℕ
-entityEndKinds = 6 ∷ 7 ∷ 26 ∷ 1 ∷ 7 ∷ []
+entityEndKinds = RP ∷ SEMI ∷ END ∷ NAME ∷ SEMI ∷ []
 
 -- "architecture A of E is begin process"
 abbrev pub architectureKinds : List ℕ
-architectureKinds = 27 ∷ 1 ∷ 28 ∷ 1 ∷ 24 ∷ 29 ∷ 30 ∷ []
+architectureKinds = ARCHITECTURE ∷ NAME ∷ OF ∷ NAME ∷ IS ∷ BEGIN ∷ PROCESS ∷ []
 
 -- "end process ; end A ;"
 abbrev pub endKinds : List ℕ
-endKinds = 26 ∷ 30 ∷ 7 ∷ 26 ∷ 1 ∷ 7 ∷ []
+endKinds = END ∷ PROCESS ∷ SEMI ∷ END ∷ NAME ∷ SEMI ∷ []
 
 -- from the beginning to r the entity was read: its ports, whose rows are written, and the index of the token behind them
 pub record EntityRead (ts : List Token) (r : Head) (before after : List ℕ) : Type 0 where
@@ -54,8 +55,8 @@ pub record ArchitectureRead (ts : List Token) (p r : Head) (before after : List 
   pub flag : Bool
   pub groups : List Group
   pub begin : Token
-  pub goes : (S : NonTerminal) (γ : List Sym) (κ : Fun (toks architectureKinds ++ (nt vars ∷ tok 29 ∷ γ)) (Says S)) → Ok (nt vars ∷ tok 29 ∷ γ)
-      → fromHead ts S false p (toks architectureKinds ++ (nt vars ∷ tok 29 ∷ γ)) κ ≡ fromHead ts S flag r γ (feed ts (p .at) S (nt vars ∷ tok 29 ∷ γ) architectureKinds κ groups begin)
+  pub goes : (S : NonTerminal) (γ : List Sym) (κ : Fun (toks architectureKinds ++ (nt vars ∷ tok BEGIN ∷ γ)) (Says S)) → Ok (nt vars ∷ tok BEGIN ∷ γ)
+      → fromHead ts S false p (toks architectureKinds ++ (nt vars ∷ tok BEGIN ∷ γ)) κ ≡ fromHead ts S flag r γ (feed ts (p .at) S (nt vars ∷ tok BEGIN ∷ γ) architectureKinds κ groups begin)
   pub wrote : r .fault ≡ 0 → WroteNames ts (declaredBy p) (declaredBy r) before after (declarations groups)
 
 -- the same over the arrays, and where it ends

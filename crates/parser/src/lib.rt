@@ -2,6 +2,7 @@
 ghost use mathlib.Core.Path.{_≡_};
 ghost use mathlib.Core.List.{List, [], _∷_};
 ghost use Prim.Native.Nat.{ℕ, _+_, _<_, _≤_};
+ghost use Rattle.codes.specs.Token.{ARCHITECTURE, BEGIN, END, IS, NAME, OF, PROCESS, SEMI};
 ghost use Rattle.cursor.specs.Reading.{Asks};
 ghost use Rattle.expressions.specs.Written.{arrays};
 ghost use Rattle.statements.specs.Rows.{output};
@@ -9,6 +10,11 @@ ghost use Rattle.declarations.specs.Heads.{AsksHead};
 ghost use Rattle.parser.specs.Runs.{start, headOf, placeOf, placeAt, expectAll};
 ghost use Rattle.parser.specs.Parts.{EntityOver, ArchitectureOver, ProcessOver};
 ghost use Rattle.parser.specs.Answers.{lent, numbersOf, ParsesOver};
+use codes::declaration;
+use codes::limit;
+use codes::refusal;
+use codes::statement;
+use codes::token;
 use cursor::Pos;
 use cursor::expect;
 use declarations::Head;
@@ -19,6 +25,13 @@ use declarations::ports;
 use declarations::variables;
 use statements::Place;
 use statements::body;
+
+// A name and a semicolon end the entity and the text.
+const LAST_NAME: usize = 2;
+// Behind the entity: `architecture A of E is begin process`.
+const OF_NAME: usize = 3;
+
+const PROCESS_WORD: usize = 6;
 
 // What is known of a text that was read: the numbers of statements, items and declared names, and the indices of the tokens that the tree has beside them.
 pub struct Parsed {
@@ -105,8 +118,8 @@ fn cursor_at(p: Place) -> Pos
 
 // Takes five tokens of these kinds.
 fn five(
-    kinds: &[u8; 16384],
-    long: &[u8; 16384],
+    kinds: &[u8; limit::TEXT],
+    long: &[u8; limit::TEXT],
     n: usize,
     q: Pos,
     a: u8,
@@ -126,61 +139,106 @@ fn five(
 }
 
 // `entity E is port ( GROUPS ) ; end E ;`
-fn entity(kinds: &[u8; 16384], long: &[u8; 16384], n: usize, decls: &mut [u16; 390]) -> Head
+fn entity(
+    kinds: &[u8; limit::TEXT],
+    long: &[u8; limit::TEXT],
+    n: usize,
+    decls: &mut [u16; declaration::ROWS],
+) -> Head
     requires { ⌜ n ≤ 16384 ⌝ }
     ensures { λ r. ⌜ EntityOver (now (kinds .entry)) (now (long .entry)) n (now (decls .entry)) r (now (decls .exit)) ⌝ }
 {
-    let a = five(kinds, long, n, beginning(), 23, 1, 24, 25, 5);
+    let a = five(
+        kinds,
+        long,
+        n,
+        beginning(),
+        token::ENTITY,
+        token::NAME,
+        token::IS,
+        token::PORT,
+        token::LP,
+    );
     let b = ports(kinds, long, n, head_of(a), decls);
-    let c = five(kinds, long, n, cursor_of(b), 6, 7, 26, 1, 7);
+    let c = five(
+        kinds,
+        long,
+        n,
+        cursor_of(b),
+        token::RP,
+        token::SEMI,
+        token::END,
+        token::NAME,
+        token::SEMI,
+    );
     head_at(c, b)
 }
 
 // `architecture A of E is begin process`
-fn architecture_words(kinds: &[u8; 16384], long: &[u8; 16384], n: usize, q: Pos) -> Pos
+fn architecture_words(kinds: &[u8; limit::TEXT], long: &[u8; limit::TEXT], n: usize, q: Pos) -> Pos
     requires { ⌜ Asks n q ⌝ }
-    ensures { λ r. ⌜ r ≡ expectAll (now (kinds .entry)) (now (long .entry)) n (27 ∷ 1 ∷ 28 ∷ 1 ∷ 24 ∷ 29 ∷ 30 ∷ []) q ⌝ }
+    ensures { λ r. ⌜ r ≡ expectAll (now (kinds .entry)) (now (long .entry)) n (ARCHITECTURE ∷ NAME ∷ OF ∷ NAME ∷ IS ∷ BEGIN ∷ PROCESS ∷ []) q ⌝ }
 {
-    let a = five(kinds, long, n, q, 27, 1, 28, 1, 24);
-    let b = expect(kinds, long, n, a, 29);
-    expect(kinds, long, n, b, 30)
+    let a = five(
+        kinds,
+        long,
+        n,
+        q,
+        token::ARCHITECTURE,
+        token::NAME,
+        token::OF,
+        token::NAME,
+        token::IS,
+    );
+    let b = expect(kinds, long, n, a, token::BEGIN);
+    expect(kinds, long, n, b, token::PROCESS)
 }
 
 // The words of the architecture, the variables and `begin`.
 fn architecture(
-    kinds: &[u8; 16384],
-    long: &[u8; 16384],
+    kinds: &[u8; limit::TEXT],
+    long: &[u8; limit::TEXT],
     n: usize,
     p: Head,
-    decls: &mut [u16; 390],
+    decls: &mut [u16; declaration::ROWS],
 ) -> Head
     requires { ⌜ AsksHead n p ⌝ }
     ensures { λ r. ⌜ ArchitectureOver (now (kinds .entry)) (now (long .entry)) n p (now (decls .entry)) r (now (decls .exit)) ⌝ }
 {
     let a = architecture_words(kinds, long, n, cursor_of(p));
     let b = variables(kinds, long, n, head_at(a, p), decls);
-    let c = expect(kinds, long, n, cursor_of(b), 29);
+    let c = expect(kinds, long, n, cursor_of(b), token::BEGIN);
     head_at(c, b)
 }
 
 // `end process ; end A ;`
-fn end_words(kinds: &[u8; 16384], long: &[u8; 16384], n: usize, q: Pos) -> Pos
+fn end_words(kinds: &[u8; limit::TEXT], long: &[u8; limit::TEXT], n: usize, q: Pos) -> Pos
     requires { ⌜ Asks n q ⌝ }
-    ensures { λ r. ⌜ r ≡ expectAll (now (kinds .entry)) (now (long .entry)) n (26 ∷ 30 ∷ 7 ∷ 26 ∷ 1 ∷ 7 ∷ []) q ⌝ }
+    ensures { λ r. ⌜ r ≡ expectAll (now (kinds .entry)) (now (long .entry)) n (END ∷ PROCESS ∷ SEMI ∷ END ∷ NAME ∷ SEMI ∷ []) q ⌝ }
 {
-    let a = five(kinds, long, n, q, 26, 30, 7, 26, 1);
-    expect(kinds, long, n, a, 7)
+    let a = five(
+        kinds,
+        long,
+        n,
+        q,
+        token::END,
+        token::PROCESS,
+        token::SEMI,
+        token::END,
+        token::NAME,
+    );
+    expect(kinds, long, n, a, token::SEMI)
 }
 
 // The statements of the process, and what ends the text.
 fn process(
-    kinds: &[u8; 16384],
-    long: &[u8; 16384],
+    kinds: &[u8; limit::TEXT],
+    long: &[u8; limit::TEXT],
     n: usize,
     p: Head,
-    codes: &mut [u8; 16384],
-    tokens: &mut [u16; 16384],
-    rows: &mut [u16; 3072],
+    codes: &mut [u8; limit::TEXT],
+    tokens: &mut [u16; limit::TEXT],
+    rows: &mut [u16; statement::ROWS],
 ) -> Place
     requires { ⌜ AsksHead n p ⌝ }
     ensures { λ r. ⌜ ProcessOver (now (kinds .entry)) (now (long .entry)) n p (output (arrays (now (codes .entry)) (now (tokens .entry))) (now (rows .entry))) r (output (arrays (now (codes .exit)) (now (tokens .exit))) (now (rows .exit))) ⌝ }
@@ -200,41 +258,41 @@ fn numbers(p: Head, q: Head, r: Place) -> Parsed
         items: r.n,
         names: declared_by(q),
         entity: 1,
-        entity_end: p.at - 2,
+        entity_end: p.at - LAST_NAME,
         arch: p.at + 1,
-        arch_of: p.at + 3,
-        process: p.at + 6,
-        arch_end: r.at - 2,
+        arch_of: p.at + OF_NAME,
+        process: p.at + PROCESS_WORD,
+        arch_end: r.at - LAST_NAME,
     }
 }
 
 // Reads a text of n tokens: kinds has their kinds, long a 1 where a name or a number passes its limit.
 // Items go to codes and tokens, statements to rows, declared names to decls. No text has more than 16384 tokens.
 pub fn parse(
-    kinds: &[u8; 16384],
-    long: &[u8; 16384],
+    kinds: &[u8; limit::TEXT],
+    long: &[u8; limit::TEXT],
     n: usize,
-    codes: &mut [u8; 16384],
-    tokens: &mut [u16; 16384],
-    rows: &mut [u16; 3072],
-    decls: &mut [u16; 390],
+    codes: &mut [u8; limit::TEXT],
+    tokens: &mut [u16; limit::TEXT],
+    rows: &mut [u16; statement::ROWS],
+    decls: &mut [u16; declaration::ROWS],
 ) -> Parsing
     ensures { λ r. ⌜ ParsesOver (now (kinds .entry)) (now (long .entry)) n (lent (output (arrays (now (codes .entry)) (now (tokens .entry))) (now (rows .entry))) (now (decls .entry))) (lent (output (arrays (now (codes .exit)) (now (tokens .exit))) (now (rows .exit))) (now (decls .exit))) r ⌝ }
 {
-    if n > 16384 {
-        return Parsing::NotParsed(3, 0);
+    if n > limit::TEXT {
+        return Parsing::NotParsed(refusal::NO_SENTENCE, 0);
     }
     let p = entity(kinds, long, n, decls);
     let q = architecture(kinds, long, n, p, decls);
     let r = process(kinds, long, n, q, codes, tokens, rows);
-    if r.fault == 3 {
-        return Parsing::NotParsed(3, r.at);
+    if r.fault == refusal::NO_SENTENCE {
+        return Parsing::NotParsed(refusal::NO_SENTENCE, r.at);
     }
     if r.fault != 0 {
-        return Parsing::NotParsed(4, r.at);
+        return Parsing::NotParsed(refusal::LIMIT_PASSED, r.at);
     }
     if r.at < n {
-        return Parsing::NotParsed(3, r.at);
+        return Parsing::NotParsed(refusal::NO_SENTENCE, r.at);
     }
     Parsing::Tree(numbers(p, q, r))
 }

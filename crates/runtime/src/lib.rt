@@ -21,6 +21,8 @@ use answers::Sections;
 use answers::Started;
 use answers::State;
 use answers::is_performed;
+use codes::limit;
+use codes::record;
 
 // A cycle's answer, the state after it, and whether it was performed.
 struct Outcome {
@@ -117,9 +119,9 @@ fn blank() -> State
     ensures { λ r. ⌜ r ≡ stateFor 512 (record { outputs = []; variables = [] }) ⌝ }
 {
     State {
-        place: 512,
-        outputs: [0i32; 16],
-        variables: [0i32; 32],
+        place: record::BEGINNING,
+        outputs: [0i32; limit::OUTPUTS],
+        variables: [0i32; limit::VARIABLES],
     }
 }
 

@@ -2,23 +2,23 @@
 -- Assumes nothing.
 use mathlib.Core.Path.{_≡_, refl, sym, _∙_, ap}
 use mathlib.Core.Bool.{Bool, true, false, _&&_, and-false}
-use mathlib.Core.List.{List, [], _∷_, _++_}
+use mathlib.Core.List.{List, [], _∷_, _++_, map}
 use Prim.Native.Nat.{ℕ, zero, suc, _+_, _≤_, _<_}
 use native.Mathlib.Omega.{arith}
 use lib.Dec.{eqb, ltb}
 use lib.ListN.{length, getD, take, drop}
 use lib.Seq.{drop-cons, getD-drop}
 use borrow.Author.Tests.{eqb-true, ltb-true, ne-eqb}
-use Rattle.language.specs.Bytes.{bytes}
+use Rattle.language.specs.Bytes.{bytes, elem}
 use Rattle.language.specs.Words.{Fixed, fixed}
-use Rattle.language.specs.Lexing.{equal}
+use Rattle.language.specs.Lexing.{all, equal}
 use Rattle.language.specs.Lexer.{begins, Start, fixedStart}
 use Rattle.language.proofs.Facts.{and-true-both}
 use Rattle.scanner.specs.declared.pieces.Piece.{Piece}
 use Rattle.scanner.specs.declared.pieces.Piece.the-variants.{Token, Nothing}
 use Rattle.scanner.specs.Fixed.{fixedKind, ofLength}
 use Rattle.scanner.specs.Pieces.{placed}
-use Rattle.scanner.proofs.WordLaws.{begins-take}
+use Rattle.scanner.proofs.WordLaws.{begins-take, Missed, missed, not-among}
 
 -- a token of the kind k up to e; where k is 0, something else
 abbrev tokenOr : ℕ → ℕ → Piece → Piece
@@ -154,26 +154,14 @@ pub not-two-last : (b c : ℕ) → (c ≡ 61 → ⊥) → 0 ≡ fixedKind (ofLen
 unfolding fixedKind ofLength fixed bytes equal
 not-two-last b c h = simp (ne-eqb 61 c (λ e. h (sym e)), and-false)
 
-pub not-two-first : (b : ℕ) → (b ≡ 58 → ⊥) → (b ≡ 47 → ⊥) → (b ≡ 60 → ⊥) → (b ≡ 62 → ⊥) → 0 ≡ fixedKind (ofLength 2 fixed) (b ∷ 61 ∷ [])
-unfolding fixedKind ofLength fixed bytes equal
-not-two-first b h k l m = rw (ne-eqb 58 b (λ e. h (sym e)), ne-eqb 47 b (λ e. k (sym e)), ne-eqb 60 b (λ e. l (sym e)), ne-eqb 62 b (λ e. m (sym e)))
+abbrev pub first : List ℕ → ℕ
+first w = getD w 0 0
 
-pub not-one : (b : ℕ) → (b ≡ 40 → ⊥) → (b ≡ 41 → ⊥) → (b ≡ 59 → ⊥) → (b ≡ 58 → ⊥) → (b ≡ 44 → ⊥) → (b ≡ 43 → ⊥) → (b ≡ 45 → ⊥) → (b ≡ 61 → ⊥)
-    → (b ≡ 60 → ⊥) → (b ≡ 62 → ⊥) → (b ≡ 42 → ⊥) → (b ≡ 47 → ⊥)
-    → 0 ≡ fixedKind (ofLength 1 fixed) (b ∷ [])
-unfolding fixedKind ofLength fixed bytes equal
-not-one b h40 h41 h59 h58 h44 h43 h45 h61 h60 h62 h42 h47 =
-    rw (
-      ne-eqb 40 b (λ e. h40 (sym e)),
-      ne-eqb 41 b (λ e. h41 (sym e)),
-      ne-eqb 59 b (λ e. h59 (sym e)),
-      ne-eqb 58 b (λ e. h58 (sym e)),
-      ne-eqb 44 b (λ e. h44 (sym e)),
-      ne-eqb 43 b (λ e. h43 (sym e)),
-      ne-eqb 45 b (λ e. h45 (sym e)),
-      ne-eqb 61 b (λ e. h61 (sym e)),
-      ne-eqb 60 b (λ e. h60 (sym e)),
-      ne-eqb 62 b (λ e. h62 (sym e)),
-      ne-eqb 42 b (λ e. h42 (sym e)),
-      ne-eqb 47 b (λ e. h47 (sym e)),
-    )
+-- what begins with none of the bytes is no fixed token
+pub no-mark : (ks : List ℕ) (fs : List Fixed) (b : ℕ) (t : List ℕ) → all (λ (c : ℕ). elem c ks) (map (λ (f : Fixed). first (f .bytes)) fs) ≡ true
+    → Missed b ks Unit → 0 ≡ fixedKind fs (b ∷ t)
+unfolding fixedKind all
+no-mark ks [] b t a m = refl
+no-mark ks (f ∷ fs) b t a m =
+    let u = and-true-both (elem (first (f .bytes)) ks) (all (λ (c : ℕ). elem c ks) (map (λ (f : Fixed). first (f .bytes)) fs)) a in
+    rw (not-among first (λ (c : ℕ). elem c ks) (f .bytes) (b ∷ t) (u .0) ((missed b ks m) .1)) (no-mark ks fs b t (u .1) m)

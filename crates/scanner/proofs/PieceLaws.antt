@@ -9,7 +9,7 @@ use lib.Dec.{eqb}
 use lib.ListN.{length, getD, take, drop, drop-of-length-le}
 use lib.Seq.{drop-cons, getD-drop, take-at}
 use borrow.Author.Tests.{eq-eqb, ne-eqb}
-use Rattle.grammar.specs.Token.{NUMBER}
+use Rattle.codes.specs.Token.{NUMBER}
 use Rattle.language.specs.Bytes.{ByteKind, letter, digit, underscore, blank, quote, mark, none, byteKind, kindCode, is, isDigit, inWord, notLF, lower}
 use Rattle.language.specs.Words.{wellMade, folded, reserved, wordKind, fixed, peek, isDashes}
 use Rattle.language.specs.Lexer.{run, fixedStart, wordStart, numberStart, startFrom, startOf}
@@ -17,7 +17,7 @@ use Rattle.language.proofs.Lexing.{run-is}
 use Rattle.scanner.specs.declared.pieces.Piece.the-variants.{Gap, Token, Nothing}
 use Rattle.scanner.specs.Places.{runEnd, part}
 use Rattle.scanner.specs.Pieces.{placed, pieceFrom, pieceAt}
-use Rattle.scanner.specs.Reserved.{spelledKind}
+use Rattle.scanner.specs.Reserved.{reservedKind}
 use Rattle.scanner.proofs.WordLaws.{reserved-kind}
 
 -- the part up to a run's end is the run
@@ -35,13 +35,13 @@ module _ (text : List ℕ) (at end : ℕ) (e : end ≡ runEnd inWord text at) wh
   unfolding wordStart
   word-bad g = let h : wellMade false (run inWord (drop at text)) ≡ false = ap (wellMade false) (sym the-word) ∙ g in rw h
 
-  pub word-good : (k : ℕ) → wellMade false (part text at (end - at)) ≡ true → k ≡ spelledKind reserved (map lower (part text at (end - at)))
+  pub word-good : (k : ℕ) → wellMade false (part text at (end - at)) ≡ true → k ≡ reservedKind (map lower (part text at (end - at)))
       → Token k end ≡ placed (wordStart (run inWord (drop at text))) at
   unfolding wordStart
   word-good k g s =
       let h : wellMade false (run inWord (drop at text)) ≡ true = ap (wellMade false) (sym the-word) ∙ g in
       let q : k ≡ wordKind reserved (folded 0 (run inWord (drop at text))) = s
-      ∙ (ap (λ (w : List ℕ). spelledKind reserved (map lower w)) the-word
+      ∙ (ap (λ (w : List ℕ). reservedKind (map lower w)) the-word
       ∙ reserved-kind (run inWord (drop at text)) ((run-is inWord (drop at text)) .passes)) in
       rw (h, q, e)
 

@@ -9,7 +9,7 @@ use lib.Dec.{eqb}
 use lib.ListN.{length, getD, take, drop, drop-of-length-le, length-take, length-drop, length-map}
 use lib.Seq.{drop-cons}
 use borrow.Author.Tests.{eqb-false, eq-eqb, ne-eqb}
-use Rattle.grammar.specs.Token.{NAME}
+use Rattle.codes.specs.Token.{NAME}
 use Rattle.language.specs.Bytes.{bytes, between, elem, byteKind, is, isUnder, inWord, lower}
 use Rattle.language.specs.Words.{wellMade, Word, reserved, folded, wordKind}
 use Rattle.language.specs.Lexing.{all, equal}
@@ -18,49 +18,47 @@ use Rattle.language.proofs.Facts.{clash, and-true-both}
 use Rattle.language.proofs.Lexing.{equal-is, equal-refl}
 use Rattle.language.proofs.Folding.{one-name}
 use Rattle.scanner.specs.Places.{part}
-use Rattle.scanner.specs.Reserved.{spelledKind, keepIf, ofSize}
-
--- the part from i up to an end begins with the byte at i
-pub part-cons : (text : List ℕ) (i end : ℕ) → i < end → end ≤ length text → part text i (end - i) ≡ getD text i 0 ∷ part text (i + 1) (end - (i + 1))
-part-cons text i end h l =
-    let n : end - i ≡ suc (end - (i + 1)) = omega arith in
-    rw (n, drop-cons text i 0 (omega arith), add-one i)
-
-pub part-none : (text : List ℕ) (i end : ℕ) → end ≤ i → part text i (end - i) ≡ []
-part-none text i end h = let n : end - i ≡ 0 = omega arith in rw n
+use Rattle.scanner.specs.Reserved.{spelledKind, reservedKind, keepIf, ofSize}
 
 -- one byte more of a word, u saying that an underscore stands before it, and here that it is one
-module _ (text : List ℕ) (i end : ℕ) (u here : Bool) (h : i < end) (l : end ≤ length text) (q : here ≡ isUnder (getD text i 0)) where
-  pub made-again : (u && here) ≡ false → wellMade here (part text (i + 1) (end - (i + 1))) ≡ wellMade u (part text i (end - i))
+module _ (word : List ℕ) (i : ℕ) (u here : Bool) (h : i < length word) (q : here ≡ isUnder (getD word i 0)) where
+  pub made-again : (u && here) ≡ false → wellMade here (drop (i + 1) word) ≡ wellMade u (drop i word)
   unfolding wellMade
-  made-again e = rw (part-cons text i end h l, ← q, e)
+  made-again e = rw (drop-cons word i 0 h, add-one i, ← q, e)
 
-  pub made-stop : (u && here) ≡ true → wellMade u (part text i (end - i)) ≡ false
+  pub made-stop : (u && here) ≡ true → wellMade u (drop i word) ≡ false
   unfolding wellMade
-  made-stop e = rw (part-cons text i end h l, ← q, e)
+  made-stop e = rw (drop-cons word i 0 h, ← q, e)
 
-pub made-end : (text : List ℕ) (i end : ℕ) (u : Bool) → end ≤ i → wellMade u (part text i (end - i)) ≡ not u
+pub made-end : (word : List ℕ) (i : ℕ) (u : Bool) → length word ≤ i → wellMade u (drop i word) ≡ not u
 unfolding wellMade
-made-end text i end u h = rw (part-none text i end h)
+made-end word i u h = rw (drop-of-length-le word h)
 
--- one byte more of a word and of the text
-module _ (word text : List ℕ) (k i : ℕ) where
-  pub spells-again : k < length word → i < length text → lower (getD text i 0) ≡ getD word k 0
-      → begins (drop (k + 1) word) (map lower (drop (i + 1) text)) ≡ begins (drop k word) (map lower (drop i text))
-  unfolding begins
-  spells-again h l e = rw (drop-cons word k 0 h, drop-cons text i 0 l, add-one k, add-one i, e, eq-eqb (getD word k 0) (getD word k 0) refl)
+-- one byte more of a spelling w and of a word x as long
+module _ (w x : List ℕ) (i : ℕ) where
+  pub spells-again : i < length w → length x ≡ length w → lower (getD x i 0) ≡ getD w i 0
+      → equal (drop (i + 1) w) (map lower (drop (i + 1) x)) ≡ equal (drop i w) (map lower (drop i x))
+  unfolding equal
+  spells-again h l e = rw (drop-cons w i 0 h, drop-cons x i 0 (omega arith), add-one i, e, eq-eqb (getD w i 0) (getD w i 0) refl)
 
-  pub spells-differs : k < length word → i < length text → (lower (getD text i 0) ≡ getD word k 0 → ⊥) → begins (drop k word) (map lower (drop i text)) ≡ false
-  unfolding begins
-  spells-differs h l e = rw (drop-cons word k 0 h, drop-cons text i 0 l, ne-eqb (getD word k 0) (lower (getD text i 0)) (λ f. e (sym f)))
+  pub spells-differs : i < length w → length x ≡ length w → (lower (getD x i 0) ≡ getD w i 0 → ⊥) → equal (drop i w) (map lower (drop i x)) ≡ false
+  unfolding equal
+  spells-differs h l e = rw (drop-cons w i 0 h, drop-cons x i 0 (omega arith), ne-eqb (getD w i 0) (lower (getD x i 0)) (λ f. e (sym f)))
 
-  pub spells-short : k < length word → length text ≤ i → begins (drop k word) (map lower (drop i text)) ≡ false
-  unfolding begins
-  spells-short h l = rw (drop-cons word k 0 h, drop-of-length-le text l)
+  pub spells-end : length w ≤ i → length x ≡ length w → equal (drop i w) (map lower (drop i x)) ≡ true
+  unfolding equal
+  spells-end h l = let k : length x ≤ i = omega arith in rw (drop-of-length-le w h, drop-of-length-le x k)
 
-  pub spells-end : length word ≤ k → begins (drop k word) (map lower (drop i text)) ≡ true
-  unfolding begins
-  spells-end h = rw (drop-of-length-le word h)
+-- what two words differ in tells them apart
+apart : (f : List ℕ → ℕ) (w x : List ℕ) → (f w ≡ f x → ⊥) → equal w x ≡ false
+apart f w x h = go (equal w x) refl
+  where
+    go : (q : Bool) → equal w x ≡ q → q ≡ false
+    go false e = refl
+    go true e = absurd (h (ap f (equal-is w x e)))
+
+pub spells-length : (w x : List ℕ) → (length x ≡ length w → ⊥) → equal w (map lower x) ≡ false
+spells-length w x h = apart length w (map lower x) (λ e. h (sym (e ∙ length-map x lower)))
 
 -- that a text begins with w, and that as many of its bytes are w
 pub begins-take : (w l : List ℕ) → begins w l ≡ equal w (take (length w) l)
@@ -69,75 +67,59 @@ begins-take [] l = refl
 begins-take (b ∷ w) [] = refl
 begins-take (b ∷ w) (c ∷ l) = ap (λ (q : Bool). eqb b c && q) (begins-take w l)
 
-take-map : (f : ℕ → ℕ) (n : ℕ) (l : List ℕ) → take n (map f l) ≡ map f (take n l)
-take-map f zero l = refl
-take-map f (suc n) [] = refl
-take-map f (suc n) (b ∷ l) = ap (λ (k : List ℕ). f b ∷ k) (take-map f n l)
-
--- a test by begins says whether as many bytes are the word
-pub spelled : (w l : List ℕ) {q r : Bool} → r ≡ begins w (map lower l) → r ≡ q → equal w (map lower (take (length w) l)) ≡ q
-spelled w l e t = ap (equal w) (sym (take-map lower (length w) l)) ∙ (sym (begins-take w (map lower l)) ∙ (sym e ∙ t))
-
--- the first reserved word of a list: it is that one, it is another, or it is the last or none
-module _ (w : Word) (ws : List Word) (x : List ℕ) where
-  pub kind-here : equal (w .bytes) x ≡ true → w .kind ≡ spelledKind (w ∷ ws) x
-  unfolding spelledKind
-  kind-here e = rw e
-
-  pub kind-on : {r : ℕ} → equal (w .bytes) x ≡ false → r ≡ spelledKind ws x → r ≡ spelledKind (w ∷ ws) x
-  unfolding spelledKind
-  kind-on e s = rw e s
-
-pub kind-last : (w : Word) (x : List ℕ) {r : ℕ} {q : Bool} → equal (w .bytes) x ≡ q → r ≡ cond q (w .kind) NAME → r ≡ spelledKind (w ∷ []) x
+-- a reserved word and the rest of the list
+pub word-rest : (w : Word) (ws : List Word) (x : List ℕ) (r s : ℕ) → r ≡ cond (equal (w .bytes) x) (w .kind) s → s ≡ spelledKind ws x → r ≡ spelledKind (w ∷ ws) x
 unfolding spelledKind
-kind-last w x e s = rw e s
+word-rest w ws x r s e h = e ∙ ap (cond (equal (w .bytes) x) (w .kind)) h
 
-equal-length : (w v : List ℕ) → equal w v ≡ true → length w ≡ length v
-equal-length w v e = ap length (equal-is w v e)
+pub no-rest : (x : List ℕ) → NAME ≡ spelledKind [] x
+unfolding spelledKind
+no-rest x = refl
 
--- only the words as long as x are compared with it
-pub sized : (ws : List Word) (x : List ℕ) → spelledKind ws x ≡ spelledKind (ofSize (length x) ws) x
+-- only the words as long as x can be x
+sized : (ws : List Word) (x : List ℕ) → spelledKind (ofSize (length x) ws) x ≡ spelledKind ws x
 unfolding spelledKind ofSize
 sized [] x = refl
 sized (w ∷ ws) x = go (eqb (length (w .bytes)) (length x)) refl (sized ws x)
   where
-    differs : (q : Bool) → equal (w .bytes) x ≡ q → (length (w .bytes) ≡ length x → ⊥) → q ≡ false
-    differs false e h = refl
-    differs true e h = absurd (h (equal-length (w .bytes) x e))
-
-    go : (q : Bool) → eqb (length (w .bytes)) (length x) ≡ q → spelledKind ws x ≡ spelledKind (ofSize (length x) ws) x
-        → spelledKind (w ∷ ws) x ≡ spelledKind (keepIf q w (ofSize (length x) ws)) x
+    go : (q : Bool) → eqb (length (w .bytes)) (length x) ≡ q → spelledKind (ofSize (length x) ws) x ≡ spelledKind ws x
+        → spelledKind (keepIf q w (ofSize (length x) ws)) x ≡ spelledKind (w ∷ ws) x
     go true e h = ap (cond (equal (w .bytes) x) (w .kind)) h
-    go false e h = rw (differs (equal (w .bytes) x) refl (eqb-false (length (w .bytes)) (length x) e)) h
+    go false e h = rw (apart length (w .bytes) x (eqb-false (length (w .bytes)) (length x) e)) h
 
-pub part-length : (text : List ℕ) (at size : ℕ) → at + size ≤ length text → length (map lower (part text at size)) ≡ size
-part-length text at size h = simp (length-map, length-take, length-drop) (omega arith)
+pub by-size : (w : List ℕ) (n r : ℕ) → length w ≡ n → r ≡ spelledKind (ofSize n reserved) (map lower w) → r ≡ reservedKind (map lower w)
+unfolding reservedKind
+by-size w n r e h = h ∙ (ap (λ (m : ℕ). spelledKind (ofSize m reserved) (map lower w)) (sym (length-map w lower ∙ e)) ∙ sized reserved (map lower w))
 
--- a word's kind from those of its size
-pub by-size : (text : List ℕ) (at size n r : ℕ) → at + size ≤ length text → size ≡ n
-    → r ≡ spelledKind (ofSize n reserved) (map lower (part text at n)) → r ≡ spelledKind reserved (map lower (part text at size))
-by-size text at size n r h e s =
-    s ∙ (ap (λ (m : ℕ). spelledKind (ofSize m reserved) (map lower (part text at m))) (sym e)
-    ∙ (ap (λ (m : ℕ). spelledKind (ofSize m reserved) (map lower (part text at size))) (sym (part-length text at size h))
-    ∙ sym (sized reserved (map lower (part text at size)))))
+-- what an arm of a match on the size answers, found from the facts on the way to it: a step for each of its rows
+pub ruleset arms = (by-size, word-rest, no-rest)
+
+-- b is none of the keys of a match, as its last arm knows
+abbrev pub Missed : ℕ → List ℕ → Type 0 → Type 0
+Missed b [] P = P
+Missed b (k ∷ ks) P = Missed b ks (P × (b ≡ k → ⊥))
+
+pub missed : (b : ℕ) (ks : List ℕ) {P : Type 0} → Missed b ks P → P × (elem b ks ≡ false)
+unfolding elem
+missed b [] m = (m, refl)
+missed b (k ∷ ks) m = let h = missed b ks m in (h .0 .0, rw (ne-eqb b k (h .0 .1)) (h .1))
+
+-- two words are apart where what they are asked for passes a test in one and fails it in the other
+pub not-among : (f : List ℕ → ℕ) (p : ℕ → Bool) (w x : List ℕ) → p (f w) ≡ true → p (f x) ≡ false → equal w x ≡ false
+not-among f p w x t h = apart f w x (λ e. clash (sym t ∙ (ap p e ∙ h)))
+
+no-size : (p : ℕ → Bool) (ws : List Word) (x : List ℕ) → p (length x) ≡ false → all p (map (λ (w : Word). length (w .bytes)) ws) ≡ true → NAME ≡ spelledKind ws x
+unfolding spelledKind all
+no-size p [] x f a = refl
+no-size p (w ∷ ws) x f a =
+    let u = and-true-both (p (length (w .bytes))) (all p (map (λ (w : Word). length (w .bytes)) ws)) a in
+    rw (not-among length p (w .bytes) x (u .0) f) (no-size p ws x f (u .1))
 
 -- no reserved word has another size
-pub other-size : (size : ℕ) (x : List ℕ) → (size ≡ 2 → ⊥) → (size ≡ 3 → ⊥) → (size ≡ 4 → ⊥) → (size ≡ 5 → ⊥) → (size ≡ 6 → ⊥) → (size ≡ 7 → ⊥)
-    → (size ≡ 8 → ⊥) → (size ≡ 9 → ⊥) → (size ≡ 12 → ⊥)
-    → NAME ≡ spelledKind (ofSize size reserved) x
-unfolding spelledKind ofSize reserved bytes
-other-size size x h2 h3 h4 h5 h6 h7 h8 h9 h12 =
-    rw (
-      ne-eqb 6 size (λ e. h6 (sym e)),
-      ne-eqb 2 size (λ e. h2 (sym e)),
-      ne-eqb 4 size (λ e. h4 (sym e)),
-      ne-eqb 3 size (λ e. h3 (sym e)),
-      ne-eqb 12 size (λ e. h12 (sym e)),
-      ne-eqb 5 size (λ e. h5 (sym e)),
-      ne-eqb 7 size (λ e. h7 (sym e)),
-      ne-eqb 8 size (λ e. h8 (sym e)),
-      ne-eqb 9 size (λ e. h9 (sym e)),
-    )
+pub by-none : (ks w : List ℕ) → all (λ (n : ℕ). elem n ks) (map (λ (w : Word). length (w .bytes)) reserved) ≡ true → Missed (length w) ks Unit
+    → NAME ≡ reservedKind (map lower w)
+unfolding reservedKind
+by-none ks w a m = no-size (λ (n : ℕ). elem n ks) reserved (map lower w) (rw (length-map w lower) ((missed (length w) ks m) .1)) a
 
 -- the reserved words are words in lower case
 plain : List Word → Bool
@@ -167,5 +149,6 @@ spelled-kind (w ∷ ws) x p q =
     (sym (equal-is (map lower (w .bytes)) (w .bytes) (v .1))) ∙ folded-equal (w .bytes) x (v .0) q in
     rw l (ap (cond (eqb (folded 0 (w .bytes)) (folded 0 x)) (w .kind)) (spelled-kind ws x (u .1) q))
 
-pub reserved-kind : (x : List ℕ) → all inWord x ≡ true → spelledKind reserved (map lower x) ≡ wordKind reserved (folded 0 x)
+pub reserved-kind : (x : List ℕ) → all inWord x ≡ true → reservedKind (map lower x) ≡ wordKind reserved (folded 0 x)
+unfolding reservedKind
 reserved-kind x q = spelled-kind reserved x plain-reserved q

@@ -4,14 +4,18 @@ use mathlib.Core.List.{List, [], _∷_}
 use Prim.Native.Nat.{ℕ}
 use lib.Dec.{eqb}
 use lib.ListN.{length}
-use Rattle.grammar.specs.Token.{NAME}
-use Rattle.language.specs.Words.{Word}
+use Rattle.codes.specs.Token.{NAME}
+use Rattle.language.specs.Words.{Word, reserved}
 use Rattle.language.specs.Lexing.{equal}
 
 -- "Each reserved word is a fixed byte string matched against a token folded to lower case": the kind of the first that w is, else a name
 unfoldable pub spelledKind : List Word → List ℕ → ℕ
 spelledKind [] w = NAME
 spelledKind (r ∷ rs) w = cond (equal (r .bytes) w) (r .kind) (spelledKind rs w)
+
+-- the kind of a word in lower case: that of its reserved word, else a name
+unfoldable pub reservedKind : List ℕ → ℕ
+reservedKind w = spelledKind reserved w
 
 -- a word kept or left out
 abbrev pub keepIf : Bool → Word → List Word → List Word

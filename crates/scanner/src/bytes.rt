@@ -6,7 +6,7 @@ ghost use Rattle.scanner.specs.Kinds.{Kinds};
 use crate::kinds;
 
 // The kind of a byte, by the table.
-pub(crate) fn kind_of(table: &[u8; 256], b: u8) -> u8
+pub(crate) fn kind_of(table: &[u8; kinds::BYTES], b: u8) -> u8
     requires { ⌜ Kinds (now table) ⌝ }
     ensures { λ r. ⌜ r ≡ kindCode (byteKind b) ⌝ }
 {
@@ -14,21 +14,21 @@ pub(crate) fn kind_of(table: &[u8; 256], b: u8) -> u8
 }
 
 // "letters, digits and underscores": the first three kinds.
-pub(crate) fn in_word(table: &[u8; 256], b: u8) -> bool
+pub(crate) fn in_word(table: &[u8; kinds::BYTES], b: u8) -> bool
     requires { ⌜ Kinds (now table) ⌝ }
     ensures { λ r. ⌜ r ≡ inWord b ⌝ }
 {
     kind_of(table, b) <= kinds::UNDERSCORE
 }
 
-pub(crate) fn is_digit(table: &[u8; 256], b: u8) -> bool
+pub(crate) fn is_digit(table: &[u8; kinds::BYTES], b: u8) -> bool
     requires { ⌜ Kinds (now table) ⌝ }
     ensures { λ r. ⌜ r ≡ isDigit b ⌝ }
 {
     kind_of(table, b) == kinds::DIGIT
 }
 
-pub(crate) fn is_underscore(table: &[u8; 256], b: u8) -> bool
+pub(crate) fn is_underscore(table: &[u8; kinds::BYTES], b: u8) -> bool
     requires { ⌜ Kinds (now table) ⌝ }
     ensures { λ r. ⌜ r ≡ isUnder b ⌝ }
 {
@@ -36,7 +36,7 @@ pub(crate) fn is_underscore(table: &[u8; 256], b: u8) -> bool
 }
 
 // Asked in the lexer's loop, which passes blanks itself.
-pub fn is_blank(table: &[u8; 256], b: u8) -> bool
+pub fn is_blank(table: &[u8; kinds::BYTES], b: u8) -> bool
     requires { ⌜ Kinds (now table) ⌝ }
     ensures { λ r. ⌜ r ≡ is blank b ⌝ }
 {
@@ -52,12 +52,15 @@ fn is_between(low: u8, high: u8, b: u8) -> bool
     b <= high
 }
 
+// How far a small letter lies behind its capital.
+const CASE: u8 = b'a' - b'A';
+
 // A capital as its small letter. No kind: the table does not tell it.
 pub fn lower_case(b: u8) -> u8
     ensures { λ r. ⌜ r ≡ lower b ⌝ }
 {
     if is_between(b'A', b'Z', b) {
-        return b + 32;
+        return b + CASE;
     }
     b
 }

@@ -16,268 +16,271 @@ pub(crate) const MARK: u8 = 5;
 
 pub(crate) const NONE: u8 = 6;
 
+// How many bytes there are.
+pub const BYTES: usize = 256;
+
 // The kind of each byte; behind it the byte, and what it is.
-const KINDS: [u8; 256] = [
-    NONE, // 0 NUL
-    NONE, // 1
-    NONE, // 2
-    NONE, // 3
-    NONE, // 4
-    NONE, // 5
-    NONE, // 6
-    NONE, // 7
-    NONE, // 8
-    BLANK, // 9 tab
-    BLANK, // 10 LF
-    NONE, // 11 VT
-    NONE, // 12 FF
-    BLANK, // 13 CR
-    NONE, // 14
-    NONE, // 15
-    NONE, // 16
-    NONE, // 17
-    NONE, // 18
-    NONE, // 19
-    NONE, // 20
-    NONE, // 21
-    NONE, // 22
-    NONE, // 23
-    NONE, // 24
-    NONE, // 25
-    NONE, // 26
-    NONE, // 27
-    NONE, // 28
-    NONE, // 29
-    NONE, // 30
-    NONE, // 31
-    BLANK, // 32 space
-    NONE, // 33 !
-    NONE, // 34 "
-    NONE, // 35 #
-    NONE, // 36 $
-    NONE, // 37 %
-    NONE, // 38 &
-    QUOTE, // 39 '
-    MARK, // 40 (
-    MARK, // 41 )
-    MARK, // 42 *
-    MARK, // 43 +
-    MARK, // 44 ,
-    MARK, // 45 -
-    NONE, // 46 .
-    MARK, // 47 /
-    DIGIT, // 48 0
-    DIGIT, // 49 1
-    DIGIT, // 50 2
-    DIGIT, // 51 3
-    DIGIT, // 52 4
-    DIGIT, // 53 5
-    DIGIT, // 54 6
-    DIGIT, // 55 7
-    DIGIT, // 56 8
-    DIGIT, // 57 9
-    MARK, // 58 :
-    MARK, // 59 ;
-    MARK, // 60 <
-    MARK, // 61 =
-    MARK, // 62 >
-    NONE, // 63 ?
-    NONE, // 64 @
-    LETTER, // 65 A
-    LETTER, // 66 B
-    LETTER, // 67 C
-    LETTER, // 68 D
-    LETTER, // 69 E
-    LETTER, // 70 F
-    LETTER, // 71 G
-    LETTER, // 72 H
-    LETTER, // 73 I
-    LETTER, // 74 J
-    LETTER, // 75 K
-    LETTER, // 76 L
-    LETTER, // 77 M
-    LETTER, // 78 N
-    LETTER, // 79 O
-    LETTER, // 80 P
-    LETTER, // 81 Q
-    LETTER, // 82 R
-    LETTER, // 83 S
-    LETTER, // 84 T
-    LETTER, // 85 U
-    LETTER, // 86 V
-    LETTER, // 87 W
-    LETTER, // 88 X
-    LETTER, // 89 Y
-    LETTER, // 90 Z
-    NONE, // 91 [
-    NONE, // 92 \
-    NONE, // 93 ]
-    NONE, // 94 ^
-    UNDERSCORE, // 95 _
-    NONE, // 96 `
-    LETTER, // 97 a
-    LETTER, // 98 b
-    LETTER, // 99 c
-    LETTER, // 100 d
-    LETTER, // 101 e
-    LETTER, // 102 f
-    LETTER, // 103 g
-    LETTER, // 104 h
-    LETTER, // 105 i
-    LETTER, // 106 j
-    LETTER, // 107 k
-    LETTER, // 108 l
-    LETTER, // 109 m
-    LETTER, // 110 n
-    LETTER, // 111 o
-    LETTER, // 112 p
-    LETTER, // 113 q
-    LETTER, // 114 r
-    LETTER, // 115 s
-    LETTER, // 116 t
-    LETTER, // 117 u
-    LETTER, // 118 v
-    LETTER, // 119 w
-    LETTER, // 120 x
-    LETTER, // 121 y
-    LETTER, // 122 z
-    NONE, // 123 {
-    NONE, // 124 |
-    NONE, // 125 }
-    NONE, // 126 ~
-    NONE, // 127
-    NONE, // 128
-    NONE, // 129
-    NONE, // 130
-    NONE, // 131
-    NONE, // 132
-    NONE, // 133
-    NONE, // 134
-    NONE, // 135
-    NONE, // 136
-    NONE, // 137
-    NONE, // 138
-    NONE, // 139
-    NONE, // 140
-    NONE, // 141
-    NONE, // 142
-    NONE, // 143
-    NONE, // 144
-    NONE, // 145
-    NONE, // 146
-    NONE, // 147
-    NONE, // 148
-    NONE, // 149
-    NONE, // 150
-    NONE, // 151
-    NONE, // 152
-    NONE, // 153
-    NONE, // 154
-    NONE, // 155
-    NONE, // 156
-    NONE, // 157
-    NONE, // 158
-    NONE, // 159
-    NONE, // 160
-    NONE, // 161
-    NONE, // 162
-    NONE, // 163
-    NONE, // 164
-    NONE, // 165
-    NONE, // 166
-    NONE, // 167
-    NONE, // 168
-    NONE, // 169
-    NONE, // 170
-    NONE, // 171
-    NONE, // 172
-    NONE, // 173
-    NONE, // 174
-    NONE, // 175
-    NONE, // 176
-    NONE, // 177
-    NONE, // 178
-    NONE, // 179
-    NONE, // 180
-    NONE, // 181
-    NONE, // 182
-    NONE, // 183
-    NONE, // 184
-    NONE, // 185
-    NONE, // 186
-    NONE, // 187
-    NONE, // 188
-    NONE, // 189
-    NONE, // 190
-    NONE, // 191
-    NONE, // 192
-    NONE, // 193
-    NONE, // 194
-    NONE, // 195
-    NONE, // 196
-    NONE, // 197
-    NONE, // 198
-    NONE, // 199
-    NONE, // 200
-    NONE, // 201
-    NONE, // 202
-    NONE, // 203
-    NONE, // 204
-    NONE, // 205
-    NONE, // 206
-    NONE, // 207
-    NONE, // 208
-    NONE, // 209
-    NONE, // 210
-    NONE, // 211
-    NONE, // 212
-    NONE, // 213
-    NONE, // 214
-    NONE, // 215
-    NONE, // 216
-    NONE, // 217
-    NONE, // 218
-    NONE, // 219
-    NONE, // 220
-    NONE, // 221
-    NONE, // 222
-    NONE, // 223
-    NONE, // 224
-    NONE, // 225
-    NONE, // 226
-    NONE, // 227
-    NONE, // 228
-    NONE, // 229
-    NONE, // 230
-    NONE, // 231
-    NONE, // 232
-    NONE, // 233
-    NONE, // 234
-    NONE, // 235
-    NONE, // 236
-    NONE, // 237
-    NONE, // 238
-    NONE, // 239
-    NONE, // 240
-    NONE, // 241
-    NONE, // 242
-    NONE, // 243
-    NONE, // 244
-    NONE, // 245
-    NONE, // 246
-    NONE, // 247
-    NONE, // 248
-    NONE, // 249
-    NONE, // 250
-    NONE, // 251
-    NONE, // 252
-    NONE, // 253
-    NONE, // 254
-    NONE, // 255
+const KINDS: [u8; BYTES] = [
+    NONE, // 0x00 NUL
+    NONE, // 0x01
+    NONE, // 0x02
+    NONE, // 0x03
+    NONE, // 0x04
+    NONE, // 0x05
+    NONE, // 0x06
+    NONE, // 0x07
+    NONE, // 0x08
+    BLANK, // 0x09 tab
+    BLANK, // 0x0a LF
+    NONE, // 0x0b VT
+    NONE, // 0x0c FF
+    BLANK, // 0x0d CR
+    NONE, // 0x0e
+    NONE, // 0x0f
+    NONE, // 0x10
+    NONE, // 0x11
+    NONE, // 0x12
+    NONE, // 0x13
+    NONE, // 0x14
+    NONE, // 0x15
+    NONE, // 0x16
+    NONE, // 0x17
+    NONE, // 0x18
+    NONE, // 0x19
+    NONE, // 0x1a
+    NONE, // 0x1b
+    NONE, // 0x1c
+    NONE, // 0x1d
+    NONE, // 0x1e
+    NONE, // 0x1f
+    BLANK, // 0x20 space
+    NONE, // 0x21 !
+    NONE, // 0x22 "
+    NONE, // 0x23 #
+    NONE, // 0x24 $
+    NONE, // 0x25 %
+    NONE, // 0x26 &
+    QUOTE, // 0x27 '
+    MARK, // 0x28 (
+    MARK, // 0x29 )
+    MARK, // 0x2a *
+    MARK, // 0x2b +
+    MARK, // 0x2c ,
+    MARK, // 0x2d -
+    NONE, // 0x2e .
+    MARK, // 0x2f /
+    DIGIT, // 0x30 0
+    DIGIT, // 0x31 1
+    DIGIT, // 0x32 2
+    DIGIT, // 0x33 3
+    DIGIT, // 0x34 4
+    DIGIT, // 0x35 5
+    DIGIT, // 0x36 6
+    DIGIT, // 0x37 7
+    DIGIT, // 0x38 8
+    DIGIT, // 0x39 9
+    MARK, // 0x3a :
+    MARK, // 0x3b ;
+    MARK, // 0x3c <
+    MARK, // 0x3d =
+    MARK, // 0x3e >
+    NONE, // 0x3f ?
+    NONE, // 0x40 @
+    LETTER, // 0x41 A
+    LETTER, // 0x42 B
+    LETTER, // 0x43 C
+    LETTER, // 0x44 D
+    LETTER, // 0x45 E
+    LETTER, // 0x46 F
+    LETTER, // 0x47 G
+    LETTER, // 0x48 H
+    LETTER, // 0x49 I
+    LETTER, // 0x4a J
+    LETTER, // 0x4b K
+    LETTER, // 0x4c L
+    LETTER, // 0x4d M
+    LETTER, // 0x4e N
+    LETTER, // 0x4f O
+    LETTER, // 0x50 P
+    LETTER, // 0x51 Q
+    LETTER, // 0x52 R
+    LETTER, // 0x53 S
+    LETTER, // 0x54 T
+    LETTER, // 0x55 U
+    LETTER, // 0x56 V
+    LETTER, // 0x57 W
+    LETTER, // 0x58 X
+    LETTER, // 0x59 Y
+    LETTER, // 0x5a Z
+    NONE, // 0x5b [
+    NONE, // 0x5c \
+    NONE, // 0x5d ]
+    NONE, // 0x5e ^
+    UNDERSCORE, // 0x5f _
+    NONE, // 0x60 `
+    LETTER, // 0x61 a
+    LETTER, // 0x62 b
+    LETTER, // 0x63 c
+    LETTER, // 0x64 d
+    LETTER, // 0x65 e
+    LETTER, // 0x66 f
+    LETTER, // 0x67 g
+    LETTER, // 0x68 h
+    LETTER, // 0x69 i
+    LETTER, // 0x6a j
+    LETTER, // 0x6b k
+    LETTER, // 0x6c l
+    LETTER, // 0x6d m
+    LETTER, // 0x6e n
+    LETTER, // 0x6f o
+    LETTER, // 0x70 p
+    LETTER, // 0x71 q
+    LETTER, // 0x72 r
+    LETTER, // 0x73 s
+    LETTER, // 0x74 t
+    LETTER, // 0x75 u
+    LETTER, // 0x76 v
+    LETTER, // 0x77 w
+    LETTER, // 0x78 x
+    LETTER, // 0x79 y
+    LETTER, // 0x7a z
+    NONE, // 0x7b {
+    NONE, // 0x7c |
+    NONE, // 0x7d }
+    NONE, // 0x7e ~
+    NONE, // 0x7f
+    NONE, // 0x80
+    NONE, // 0x81
+    NONE, // 0x82
+    NONE, // 0x83
+    NONE, // 0x84
+    NONE, // 0x85
+    NONE, // 0x86
+    NONE, // 0x87
+    NONE, // 0x88
+    NONE, // 0x89
+    NONE, // 0x8a
+    NONE, // 0x8b
+    NONE, // 0x8c
+    NONE, // 0x8d
+    NONE, // 0x8e
+    NONE, // 0x8f
+    NONE, // 0x90
+    NONE, // 0x91
+    NONE, // 0x92
+    NONE, // 0x93
+    NONE, // 0x94
+    NONE, // 0x95
+    NONE, // 0x96
+    NONE, // 0x97
+    NONE, // 0x98
+    NONE, // 0x99
+    NONE, // 0x9a
+    NONE, // 0x9b
+    NONE, // 0x9c
+    NONE, // 0x9d
+    NONE, // 0x9e
+    NONE, // 0x9f
+    NONE, // 0xa0
+    NONE, // 0xa1
+    NONE, // 0xa2
+    NONE, // 0xa3
+    NONE, // 0xa4
+    NONE, // 0xa5
+    NONE, // 0xa6
+    NONE, // 0xa7
+    NONE, // 0xa8
+    NONE, // 0xa9
+    NONE, // 0xaa
+    NONE, // 0xab
+    NONE, // 0xac
+    NONE, // 0xad
+    NONE, // 0xae
+    NONE, // 0xaf
+    NONE, // 0xb0
+    NONE, // 0xb1
+    NONE, // 0xb2
+    NONE, // 0xb3
+    NONE, // 0xb4
+    NONE, // 0xb5
+    NONE, // 0xb6
+    NONE, // 0xb7
+    NONE, // 0xb8
+    NONE, // 0xb9
+    NONE, // 0xba
+    NONE, // 0xbb
+    NONE, // 0xbc
+    NONE, // 0xbd
+    NONE, // 0xbe
+    NONE, // 0xbf
+    NONE, // 0xc0
+    NONE, // 0xc1
+    NONE, // 0xc2
+    NONE, // 0xc3
+    NONE, // 0xc4
+    NONE, // 0xc5
+    NONE, // 0xc6
+    NONE, // 0xc7
+    NONE, // 0xc8
+    NONE, // 0xc9
+    NONE, // 0xca
+    NONE, // 0xcb
+    NONE, // 0xcc
+    NONE, // 0xcd
+    NONE, // 0xce
+    NONE, // 0xcf
+    NONE, // 0xd0
+    NONE, // 0xd1
+    NONE, // 0xd2
+    NONE, // 0xd3
+    NONE, // 0xd4
+    NONE, // 0xd5
+    NONE, // 0xd6
+    NONE, // 0xd7
+    NONE, // 0xd8
+    NONE, // 0xd9
+    NONE, // 0xda
+    NONE, // 0xdb
+    NONE, // 0xdc
+    NONE, // 0xdd
+    NONE, // 0xde
+    NONE, // 0xdf
+    NONE, // 0xe0
+    NONE, // 0xe1
+    NONE, // 0xe2
+    NONE, // 0xe3
+    NONE, // 0xe4
+    NONE, // 0xe5
+    NONE, // 0xe6
+    NONE, // 0xe7
+    NONE, // 0xe8
+    NONE, // 0xe9
+    NONE, // 0xea
+    NONE, // 0xeb
+    NONE, // 0xec
+    NONE, // 0xed
+    NONE, // 0xee
+    NONE, // 0xef
+    NONE, // 0xf0
+    NONE, // 0xf1
+    NONE, // 0xf2
+    NONE, // 0xf3
+    NONE, // 0xf4
+    NONE, // 0xf5
+    NONE, // 0xf6
+    NONE, // 0xf7
+    NONE, // 0xf8
+    NONE, // 0xf9
+    NONE, // 0xfa
+    NONE, // 0xfb
+    NONE, // 0xfc
+    NONE, // 0xfd
+    NONE, // 0xfe
+    NONE, // 0xff
 ];
 
 // The table. A reader takes it once and lends it on: a constant that is indexed in a loop is made anew at every turn.
-pub fn table() -> [u8; 256]
+pub fn table() -> [u8; BYTES]
     ensures { λ r. ⌜ Kinds r ⌝ }
 {
     KINDS

@@ -4,5 +4,4 @@ pub mod kinds;
 mod marks;
 pub mod pieces;
 mod runs;
-pub mod token;
 mod words;

@@ -9,7 +9,7 @@ ghost use Rattle.scanner.specs.Pieces.{placed};
 ghost use Rattle.scanner.specs.Fixed.{fixedKind, ofLength};
 use crate::bytes;
 use crate::pieces::Piece;
-use crate::token;
+use codes::token;
 
 // The kind of the literal that three bytes are, or 0.
 fn of_three(b: u8, c: u8, d: u8) -> u8

@@ -11,8 +11,8 @@ use crate::bytes;
 use crate::kinds;
 use crate::marks;
 use crate::runs;
-use crate::token;
 use crate::words;
+use codes::token;
 
 // A gap (a blank or a comment) up to an end, a token with its kind up to an end, or no token.
 pub enum Piece {
@@ -22,19 +22,20 @@ pub enum Piece {
 }
 
 // A word: a malformed one is no token.
-fn word_at(table: &[u8; 256], text: &[u8], at: usize) -> Piece
+fn word_at(table: &[u8; kinds::BYTES], text: &[u8], at: usize) -> Piece
     requires { ⌜ Kinds (now table) × (at ≤ length (now text)) ⌝ }
     ensures { λ r. ⌜ r ≡ placed (wordStart (run inWord (drop at (now (text .entry))))) at ⌝ }
 {
     let end = runs::word_end(table, text, at);
-    if !words::well_made(table, text, at, end) {
+    let word = &text[at..end];
+    if !words::well_made(table, word) {
         return Piece::Nothing;
     }
-    Piece::Token(words::word_kind(text, at, end - at), end)
+    Piece::Token(words::word_kind(word), end)
 }
 
 // A number: digits only.
-fn number_at(table: &[u8; 256], text: &[u8], at: usize) -> Piece
+fn number_at(table: &[u8; kinds::BYTES], text: &[u8], at: usize) -> Piece
     requires { ⌜ Kinds (now table) ⌝ }
     ensures { λ r. ⌜ r ≡ placed (numberStart (run isDigit (drop at (now (text .entry))))) at ⌝ }
 {
@@ -64,7 +65,7 @@ fn mark_at(text: &[u8], at: usize) -> Piece
 }
 
 // What starts at a place, by the kind of the byte there; past the text's end, nothing.
-pub fn piece_at(table: &[u8; 256], text: &[u8], at: usize) -> Piece
+pub fn piece_at(table: &[u8; kinds::BYTES], text: &[u8], at: usize) -> Piece
     requires { ⌜ Kinds (now table) ⌝ }
     ensures { λ r. ⌜ r ≡ pieceAt (now (text .entry)) at ⌝ }
 {

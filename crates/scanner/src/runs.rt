@@ -4,9 +4,10 @@ ghost use Rattle.language.specs.Bytes.{inWord, isDigit, notLF};
 ghost use Rattle.scanner.specs.Kinds.{Kinds};
 ghost use Rattle.scanner.specs.Places.{runEnd};
 use crate::bytes;
+use crate::kinds;
 
 // The end of the letters, digits and underscores.
-pub(crate) fn word_end(table: &[u8; 256], text: &[u8], at: usize) -> usize
+pub(crate) fn word_end(table: &[u8; kinds::BYTES], text: &[u8], at: usize) -> usize
     requires { ⌜ Kinds (now table) ⌝ }
     ensures { λ r. ⌜ r ≡ runEnd inWord (now (text .entry)) at ⌝ }
 {
@@ -21,7 +22,7 @@ pub(crate) fn word_end(table: &[u8; 256], text: &[u8], at: usize) -> usize
 }
 
 // The end of the digits.
-pub(crate) fn digits_end(table: &[u8; 256], text: &[u8], at: usize) -> usize
+pub(crate) fn digits_end(table: &[u8; kinds::BYTES], text: &[u8], at: usize) -> usize
     requires { ⌜ Kinds (now table) ⌝ }
     ensures { λ r. ⌜ r ≡ runEnd isDigit (now (text .entry)) at ⌝ }
 {

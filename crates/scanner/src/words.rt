@@ -2,16 +2,13 @@
 ghost use mathlib.Core.Path.{_≡_};
 ghost use mathlib.Core.Bool.{true, false, cond, _&&_};
 ghost use mathlib.Core.List.{map};
-ghost use Prim.Native.Nat.{_+_, _-_, _≤_};
-ghost use lib.ListN.{length, drop};
 ghost use Rattle.language.specs.Bytes.{lower};
 ghost use Rattle.language.specs.Words.{wellMade, reserved};
-ghost use Rattle.language.specs.Lexer.{begins};
+ghost use Rattle.language.specs.Lexing.{equal};
 ghost use Rattle.scanner.specs.Kinds.{Kinds};
-ghost use Rattle.scanner.specs.Places.{part};
-ghost use Rattle.scanner.specs.Reserved.{spelledKind, ofSize};
+ghost use Rattle.scanner.specs.Reserved.{spelledKind, reservedKind, ofSize};
 use crate::bytes;
-use crate::token;
+use codes::token;
 
 fn both(a: bool, b: bool) -> bool
     ensures { λ r. ⌜ r ≡ (a && b) ⌝ }
@@ -22,15 +19,15 @@ fn both(a: bool, b: bool) -> bool
     false
 }
 
-// "no doubled or last underscore", in the bytes from start up to end.
-pub(crate) fn well_made(table: &[u8; 256], text: &[u8], start: usize, end: usize) -> bool
-    requires { ⌜ Kinds (now table) × (start ≤ end) × (end ≤ length (now text)) ⌝ }
-    ensures { λ r. ⌜ r ≡ wellMade false (part (now (text .entry)) start (end - start)) ⌝ }
+// "no doubled or last underscore".
+pub(crate) fn well_made(table: &[u8; 256], word: &[u8]) -> bool
+    requires { ⌜ Kinds (now table) ⌝ }
+    ensures { λ r. ⌜ r ≡ wellMade false (now (word .entry)) ⌝ }
 {
     let mut after_underscore = false;
-    let mut i = start;
-    while i < end {
-        let underscore = bytes::is_underscore(table, text[i]);
+    let mut i = 0;
+    while i < word.len() {
+        let underscore = bytes::is_underscore(table, word[i]);
         if both(after_underscore, underscore) {
             return false;
         }
@@ -40,155 +37,90 @@ pub(crate) fn well_made(table: &[u8; 256], text: &[u8], start: usize, end: usize
     !after_underscore
 }
 
-// The text at a place, folded to lower case, begins with the word.
-fn spells(text: &[u8], at: usize, word: &[u8]) -> bool
-    ensures { λ r. ⌜ r ≡ begins (now (word .entry)) (map lower (drop at (now (text .entry)))) ⌝ }
+// The word, folded to lower case, is this spelling. Only a word as long is compared.
+fn spells(word: &[u8], spelling: &[u8]) -> bool
+    ensures { λ r. ⌜ r ≡ equal (now (spelling .entry)) (map lower (now (word .entry))) ⌝ }
 {
-    let mut i = at;
-    let mut k = 0;
-    while k < word.len() {
-        if i >= text.len() {
-            return false;
-        }
-        if bytes::lower_case(text[i]) != word[k] {
+    if word.len() != spelling.len() {
+        return false;
+    }
+    let mut i = 0;
+    while i < spelling.len() {
+        if bytes::lower_case(word[i]) != spelling[i] {
             return false;
         }
         i += 1;
-        k += 1;
     }
     true
 }
 
-// The kind of a reserved word where the test holds, else a name.
-fn kind_if(test: bool, kind: u8) -> u8
-    ensures { λ r. ⌜ r ≡ cond test kind 1 ⌝ }
+// The kind of a reserved word where the word is it, else what the words after it say.
+fn pick(word: &[u8], spelling: &[u8], kind: u8, rest: u8) -> u8
+    ensures { λ r. ⌜ r ≡ cond (equal (now (spelling .entry)) (map lower (now (word .entry)))) kind rest ⌝ }
 {
-    if test {
+    if spells(word, spelling) {
         return kind;
     }
-    token::NAME
+    rest
 }
 
-// The kind of a word of two bytes.
-fn of_two(text: &[u8], at: usize) -> u8
-    ensures { λ r. ⌜ r ≡ spelledKind (ofSize 2 reserved) (map lower (part (now (text .entry)) at 2)) ⌝ }
+// The kind of a word of two bytes. The words stand from the last of the list backwards, since each row takes what the words after it in the list say.
+fn of_two(word: &[u8]) -> u8
+    ensures { λ r. ⌜ r ≡ spelledKind (ofSize 2 reserved) (map lower (now (word .entry))) ⌝ }
 {
-    if spells(text, at, b"is") {
-        return token::IS;
-    }
-    if spells(text, at, b"of") {
-        return token::OF;
-    }
-    if spells(text, at, b"in") {
-        return token::IN;
-    }
-    if spells(text, at, b"if") {
-        return token::IF;
-    }
-    kind_if(spells(text, at, b"or"), token::OR)
+    let kind = pick(word, b"or", token::OR, token::NAME);
+    let kind = pick(word, b"if", token::IF, kind);
+    let kind = pick(word, b"in", token::IN, kind);
+    let kind = pick(word, b"of", token::OF, kind);
+    pick(word, b"is", token::IS, kind)
 }
 
 // The kind of a word of three bytes.
-fn of_three(text: &[u8], at: usize) -> u8
-    ensures { λ r. ⌜ r ≡ spelledKind (ofSize 3 reserved) (map lower (part (now (text .entry)) at 3)) ⌝ }
+fn of_three(word: &[u8]) -> u8
+    ensures { λ r. ⌜ r ≡ spelledKind (ofSize 3 reserved) (map lower (now (word .entry))) ⌝ }
 {
-    if spells(text, at, b"end") {
-        return token::END;
-    }
-    if spells(text, at, b"out") {
-        return token::OUT;
-    }
-    if spells(text, at, b"and") {
-        return token::AND;
-    }
-    if spells(text, at, b"xor") {
-        return token::XOR;
-    }
-    if spells(text, at, b"not") {
-        return token::NOT;
-    }
-    if spells(text, at, b"mod") {
-        return token::MOD;
-    }
-    kind_if(spells(text, at, b"rem"), token::REM)
+    let kind = pick(word, b"rem", token::REM, token::NAME);
+    let kind = pick(word, b"mod", token::MOD, kind);
+    let kind = pick(word, b"not", token::NOT, kind);
+    let kind = pick(word, b"xor", token::XOR, kind);
+    let kind = pick(word, b"and", token::AND, kind);
+    let kind = pick(word, b"out", token::OUT, kind);
+    pick(word, b"end", token::END, kind)
 }
 
 // The kind of a word of four bytes.
-fn of_four(text: &[u8], at: usize) -> u8
-    ensures { λ r. ⌜ r ≡ spelledKind (ofSize 4 reserved) (map lower (part (now (text .entry)) at 4)) ⌝ }
+fn of_four(word: &[u8]) -> u8
+    ensures { λ r. ⌜ r ≡ spelledKind (ofSize 4 reserved) (map lower (now (word .entry))) ⌝ }
 {
-    if spells(text, at, b"port") {
-        return token::PORT;
-    }
-    if spells(text, at, b"null") {
-        return token::NULL;
-    }
-    if spells(text, at, b"wait") {
-        return token::WAIT;
-    }
-    if spells(text, at, b"then") {
-        return token::THEN;
-    }
-    if spells(text, at, b"else") {
-        return token::ELSE;
-    }
-    kind_if(spells(text, at, b"loop"), token::LOOP)
-}
-
-// The kind of a word of five bytes.
-fn of_five(text: &[u8], at: usize) -> u8
-    ensures { λ r. ⌜ r ≡ spelledKind (ofSize 5 reserved) (map lower (part (now (text .entry)) at 5)) ⌝ }
-{
-    if spells(text, at, b"begin") {
-        return token::BEGIN;
-    }
-    if spells(text, at, b"until") {
-        return token::UNTIL;
-    }
-    kind_if(spells(text, at, b"while"), token::WHILE)
-}
-
-// The kind of a word of seven bytes.
-fn of_seven(text: &[u8], at: usize) -> u8
-    ensures { λ r. ⌜ r ≡ spelledKind (ofSize 7 reserved) (map lower (part (now (text .entry)) at 7)) ⌝ }
-{
-    if spells(text, at, b"process") {
-        return token::PROCESS;
-    }
-    kind_if(spells(text, at, b"integer"), token::INTEGER)
+    let kind = pick(word, b"loop", token::LOOP, token::NAME);
+    let kind = pick(word, b"else", token::ELSE, kind);
+    let kind = pick(word, b"then", token::THEN, kind);
+    let kind = pick(word, b"wait", token::WAIT, kind);
+    let kind = pick(word, b"null", token::NULL, kind);
+    pick(word, b"port", token::PORT, kind)
 }
 
 // The kind of a word, by its size: only reserved words as long are compared.
-pub(crate) fn word_kind(text: &[u8], at: usize, size: usize) -> u8
-    requires { ⌜ at + size ≤ length (now text) ⌝ }
-    ensures { λ r. ⌜ r ≡ spelledKind reserved (map lower (part (now (text .entry)) at size)) ⌝ }
+pub(crate) fn word_kind(word: &[u8]) -> u8
+    ensures { λ r. ⌜ r ≡ reservedKind (map lower (now (word .entry))) ⌝ }
 {
-    if size == 2 {
-        return of_two(text, at);
+    match word.len() {
+        2 => of_two(word),
+        3 => of_three(word),
+        4 => of_four(word),
+        5 => {
+            let kind = pick(word, b"while", token::WHILE, token::NAME);
+            let kind = pick(word, b"until", token::UNTIL, kind);
+            pick(word, b"begin", token::BEGIN, kind)
+        }
+        6 => pick(word, b"entity", token::ENTITY, token::NAME),
+        7 => {
+            let kind = pick(word, b"integer", token::INTEGER, token::NAME);
+            pick(word, b"process", token::PROCESS, kind)
+        }
+        8 => pick(word, b"variable", token::VARIABLE, token::NAME),
+        9 => pick(word, b"std_logic", token::STD_LOGIC, token::NAME),
+        12 => pick(word, b"architecture", token::ARCHITECTURE, token::NAME),
+        _ => token::NAME,
     }
-    if size == 3 {
-        return of_three(text, at);
-    }
-    if size == 4 {
-        return of_four(text, at);
-    }
-    if size == 5 {
-        return of_five(text, at);
-    }
-    if size == 6 {
-        return kind_if(spells(text, at, b"entity"), token::ENTITY);
-    }
-    if size == 7 {
-        return of_seven(text, at);
-    }
-    if size == 8 {
-        return kind_if(spells(text, at, b"variable"), token::VARIABLE);
-    }
-    if size == 9 {
-        return kind_if(spells(text, at, b"std_logic"), token::STD_LOGIC);
-    }
-    if size == 12 {
-        return kind_if(spells(text, at, b"architecture"), token::ARCHITECTURE);
-    }
-    token::NAME
 }

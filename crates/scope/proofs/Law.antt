@@ -5,10 +5,11 @@ use mathlib.Core.Option.{Option, none, some}
 use mathlib.Core.List.{List, [], _∷_, _++_, map}
 use Prim.Native.Nat.{ℕ, zero, suc, _+_, _*_, min}
 use native.Mathlib.Omega.{arith}
-use borrow.Author.Tests.{ltb-true, eqb-true, eqb-false, eq-eqb, ne-eqb}
+use borrow.Author.Tests.{eqb-true, eqb-false, eq-eqb, ne-eqb}
 use lib.Dec.{eqb, ltb, eqb·suc-suc}
 use lib.ListN.{getD}
-use Rattle.grammar.specs.Token.{Token, NAME}
+use Rattle.grammar.specs.Token.{Token}
+use Rattle.codes.specs.Token.{NAME}
 use Rattle.grammar.specs.Tree.{Expr, number, bit, name, sign, negate, binary, parens, Stmt, output, assign, null, wait, if-then, if-else, while, Mode, input, output-port, variable-mode, Text}
 use Rattle.grammar.specs.Reader.{choose}
 use Rattle.grammar.specs.Limits.{Each}
@@ -26,7 +27,7 @@ use Rattle.syntax.specs.Lowest.{lowestOf, lower, findingFrom, lowestFrom}
 use Rattle.syntax.specs.Lowest as L
 use Rattle.syntax.proofs.Lowest.{lower-none, lower-assoc, lowest-append, lowest-fine, finding-lowest}
 use Rattle.offences.specs.Laid.{Laid}
-use Rattle.offences.specs.Positions.{modeIn}
+use Rattle.offences.specs.Positions.{hasName, modeIn}
 use Rattle.offences.proofs.Loops.{listFrom}
 use Rattle.offences.proofs.Lowers.{lower-swap, both-unless, each-split}
 use Rattle.offences.proofs.Bodies.{NamedRow, NamedItem, ofNames, ofReads, ofItem, rows-lowest, items-lowest}
@@ -80,7 +81,7 @@ misplaced-doubled (d ∷ ds) =
 
 -- The rules of a statement and of a name.
 targetRule : List Decl → ℕ → Token → List ℕ
-targetRule Δ k x = choose (ltb k 3) (unless (fitsIn k (modeOf (find Δ (x .value)))) (x .place)) []
+targetRule Δ k x = choose (hasName k) (unless (fitsIn k (modeOf (find Δ (x .value)))) (x .place)) []
 
 targetOf : List Decl → Stmt → List ℕ
 targetOf Δ s = targetRule Δ (stmtEntry s .kind) (stmtEntry s .token)
@@ -151,7 +152,7 @@ module _ (Δ : List Decl) where
       ∙ (ap (λ (c : Bool). lower (lowestOf (unless c p)) (lowestOf (N.namesIn Δ e))) h ∙ ap (λ (l : List ℕ). lower (lowestOf (unless b p)) (lowestOf l)) (read-expr Δ e))
 
   names-split : (s : Stmt) → lowestOf (namesOf Δ s) ≡ lower (lowestOf (targetOf Δ s)) (lowestOf (ofReads (readRule Δ) s))
-  unfolding namesOf targetOf targetRule stmtEntry ofReads fitsIn L.number lowest lower
+  unfolding namesOf targetOf targetRule hasName stmtEntry ofReads fitsIn L.number lowest lower
   names-split (output x e) = assigned (isA (λ d. isOutput (d .mode)) (find Δ (x .value))) (eqb (modeOf (find Δ (x .value))) 1) (x .place) e (output-code (find Δ (x .value)))
   names-split (assign x e) = assigned (isA (λ d. isVariable (d .mode)) (find Δ (x .value))) (eqb (modeOf (find Δ (x .value))) 2) (x .place) e (variable-code (find Δ (x .value)))
   names-split null = refl
@@ -170,13 +171,13 @@ module _ (text sizes : List ℕ) (ts : List Token) (t : Text) (kinds starts : Li
   target-is : (j : ℕ) → NamedRow (getD rows (6 * j) 0) (tokenAt ts (getD rows (6 * j + 1) 0))
       → targetAt rows starts owners n decls d j ≡ lowestOf (targetRule (declared t) (getD rows (6 * j) 0) (tokenAt ts (getD rows (6 * j + 1) 0)))
   unfolding targetAt targetRule L.number lowest
-  target-is j h = go (ltb (getD rows (6 * j) 0) 3) refl
+  target-is j h = go (hasName (getD rows (6 * j) 0)) refl
     where
-      go : (b : Bool) → ltb (getD rows (6 * j) 0) 3 ≡ b
+      go : (b : Bool) → hasName (getD rows (6 * j) 0) ≡ b
           → choose b (lowestOf (unless (fitsIn (getD rows (6 * j) 0) (modeIn decls d (numberIn owners n (getD rows (6 * j + 1) 0)))) (numberIn starts n (getD rows (6 * j + 1) 0)))) 0
           ≡ lowestOf (choose b (unless (fitsIn (getD rows (6 * j) 0) (modeOf (find (declared t) (tokenAt ts (getD rows (6 * j + 1) 0) .value)))) (tokenAt ts (getD rows (6 * j + 1) 0) .place)) [])
       go true q =
-          ap (λ (m : ℕ). lowestOf (unless (fitsIn (getD rows (6 * j) 0) m) (numberIn starts n (getD rows (6 * j + 1) 0)))) (mode-at (getD rows (6 * j + 1) 0) (h (ltb-true (getD rows (6 * j) 0) 3 q)))
+          ap (λ (m : ℕ). lowestOf (unless (fitsIn (getD rows (6 * j) 0) m) (numberIn starts n (getD rows (6 * j + 1) 0)))) (mode-at (getD rows (6 * j + 1) 0) (h q))
           ∙ ap (λ (p : ℕ). lowestOf (unless (fitsIn (getD rows (6 * j) 0) (modeOf (find (declared t) (tokenAt ts (getD rows (6 * j + 1) 0) .value)))) p)) (place-is (laid .of-tokens) (getD rows (6 * j + 1) 0))
       go false q = refl
 

@@ -9,7 +9,8 @@ use borrow.Author.Tests.{eqb-true, eqb-false}
 use lib.Dec.{eqb}
 use lib.ListN.{length, getD, set, length-set}
 use lib.Seq.{getD-set-same, getD-set-other}
-use Rattle.grammar.specs.Token.{Token, NAME}
+use Rattle.grammar.specs.Token.{Token}
+use Rattle.codes.specs.Token.{NAME}
 use Rattle.grammar.specs.Tree.{Group, Text}
 use Rattle.grammar.specs.Reader.{choose}
 use Rattle.grammar.specs.Limits.{Each}

@@ -1,19 +1,19 @@
 -- The tests of the code are those of the definitions by position. Assumes nothing.
 use mathlib.Core.Path.{_≡_, refl, _∙_, ap}
-use mathlib.Core.Bool.{Bool, false, not}
+use mathlib.Core.Bool.{Bool, true, false, not}
 use mathlib.Core.List.{List, map}
 use Prim.Native.Nat.{ℕ, _+_, _*_, _≤_, _<_}
 use borrow.Author.Tests.{lt-ltb, le-ltb, eq-eqb, ne-eqb}
 use lib.Dec.{eqb, ltb}
 use lib.ListN.{getD, set}
-use Rattle.grammar.specs.Token.{NAME}
+use Rattle.codes.specs.Token.{NAME}
 use Rattle.language.specs.Bytes as B
 use Rattle.language.specs.Lexing.{equal}
 use Rattle.language.specs.Lists.{unless}
 use Rattle.scanner.specs.Places.{part}
 use Rattle.syntax.specs.Lowest.{lowestOf, lower}
 use Rattle.syntax.specs.Arrays.{numberIn}
-use Rattle.offences.specs.Positions.{modeIn}
+use Rattle.offences.specs.Positions.{hasName, modeIn}
 use Rattle.offences.proofs.Tokens.{picked, passed, owner-tested}
 use Rattle.scope.specs.Positions.{sameIn, filled, differsIn, fitsIn, targetAt, readableIn}
 
@@ -65,15 +65,15 @@ mode-tested decls d owners places n i i′ w m p r b ok e f g k h q =
 
 -- a row that has no name, and one that has
 module _ (rows starts owners : List ℕ) (n : ℕ) (decls : List ℕ) (d j kind : ℕ) (e : kind ≡ getD rows (6 * j) 0) where
-  pub target-none : 3 ≤ kind → 0 ≡ targetAt rows starts owners n decls d j
+  pub target-none : hasName kind ≡ false → 0 ≡ targetAt rows starts owners n decls d j
   unfolding targetAt
-  target-none h = passed (ltb (getD rows (6 * j) 0) 3) _ _ _ (le-ltb (getD rows (6 * j) 0) 3 (rw e at h)) refl
+  target-none h = passed (hasName (getD rows (6 * j) 0)) _ _ _ (rw e at h) refl
 
-  pub target-there : (i w m p r : ℕ) (ok : Bool) → kind < 3 → i ≡ getD rows (6 * j + 1) 0 → w ≡ numberIn owners n i → m ≡ modeIn decls d w → ok ≡ fitsIn kind m → p ≡ numberIn starts n i
+  pub target-there : (i w m p r : ℕ) (ok : Bool) → hasName kind ≡ true → i ≡ getD rows (6 * j + 1) 0 → w ≡ numberIn owners n i → m ≡ modeIn decls d w → ok ≡ fitsIn kind m → p ≡ numberIn starts n i
       → r ≡ lowestOf (unless ok p) → r ≡ targetAt rows starts owners n decls d j
   unfolding targetAt
   target-there i w m p r ok h f g k l q z =
-      picked (ltb (getD rows (6 * j) 0) 3) _ _ _ (lt-ltb (getD rows (6 * j) 0) 3 (rw e at h))
+      picked (hasName (getD rows (6 * j) 0)) _ _ _ (rw e at h)
       (mode-tested decls d owners starts n i (getD rows (6 * j + 1) 0) w m p r (fitsIn (getD rows (6 * j) 0)) ok f g k (l ∙ ap (λ (x : ℕ). fitsIn x m) e) q z)
 
 -- one token

@@ -3,9 +3,13 @@
 use mathlib.Core.Bool.{Bool, false, not}
 use mathlib.Core.List.{List, map}
 use Prim.Native.Nat.{ℕ, zero, suc, _+_, _*_, min}
-use lib.Dec.{eqb, ltb}
+use lib.Dec.{eqb}
 use lib.ListN.{getD, set}
-use Rattle.grammar.specs.Token.{NAME}
+use Rattle.codes.specs.Statement as S
+use Rattle.codes.specs.Declaration as D
+use Rattle.codes.specs.Limit as L
+use Rattle.codes.specs.Item as I
+use Rattle.codes.specs.Token.{NAME}
 use Rattle.grammar.specs.Reader.{choose}
 use Rattle.language.specs.Bytes as B
 use Rattle.language.specs.Lexing.{equal}
@@ -13,7 +17,7 @@ use Rattle.language.specs.Lists.{unless}
 use Rattle.scanner.specs.Places.{part}
 use Rattle.syntax.specs.Lowest.{lowestOf, lower, lowestFrom}
 use Rattle.syntax.specs.Arrays.{numberIn}
-use Rattle.offences.specs.Positions.{modeIn}
+use Rattle.offences.specs.Positions.{hasName, modeIn}
 use Rattle.scope.specs.declared.Heads.{Heads}
 
 -- the bytes of the token at an index, folded to lower case
@@ -27,11 +31,11 @@ sameIn text starts sizes n a b = equal (foldedAt text starts sizes n a) (foldedA
 -- the number of the first declared name, from number j on, c of them, that is the name at index i; the number after the last for none
 unfoldable pub ownerFrom : List ℕ → List ℕ → List ℕ → ℕ → List ℕ → ℕ → ℕ → ℕ → ℕ
 ownerFrom text starts sizes n decls i j zero = j
-ownerFrom text starts sizes n decls i j (suc c) = choose (sameIn text starts sizes n (getD decls (6 * j) 0) i) j (ownerFrom text starts sizes n decls i (j + 1) c)
+ownerFrom text starts sizes n decls i j (suc c) = choose (sameIn text starts sizes n (getD decls (D.ROW * j) 0) i) j (ownerFrom text starts sizes n decls i (j + 1) c)
 
 -- of at most 65 declared names
 abbrev pub ownerIn : List ℕ → List ℕ → List ℕ → ℕ → List ℕ → ℕ → ℕ → ℕ
-ownerIn text starts sizes n decls d i = ownerFrom text starts sizes n decls i 0 (min d 65)
+ownerIn text starts sizes n decls d i = ownerFrom text starts sizes n decls i 0 (min d L.NAMES)
 
 -- the token at index i: a name gets its number, every other token keeps what was there
 abbrev pub filled : (ℕ → ℕ) → List ℕ → ℕ → List ℕ → List ℕ
@@ -53,36 +57,36 @@ headsIn text starts sizes n h =
 
 -- "declared twice": declared name j stands for an earlier one
 unfoldable pub doubledAt : List ℕ → List ℕ → List ℕ → ℕ → ℕ → ℕ
-doubledAt decls starts owners n j = lowestOf (unless (eqb (numberIn owners n (getD decls (6 * j) 0)) j) (numberIn starts n (getD decls (6 * j) 0)))
+doubledAt decls starts owners n j = lowestOf (unless (eqb (numberIn owners n (getD decls (D.ROW * j) 0)) j) (numberIn starts n (getD decls (D.ROW * j) 0)))
 
 -- "wrong kind as target": <= (kind 1) wants an output, := (kind 2) a variable; "A wait's name can meet 5 only by being unknown."
 unfoldable pub fitsIn : ℕ → ℕ → Bool
-fitsIn kind mode = choose (eqb kind 0) (not (eqb mode 3)) (choose (eqb kind 1) (eqb mode 1) (eqb mode 2))
+fitsIn kind mode = choose (eqb kind S.WAIT) (not (eqb mode D.NO-MODE)) (choose (eqb kind S.OUTPUT) (eqb mode D.OUT) (eqb mode D.VARIABLE))
 
 -- row j is a wait or an assignment whose name does not fit
 unfoldable pub targetAt : List ℕ → List ℕ → List ℕ → ℕ → List ℕ → ℕ → ℕ → ℕ
 targetAt rows starts owners n decls d j =
-    choose (ltb (getD rows (6 * j) 0) 3)
-    (lowestOf (unless (fitsIn (getD rows (6 * j) 0) (modeIn decls d (numberIn owners n (getD rows (6 * j + 1) 0)))) (numberIn starts n (getD rows (6 * j + 1) 0)))) 0
+    choose (hasName (getD rows (S.ROW * j) 0))
+    (lowestOf (unless (fitsIn (getD rows (S.ROW * j) 0) (modeIn decls d (numberIn owners n (getD rows (S.ROW * j + S.TOKEN) 0)))) (numberIn starts n (getD rows (S.ROW * j + S.TOKEN) 0)))) 0
 
 -- "Inputs and variables may be read, outputs not."
 unfoldable pub readableIn : ℕ → Bool
-readableIn mode = choose (eqb mode 1) false (not (eqb mode 3))
+readableIn mode = choose (eqb mode D.OUT) false (not (eqb mode D.NO-MODE))
 
 -- item j is a name that is unknown or an output
 unfoldable pub readAt : List ℕ → List ℕ → List ℕ → List ℕ → ℕ → List ℕ → ℕ → ℕ → ℕ
 readAt codes indices starts owners n decls d j =
-    choose (eqb (getD codes j 0) 1)
+    choose (eqb (getD codes j 0) I.NAME)
     (lowestOf (unless (readableIn (modeIn decls d (numberIn owners n (getD indices j 0)))) (numberIn starts n (getD indices j 0)))) 0
 
 -- the lowest of at most 65 declared names
 abbrev pub doubledIn : List ℕ → ℕ → List ℕ → List ℕ → ℕ → ℕ
-doubledIn decls d starts owners n = lowestFrom (doubledAt decls starts owners n) 0 (min d 65)
+doubledIn decls d starts owners n = lowestFrom (doubledAt decls starts owners n) 0 (min d L.NAMES)
 
 -- the lowest of at most 512 statements
 abbrev pub targetsIn : List ℕ → ℕ → List ℕ → List ℕ → ℕ → List ℕ → ℕ → ℕ
-targetsIn rows s starts owners n decls d = lowestFrom (targetAt rows starts owners n decls d) 0 (min s 512)
+targetsIn rows s starts owners n decls d = lowestFrom (targetAt rows starts owners n decls d) 0 (min s L.STATEMENTS)
 
 -- the lowest of at most 16384 items
 abbrev pub readsIn : List ℕ → List ℕ → ℕ → List ℕ → List ℕ → ℕ → List ℕ → ℕ → ℕ
-readsIn codes indices k starts owners n decls d = lowestFrom (readAt codes indices starts owners n decls d) 0 (min k 16384)
+readsIn codes indices k starts owners n decls d = lowestFrom (readAt codes indices starts owners n decls d) 0 (min k L.TEXT)

@@ -5,6 +5,10 @@ ghost use Prim.Native.Nat.{_<_};
 ghost use Rattle.scope.specs.Positions.{sameIn, ownerIn, filled, differsIn, headsIn, doubledAt, fitsIn, targetAt, readableIn, readAt, doubledIn, targetsIn, readsIn};
 ghost use Rattle.scope.specs.Resolves.{Resolves};
 ghost use Rattle.scope.specs.Judges.{Judges, Finds};
+use codes::declaration;
+use codes::item;
+use codes::limit;
+use codes::statement;
 use syntax::Finding;
 
 // The indices of the entity's and the architecture's names.
@@ -19,8 +23,8 @@ pub struct Heads {
 // The tokens at two indices are the same without regard to case.
 fn same_at(
     text: &[u8],
-    starts: &[u16; 16384],
-    sizes: &[u16; 16384],
+    starts: &[u16; limit::TEXT],
+    sizes: &[u16; limit::TEXT],
     n: usize,
     a: usize,
     b: usize,
@@ -37,19 +41,19 @@ fn same_at(
 // The number of the first declared name that is the name at an index.
 fn owner_of(
     text: &[u8],
-    starts: &[u16; 16384],
-    sizes: &[u16; 16384],
+    starts: &[u16; limit::TEXT],
+    sizes: &[u16; limit::TEXT],
     n: usize,
-    decls: &[u16; 390],
+    decls: &[u16; declaration::ROWS],
     d: usize,
     i: usize,
 ) -> u8
     ensures { λ r. ⌜ r ≡ ownerIn (now (text .entry)) (now (starts .entry)) (now (sizes .entry)) n (now (decls .entry)) d i ⌝ }
 {
-    let end = offences::at_most(d, 65);
+    let end = offences::at_most(d, limit::NAMES);
     let mut j = 0;
     while j < end {
-        let name = offences::wide(decls[6 * j]);
+        let name = offences::wide(decls[declaration::ROW * j]);
         if same_at(text, starts, sizes, n, name, i) {
             return j as u8;
         }
@@ -61,13 +65,13 @@ fn owner_of(
 // A name gets the number of its declaration.
 fn settle(
     text: &[u8],
-    kinds: &[u8; 16384],
-    starts: &[u16; 16384],
-    sizes: &[u16; 16384],
+    kinds: &[u8; limit::TEXT],
+    starts: &[u16; limit::TEXT],
+    sizes: &[u16; limit::TEXT],
     n: usize,
-    decls: &[u16; 390],
+    decls: &[u16; declaration::ROWS],
     d: usize,
-    owners: &mut [u8; 16384],
+    owners: &mut [u8; limit::TEXT],
     i: usize,
 )
     requires { ⌜ i < 16384 ⌝ }
@@ -82,17 +86,17 @@ fn settle(
 // Every name gets the number of its declaration, or the number of declarations where it has none.
 pub fn resolve(
     text: &[u8],
-    kinds: &[u8; 16384],
-    starts: &[u16; 16384],
-    sizes: &[u16; 16384],
+    kinds: &[u8; limit::TEXT],
+    starts: &[u16; limit::TEXT],
+    sizes: &[u16; limit::TEXT],
     n: usize,
-    decls: &[u16; 390],
+    decls: &[u16; declaration::ROWS],
     d: usize,
-    owners: &mut [u8; 16384],
+    owners: &mut [u8; limit::TEXT],
 )
     ensures { λ r. ⌜ Resolves (now (text .entry)) (now (kinds .entry)) (now (starts .entry)) (now (sizes .entry)) n (now (decls .entry)) d (now (owners .entry)) (now (owners .exit)) ⌝ }
 {
-    let end = offences::at_most(n, 16384);
+    let end = offences::at_most(n, limit::TEXT);
     let mut i = 0;
     while i < end {
         settle(text, kinds, starts, sizes, n, decls, d, owners, i);
@@ -103,8 +107,8 @@ pub fn resolve(
 // A name that must be the same as another, and is not.
 fn differs(
     text: &[u8],
-    starts: &[u16; 16384],
-    sizes: &[u16; 16384],
+    starts: &[u16; limit::TEXT],
+    sizes: &[u16; limit::TEXT],
     n: usize,
     a: usize,
     b: usize,
@@ -118,8 +122,8 @@ fn differs(
 // The lowest of the three names behind `end` and `of`.
 fn heads_differ(
     text: &[u8],
-    starts: &[u16; 16384],
-    sizes: &[u16; 16384],
+    starts: &[u16; limit::TEXT],
+    sizes: &[u16; limit::TEXT],
     n: usize,
     h: Heads,
 ) -> usize
@@ -133,16 +137,16 @@ fn heads_differ(
 
 // A declared name that stands for an earlier one.
 fn doubled_at(
-    decls: &[u16; 390],
-    starts: &[u16; 16384],
-    owners: &[u8; 16384],
+    decls: &[u16; declaration::ROWS],
+    starts: &[u16; limit::TEXT],
+    owners: &[u8; limit::TEXT],
     n: usize,
     j: usize,
 ) -> usize
     requires { ⌜ j < 65 ⌝ }
     ensures { λ r. ⌜ r ≡ doubledAt (now (decls .entry)) (now (starts .entry)) (now (owners .entry)) n j ⌝ }
 {
-    let i = offences::wide(decls[6 * j]);
+    let i = offences::wide(decls[declaration::ROW * j]);
     let o = offences::owner_at(owners, n, i);
     let first = o == j;
     syntax::offence(first, syntax::place_at(starts, n, i))
@@ -150,15 +154,15 @@ fn doubled_at(
 
 // The lowest of those.
 fn doubled(
-    decls: &[u16; 390],
+    decls: &[u16; declaration::ROWS],
     d: usize,
-    starts: &[u16; 16384],
-    owners: &[u8; 16384],
+    starts: &[u16; limit::TEXT],
+    owners: &[u8; limit::TEXT],
     n: usize,
 ) -> usize
     ensures { λ r. ⌜ r ≡ doubledIn (now (decls .entry)) d (now (starts .entry)) (now (owners .entry)) n ⌝ }
 {
-    let end = offences::at_most(d, 65);
+    let end = offences::at_most(d, limit::NAMES);
     let mut low = 0;
     let mut j = 0;
     while j < end {
@@ -172,33 +176,33 @@ fn doubled(
 fn target_fits(kind: u16, mode: u16) -> bool
     ensures { λ r. ⌜ r ≡ fitsIn kind mode ⌝ }
 {
-    if kind == 0 {
-        return mode != 3;
+    if kind == statement::WAIT {
+        return mode != declaration::NO_MODE;
     }
-    if kind == 1 {
-        return mode == 1;
+    if kind == statement::OUTPUT {
+        return mode == declaration::OUT;
     }
-    mode == 2
+    mode == declaration::VARIABLE
 }
 
 // A wait or an assignment whose name does not fit.
 fn target_at(
-    rows: &[u16; 3072],
-    starts: &[u16; 16384],
-    owners: &[u8; 16384],
+    rows: &[u16; statement::ROWS],
+    starts: &[u16; limit::TEXT],
+    owners: &[u8; limit::TEXT],
     n: usize,
-    decls: &[u16; 390],
+    decls: &[u16; declaration::ROWS],
     d: usize,
     j: usize,
 ) -> usize
     requires { ⌜ j < 512 ⌝ }
     ensures { λ r. ⌜ r ≡ targetAt (now (rows .entry)) (now (starts .entry)) (now (owners .entry)) n (now (decls .entry)) d j ⌝ }
 {
-    let kind = rows[6 * j];
-    if kind >= 3 {
+    let kind = rows[statement::ROW * j];
+    if !offences::has_name(kind) {
         return 0;
     }
-    let i = offences::wide(rows[6 * j + 1]);
+    let i = offences::wide(rows[statement::ROW * j + statement::TOKEN]);
     let mode = offences::mode_at(decls, d, offences::owner_at(owners, n, i));
     let ok = target_fits(kind, mode);
     syntax::offence(ok, syntax::place_at(starts, n, i))
@@ -206,17 +210,17 @@ fn target_at(
 
 // The lowest of those.
 fn targets(
-    rows: &[u16; 3072],
+    rows: &[u16; statement::ROWS],
     s: usize,
-    starts: &[u16; 16384],
-    owners: &[u8; 16384],
+    starts: &[u16; limit::TEXT],
+    owners: &[u8; limit::TEXT],
     n: usize,
-    decls: &[u16; 390],
+    decls: &[u16; declaration::ROWS],
     d: usize,
 ) -> usize
     ensures { λ r. ⌜ r ≡ targetsIn (now (rows .entry)) s (now (starts .entry)) (now (owners .entry)) n (now (decls .entry)) d ⌝ }
 {
-    let end = offences::at_most(s, 512);
+    let end = offences::at_most(s, limit::STATEMENTS);
     let mut low = 0;
     let mut j = 0;
     while j < end {
@@ -230,27 +234,27 @@ fn targets(
 fn readable(mode: u16) -> bool
     ensures { λ r. ⌜ r ≡ readableIn mode ⌝ }
 {
-    if mode == 1 {
+    if mode == declaration::OUT {
         return false;
     }
-    mode != 3
+    mode != declaration::NO_MODE
 }
 
 // An item that is a name and may not be read.
 fn read_at(
-    codes: &[u8; 16384],
-    indices: &[u16; 16384],
-    starts: &[u16; 16384],
-    owners: &[u8; 16384],
+    codes: &[u8; limit::TEXT],
+    indices: &[u16; limit::TEXT],
+    starts: &[u16; limit::TEXT],
+    owners: &[u8; limit::TEXT],
     n: usize,
-    decls: &[u16; 390],
+    decls: &[u16; declaration::ROWS],
     d: usize,
     j: usize,
 ) -> usize
     requires { ⌜ j < 16384 ⌝ }
     ensures { λ r. ⌜ r ≡ readAt (now (codes .entry)) (now (indices .entry)) (now (starts .entry)) (now (owners .entry)) n (now (decls .entry)) d j ⌝ }
 {
-    if codes[j] != 1 {
+    if codes[j] != item::NAME {
         return 0;
     }
     let i = offences::wide(indices[j]);
@@ -261,18 +265,18 @@ fn read_at(
 
 // The lowest of those.
 fn reads(
-    codes: &[u8; 16384],
-    indices: &[u16; 16384],
+    codes: &[u8; limit::TEXT],
+    indices: &[u16; limit::TEXT],
     k: usize,
-    starts: &[u16; 16384],
-    owners: &[u8; 16384],
+    starts: &[u16; limit::TEXT],
+    owners: &[u8; limit::TEXT],
     n: usize,
-    decls: &[u16; 390],
+    decls: &[u16; declaration::ROWS],
     d: usize,
 ) -> usize
     ensures { λ r. ⌜ r ≡ readsIn (now (codes .entry)) (now (indices .entry)) k (now (starts .entry)) (now (owners .entry)) n (now (decls .entry)) d ⌝ }
 {
-    let end = offences::at_most(k, 16384);
+    let end = offences::at_most(k, limit::TEXT);
     let mut low = 0;
     let mut j = 0;
     while j < end {
@@ -285,18 +289,18 @@ fn reads(
 // The lowest place of refusal 5 plus 1, or 0.
 fn lowest_place(
     text: &[u8],
-    starts: &[u16; 16384],
-    sizes: &[u16; 16384],
+    starts: &[u16; limit::TEXT],
+    sizes: &[u16; limit::TEXT],
     n: usize,
     h: Heads,
-    rows: &[u16; 3072],
+    rows: &[u16; statement::ROWS],
     s: usize,
-    codes: &[u8; 16384],
-    indices: &[u16; 16384],
+    codes: &[u8; limit::TEXT],
+    indices: &[u16; limit::TEXT],
     k: usize,
-    decls: &[u16; 390],
+    decls: &[u16; declaration::ROWS],
     d: usize,
-    owners: &[u8; 16384],
+    owners: &[u8; limit::TEXT],
 ) -> usize
     ensures { λ r. ⌜ Judges (now (text .entry)) (now (starts .entry)) (now (sizes .entry)) n h (now (rows .entry)) s (now (codes .entry)) (now (indices .entry)) k (now (decls .entry)) d (now (owners .entry)) r ⌝ }
 {
@@ -310,18 +314,18 @@ fn lowest_place(
 // The lowest offence of refusal 5.
 pub fn names(
     text: &[u8],
-    starts: &[u16; 16384],
-    sizes: &[u16; 16384],
+    starts: &[u16; limit::TEXT],
+    sizes: &[u16; limit::TEXT],
     n: usize,
     h: Heads,
-    rows: &[u16; 3072],
+    rows: &[u16; statement::ROWS],
     s: usize,
-    codes: &[u8; 16384],
-    indices: &[u16; 16384],
+    codes: &[u8; limit::TEXT],
+    indices: &[u16; limit::TEXT],
     k: usize,
-    decls: &[u16; 390],
+    decls: &[u16; declaration::ROWS],
     d: usize,
-    owners: &[u8; 16384],
+    owners: &[u8; limit::TEXT],
 ) -> Finding
     ensures { λ r. ⌜ Finds (now (text .entry)) (now (starts .entry)) (now (sizes .entry)) n h (now (rows .entry)) s (now (codes .entry)) (now (indices .entry)) k (now (decls .entry)) d (now (owners .entry)) r ⌝ }
 {

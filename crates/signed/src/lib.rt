@@ -1,7 +1,7 @@
 // 32-bit integers of document 01, exact: sums and products through 64 bits, quotients behind tests of what the machine does not divide, comparisons,
 // two's complement, the values of a type. No other crate computes with signed numbers.
 ghost use mathlib.Core.Path.{_≡_};
-ghost use mathlib.Core.Bool.{_&&_};
+ghost use mathlib.Core.Bool.{_&&_, cond};
 ghost use lib.IntN.{pos, negsuc, _+ℤ_, _-ℤ_, _*ℤ_, negℤ};
 ghost use lib.Signed.{ltZ, leZ, quotZ, remZ};
 ghost use Rattle.design.specs.Expression.{fine};
@@ -9,12 +9,22 @@ ghost use Rattle.design.specs.Types.{eqZ};
 ghost use Rattle.semantics.specs.Division.{toSign, modZ, byNonzero};
 ghost use Rattle.semantics.specs.Evaluation.{asInteger, bitOf, isOne};
 ghost use Rattle.semantics.specs.Twos.{signed32, unsigned32};
-ghost use Rattle.signed.specs.Signed.{scaling, scaledOf, checkedOf, inTypeByte};
+ghost use Rattle.signed.specs.Signed.{checkedOf, inTypeByte};
+use codes::refusal;
+use codes::types;
 
-// The refusals of operators by number: a result outside integer, a zero divisor.
-const OUTSIDE: u8 = 16;
+// The one refusal that three operators share.
+const ZERO_DIVISOR: u8 = refusal::ZERO_DIVISOR;
+// The least integer, and among numbers of 64 bits the least and the greatest that are integers.
+const LEAST: i32 = -2147483648;
 
-const ZERO_DIVISOR: u8 = 18;
+const WIDE_LEAST: i64 = -2147483648;
+
+const WIDE_GREATEST: i64 = 2147483647;
+// Of the words of 32 bits, the first that stands for a number below zero, and the last.
+const UPPER: u32 = 2147483648;
+
+const LAST: u32 = 4294967295;
 
 // The result of an operator: an integer, or the number of the refusal.
 pub enum Checked {
@@ -26,34 +36,36 @@ pub enum Checked {
 fn narrow(s: i64) -> Checked
     ensures { λ r. ⌜ r ≡ checkedOf (asInteger s) ⌝ }
 {
-    if s < -2147483648 {
-        return Checked::Refused(OUTSIDE);
+    if s < WIDE_LEAST {
+        return Checked::Refused(refusal::OUT_OF_RANGE);
     }
-    if 2147483647 < s {
-        return Checked::Refused(OUTSIDE);
+    if WIDE_GREATEST < s {
+        return Checked::Refused(refusal::OUT_OF_RANGE);
     }
     Checked::Value(s as i32)
 }
 
-// The operator +.
-pub fn add(x: i32, y: i32) -> Checked
-    ensures { λ r. ⌜ r ≡ checkedOf (asInteger (x +ℤ y)) ⌝ }
+// One of two numbers.
+fn pick(c: bool, a: i64, b: i64) -> i64
+    ensures { λ r. ⌜ r ≡ cond c a b ⌝ }
 {
-    narrow((x as i64) + (y as i64))
+    if c { a } else { b }
 }
 
-// The operator -.
-pub fn subtract(x: i32, y: i32) -> Checked
-    ensures { λ r. ⌜ r ≡ checkedOf (asInteger (x -ℤ y)) ⌝ }
+// The operators + and -. Both results are computed and one is picked, so that no jump depends on the operator.
+pub fn sum(x: i32, minus: bool, y: i32) -> Checked
+    ensures { λ r. ⌜ r ≡ checkedOf (asInteger (cond minus (x -ℤ y) (x +ℤ y))) ⌝ }
 {
-    narrow((x as i64) - (y as i64))
+    let a = x as i64;
+    let b = y as i64;
+    narrow(pick(minus, a - b, a + b))
 }
 
 // The sign -.
 pub fn negate(x: i32) -> Checked
     ensures { λ r. ⌜ r ≡ checkedOf (asInteger (negℤ x)) ⌝ }
 {
-    subtract(0, x)
+    sum(0, true, x)
 }
 
 // The operator *.
@@ -67,7 +79,7 @@ pub fn multiply(x: i32, y: i32) -> Checked
 fn least_by_minus_one(x: i32, y: i32) -> bool
     ensures { λ r. ⌜ r ≡ (eqZ x (negsuc 2147483647) && eqZ y (negsuc 0)) ⌝ }
 {
-    if equal(x, -2147483648) {
+    if equal(x, LEAST) {
         return equal(y, -1);
     }
     false
@@ -81,7 +93,7 @@ pub fn divide(x: i32, y: i32) -> Checked
         return Checked::Refused(ZERO_DIVISOR);
     }
     if least_by_minus_one(x, y) {
-        Checked::Refused(OUTSIDE)
+        Checked::Refused(refusal::OUT_OF_RANGE)
     } else {
         Checked::Value(x / y)
     }
@@ -126,19 +138,6 @@ pub fn remainder(x: i32, y: i32) -> Checked
     Checked::Value(x % y)
 }
 
-// The operators *, /, mod and rem by their codes, for the image's evaluator and for the text's; any other code is no operator of these.
-pub fn scaled(op: u8, x: i32, y: i32) -> Checked
-    ensures { λ r. ⌜ r ≡ checkedOf (scaledOf (scaling op) x y) ⌝ }
-{
-    match op {
-        29 => multiply(x, y),
-        30 => divide(x, y),
-        31 => modulus(x, y),
-        32 => remainder(x, y),
-        _ => Checked::Refused(13),
-    }
-}
-
 // x = y.
 pub fn equal(x: i32, y: i32) -> bool
     ensures { λ r. ⌜ r ≡ eqZ x y ⌝ }
@@ -178,10 +177,10 @@ pub fn is_one(x: i32) -> bool
 pub fn from_bits(n: u32) -> i32
     ensures { λ r. ⌜ r ≡ signed32 n ⌝ }
 {
-    if n < 2147483648 {
+    if n < UPPER {
         n as i32
     } else {
-        -1 - ((4294967295 - n) as i32)
+        -1 - ((LAST - n) as i32)
     }
 }
 
@@ -190,21 +189,21 @@ pub fn to_bits(x: i32) -> u32
     ensures { λ r. ⌜ r ≡ unsigned32 x ⌝ }
 {
     if x < 0 {
-        4294967295 - ((-1 - x) as u32)
+        LAST - ((-1 - x) as u32)
     } else {
         x as u32
     }
 }
 
-// Whether v is a value of the type with that type byte: 0 std_logic, 1 integer.
+// Whether v is a value of the type with that type byte.
 pub fn in_type(kind: u8, v: i32) -> bool
     ensures { λ r. ⌜ r ≡ inTypeByte kind v ⌝ }
 {
-    if kind == 0 {
+    if kind == types::STD_LOGIC {
         if equal(v, 0) {
             return true;
         }
         return equal(v, 1);
     }
-    kind == 1
+    kind == types::INTEGER
 }

@@ -7,7 +7,8 @@ use native.Mathlib.Omega.{arith}
 use borrow.Author.Tests.{eq-eqb, ne-eqb, le-ltb, eqb-true, eqb-false}
 use lib.Dec.{eqb}
 use lib.ListN.{length}
-use Rattle.grammar.specs.Token.{Token, NAME, SEMI, BECOMES, LE}
+use Rattle.grammar.specs.Token.{Token}
+use Rattle.codes.specs.Token.{NAME, SEMI, BECOMES, LE}
 use Rattle.grammar.specs.Tree.{Expr, Stmt, output, assign}
 use Rattle.grammar.specs.Grammar.{NonTerminal, statement, target, expression, Says, fresh, Sym, tk, nt, tok, Fun, productions}
 use Rattle.grammar.specs.Meter.{InHeading, tick, over}

@@ -7,7 +7,8 @@ use native.Mathlib.Omega.{arith}
 use borrow.Author.Tests.{eqb-true, eqb-false}
 use lib.Dec.{T, eqb}
 use lib.ListN.{length}
-use Rattle.grammar.specs.Token.{Token, NAME, NULL, WAIT, IF, WHILE}
+use Rattle.grammar.specs.Token.{Token}
+use Rattle.codes.specs.Token.{NAME, NULL, WAIT, IF, WHILE}
 use Rattle.grammar.specs.Tree.{Expr, Stmt, null, Body, only, andThen}
 use Rattle.grammar.specs.Grammar.{NonTerminal, statement, body, more, Says, Sym, tk, nt, Fun, productions, _↠_}
 use Rattle.grammar.specs.Meter.{InHeading}

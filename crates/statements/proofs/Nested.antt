@@ -9,7 +9,8 @@ use native.Mathlib.Nat.{add-zero}
 use borrow.Author.Tests.{ne-eqb}
 use lib.Dec.{T, eqb}
 use lib.ListN.{length, length-append}
-use Rattle.grammar.specs.Token.{Token, SEMI, END, IF, THEN, ELSE, WHILE, LOOP}
+use Rattle.grammar.specs.Token.{Token}
+use Rattle.codes.specs.Token.{SEMI, END, IF, THEN, ELSE, WHILE, LOOP}
 use Rattle.grammar.specs.Tree.{Expr, Stmt, Body, null, if-then, if-else, while}
 use Rattle.grammar.specs.Grammar.{NonTerminal, statement, expression, body, else-part, Says, deeper, shallower, Sym, tk, nt, tok, Fun, productions}
 use Rattle.grammar.specs.Meter.{InHeading}

@@ -6,7 +6,7 @@ use Prim.Native.Nat.{ℕ, _≤_, _<_}
 use native.Mathlib.Omega.{arith}
 use borrow.Author.Tests.{ne-eqb, eqb-true}
 use lib.Dec.{T, eqb}
-use Rattle.grammar.specs.Token.{NAME, ONE, SEMI, BECOMES, EQ, LE, END, NULL, WAIT, UNTIL, IF, THEN, ELSE, WHILE, LOOP}
+use Rattle.codes.specs.Token.{NAME, ONE, SEMI, BECOMES, EQ, LE, END, NULL, WAIT, UNTIL, IF, THEN, ELSE, WHILE, LOOP}
 use Rattle.grammar.specs.Tree.{null, wait, if-then, if-else, while, output, assign, only, andThen}
 use Rattle.grammar.specs.Grammar.{NonTerminal, statement, target, expression, body, more, else-part, Sym, tk, nt, tok, stmt, stmt-fresh, fresh, deeper, shallower, Production, productions, _↠_}
 use Rattle.cursor.proofs.Steps.{Into}

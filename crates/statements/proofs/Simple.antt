@@ -8,7 +8,8 @@ use native.Mathlib.Nat.{add-zero}
 use borrow.Author.Tests.{eq-eqb, ne-eqb, eqb-true, eqb-false}
 use lib.Dec.{eqb}
 use lib.ListN.{length, List·getD-eq-default}
-use Rattle.grammar.specs.Token.{Token, NAME, ONE, SEMI, BECOMES, EQ, LE, NULL, WAIT, UNTIL}
+use Rattle.grammar.specs.Token.{Token}
+use Rattle.codes.specs.Token.{NAME, ONE, SEMI, BECOMES, EQ, LE, NULL, WAIT, UNTIL}
 use Rattle.grammar.specs.Tree.{Expr, Stmt, null, wait, output, assign}
 use Rattle.grammar.specs.Grammar.{NonTerminal, statement, target, expression, Says, plain, fresh, Sym, tk, nt, tok, Fun, productions}
 use Rattle.grammar.specs.Meter.{InHeading, tick, over}

@@ -2,6 +2,7 @@
 use mathlib.Core.List.{List, [], _∷_, _++_}
 use Prim.Native.Nat.{ℕ, _+_}
 use lib.ListN.{length}
+use Rattle.codes.specs.Statement as S
 use Rattle.grammar.specs.Token.{Token}
 use Rattle.grammar.specs.Tree.{Stmt, output, assign, null, wait, if-then, if-else, while, Body, only, andThen}
 use Rattle.cursor.specs.Tokens.{noToken}
@@ -18,16 +19,16 @@ pub record Entry : Type 0 where
 abbrev pub entry : ℕ → Token → List Item → ℕ → ℕ → Entry
 entry k x is p q = record { kind = k; token = x; items = is; part = p; inside = q }
 
--- The kinds: 0 wait, 1 output, 2 variable, 3 if, 4 null, 5 while. The token: the target; the wait's name; `if`, `while`; null has none.
+-- The token: the target; the wait's name; `if`, `while`; null has none.
 unfoldable mutual
   pub stmtEntries : Stmt → List Entry
-  stmtEntries (output x e) = entry 1 x (postfix e) 0 0 ∷ []
-  stmtEntries (assign x e) = entry 2 x (postfix e) 0 0 ∷ []
-  stmtEntries null = entry 4 noToken [] 0 0 ∷ []
-  stmtEntries (wait x) = entry 0 x [] 0 0 ∷ []
-  stmtEntries (if-then i e a) = entry 3 i (postfix e) (length (bodyEntries a)) (length (bodyEntries a)) ∷ bodyEntries a
-  stmtEntries (if-else i e a b) = entry 3 i (postfix e) (length (bodyEntries a)) (length (bodyEntries a) + length (bodyEntries b)) ∷ (bodyEntries a ++ bodyEntries b)
-  stmtEntries (while w e a) = entry 5 w (postfix e) (length (bodyEntries a)) (length (bodyEntries a)) ∷ bodyEntries a
+  stmtEntries (output x e) = entry S.OUTPUT x (postfix e) 0 0 ∷ []
+  stmtEntries (assign x e) = entry S.VARIABLE x (postfix e) 0 0 ∷ []
+  stmtEntries null = entry S.NULL noToken [] 0 0 ∷ []
+  stmtEntries (wait x) = entry S.WAIT x [] 0 0 ∷ []
+  stmtEntries (if-then i e a) = entry S.IF i (postfix e) (length (bodyEntries a)) (length (bodyEntries a)) ∷ bodyEntries a
+  stmtEntries (if-else i e a b) = entry S.IF i (postfix e) (length (bodyEntries a)) (length (bodyEntries a) + length (bodyEntries b)) ∷ (bodyEntries a ++ bodyEntries b)
+  stmtEntries (while w e a) = entry S.WHILE w (postfix e) (length (bodyEntries a)) (length (bodyEntries a)) ∷ bodyEntries a
 
   pub bodyEntries : Body → List Entry
   bodyEntries (only s) = stmtEntries s

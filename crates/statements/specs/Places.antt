@@ -4,7 +4,9 @@ use mathlib.Core.Bool.{Bool, true, false, _||_}
 use mathlib.Core.List.{List}
 use Prim.Native.Nat.{ℕ, _+_, _≤_, _<_}
 use lib.Dec.{eqb, leb, ltb}
+use Rattle.codes.specs.Statement as S
 use Rattle.grammar.specs.Token.{Token}
+use Rattle.codes.specs.Token.{NAME, BECOMES, LE, NULL, WAIT, IF, WHILE}
 use Rattle.grammar.specs.Grammar.{NonTerminal, Says, Sym, Fun}
 use Rattle.grammar.specs.Meter.{InHeading}
 use Rattle.grammar.specs.Reader.{choose, Outcome}
@@ -38,11 +40,11 @@ renew p = record { fault = p .fault; at = p .at + 1; items = 0; n = p .n; s = p 
 
 -- <= or :=
 abbrev pub isAssigning : ℕ → Bool
-isAssigning k = choose (eqb k 16) true (eqb k 10)
+isAssigning k = choose (eqb k LE) true (eqb k BECOMES)
 
--- the row's kind of an assignment: 1 for <=, 2 for :=
+-- the row's kind of an assignment
 abbrev pub rowKind : ℕ → ℕ
-rowKind k = choose (eqb k 16) 1 2
+rowKind k = choose (eqb k LE) S.OUTPUT S.VARIABLE
 
 -- <= or := is taken, behind which an expression begins
 unfoldable pub freshAt : Bool → Place → Place
@@ -74,7 +76,7 @@ pub record MovesPlace (n : ℕ) (p r : Place) : Type 0 where
 
 -- a statement begins with a name, null, wait, if or while
 abbrev pub isStart : ℕ → Bool
-isStart k = eqb k 1 || (eqb k 34 || (eqb k 35 || (eqb k 37 || eqb k 40)))
+isStart k = eqb k NAME || (eqb k NULL || (eqb k WAIT || (eqb k IF || eqb k WHILE)))
 
 -- a list of statements goes on where the reader has not refused and a statement begins there
 unfoldable pub moreStatements : ℕ → ℕ → Bool

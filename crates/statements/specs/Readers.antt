@@ -3,6 +3,7 @@ use mathlib.Core.Path.{_≡_}
 use mathlib.Core.List.{List, [], _∷_, _++_}
 use Prim.Native.Nat.{ℕ, _+_, _<_}
 use lib.ListN.{length}
+use Rattle.codes.specs.Statement as S
 use Rattle.grammar.specs.Token.{Token}
 use Rattle.grammar.specs.Tree.{Expr, Body}
 use Rattle.grammar.specs.Grammar.{NonTerminal, statement, else-part, Says, Sym, nt, Fun}
@@ -37,7 +38,7 @@ pub record ReadsLinesOver (M : NonTerminal) (flat : Says M → List Entry) (kind
 pub record ElseReads (ts : List Token) (depth : ℕ) (p r : Place) (before after : Output) : Type 0 where
   pub value : Says else-part
   pub extra : List Entry
-  pub shape : (i : Token) (e : Expr) (a : Body) → stmtEntries (value i e a) ≡ entry 3 i (postfix e) (length (bodyEntries a)) (length (bodyEntries a) + length extra) ∷ (bodyEntries a ++ extra)
+  pub shape : (i : Token) (e : Expr) (a : Body) → stmtEntries (value i e a) ≡ entry S.IF i (postfix e) (length (bodyEntries a)) (length (bodyEntries a) + length extra) ∷ (bodyEntries a ++ extra)
   pub goes : (S : NonTerminal) (h : InHeading) → FineHeading h → (γ : List Sym) (κ : Says else-part → Fun γ (Says S)) → Ok (nt else-part ∷ γ)
       → fromPlace ts S depth h p (nt else-part ∷ γ) κ ≡ fromPlace ts S depth h r γ (κ value)
   pub wrote : r .fault ≡ 0 → WroteLines ts (p .n) (p .s) (r .n) (r .s) before after extra

@@ -1,9 +1,10 @@
--- The array of statements: six numbers for each, from its number times six on. Assumes nothing.
+-- The array of statements: a row of numbers for each. Assumes nothing.
 use mathlib.Core.Path.{_≡_}
 use mathlib.Core.List.{List, [], _∷_, map}
 use Prim.Native.Nat.{ℕ, _+_, _*_, _<_}
 use lib.Dec.{eqb}
 use lib.ListN.{length, set}
+use Rattle.codes.specs.Statement.{ROW, TOKEN, FROM, TO, OTHER, END}
 use Rattle.grammar.specs.Token.{Token}
 use Rattle.grammar.specs.Reader.{choose}
 use Rattle.cursor.specs.Tokens.{tokenAt}
@@ -50,7 +51,9 @@ linesFrom s m (e ∷ es) =
 
 -- row s is stored
 unfoldable pub setRow : ℕ → Row → List ℕ → List ℕ
-setRow s r l = set (set (set (set (set (set l (6 * s) (r .kind)) (6 * s + 1) (r .index)) (6 * s + 2) (r .from)) (6 * s + 3) (r .to)) (6 * s + 4) (r .other)) (6 * s + 5) (r .end)
+setRow s r l =
+    set (set (set (set (set (set l (ROW * s) (r .kind)) (ROW * s + TOKEN) (r .index)) (ROW * s + FROM) (r .from)) (ROW * s + TO) (r .to)) (ROW * s + OTHER) (r .other))
+    (ROW * s + END) (r .end)
 
 -- unless the reader has refused
 unfoldable pub finishAt : ℕ → ℕ → Row → List ℕ → List ℕ

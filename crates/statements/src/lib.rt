@@ -3,6 +3,7 @@
 ghost use mathlib.Core.Path.{_≡_};
 ghost use Prim.Native.Nat.{ℕ, _+_, _<_, _≤_};
 ghost use lib.Dec.{eqb};
+ghost use Rattle.codes.specs.Token.{IF, NAME, NULL, WAIT, WHILE};
 ghost use Rattle.grammar.specs.Grammar.{body as bodyPart};
 ghost use Rattle.cursor.specs.Tokens.{kindIn, flagIn};
 ghost use Rattle.cursor.specs.Reading.{expectAt};
@@ -11,6 +12,10 @@ ghost use Rattle.statements.specs.Entries.{bodyEntries};
 ghost use Rattle.statements.specs.Rows.{row, Small, finishAt, output};
 ghost use Rattle.statements.specs.Places.{cursorOf, placeOf, refusePlace, beginAt, renew, freshAt, isAssigning, rowKind, isStart, moreStatements, AsksPlace};
 ghost use Rattle.statements.specs.Readers.{ReadsLinesOver, StatementOver, ElseOver};
+use codes::limit;
+use codes::refusal;
+use codes::statement;
+use codes::token;
 use cursor::Pos;
 use cursor::expect;
 use cursor::kind_at;
@@ -64,7 +69,13 @@ fn refuse(p: Place, number: u8) -> Place
 }
 
 // Takes the token if it has the kind; refuses it otherwise, or by a limit.
-pub fn take(kinds: &[u8; 16384], long: &[u8; 16384], n: usize, p: Place, kind: u8) -> Place
+pub fn take(
+    kinds: &[u8; limit::TEXT],
+    long: &[u8; limit::TEXT],
+    n: usize,
+    p: Place,
+    kind: u8,
+) -> Place
     requires { ⌜ (0 < kind) × AsksPlace n p ⌝ }
     ensures { λ r. ⌜ r ≡ placeOf (expectAt (eqb (kindIn (now (kinds .entry)) n (p .at)) kind) (flagIn (now (long .entry)) (p .at)) (cursorOf p)) (p .s) ⌝ }
 {
@@ -73,7 +84,7 @@ pub fn take(kinds: &[u8; 16384], long: &[u8; 16384], n: usize, p: Place, kind: u
 }
 
 // Takes the first token of a statement, or refuses it by a limit; items is what the count of items is then.
-fn begin(long: &[u8; 16384], p: Place, depth: usize, items: usize) -> Place
+fn begin(long: &[u8; limit::TEXT], p: Place, depth: usize, items: usize) -> Place
     requires { ⌜ (p .at < 16384) × (p .s ≤ 512) ⌝ }
     ensures { λ r. ⌜ r ≡ beginAt (flagIn (now (long .entry)) (p .at)) depth items p ⌝ }
 {
@@ -82,13 +93,13 @@ fn begin(long: &[u8; 16384], p: Place, depth: usize, items: usize) -> Place
     }
     let at = p.at;
     if long[at] == 1 {
-        return refuse(p, 4);
+        return refuse(p, refusal::LIMIT_PASSED);
     }
-    if p.s >= 512 {
-        return refuse(p, 4);
+    if p.s >= limit::STATEMENTS {
+        return refuse(p, refusal::LIMIT_PASSED);
     }
-    if depth > 16 {
-        return refuse(p, 4);
+    if depth > limit::DEPTH {
+        return refuse(p, refusal::LIMIT_PASSED);
     }
     Place {
         fault: p.fault,
@@ -101,7 +112,7 @@ fn begin(long: &[u8; 16384], p: Place, depth: usize, items: usize) -> Place
 
 // Stores the row of statement number s, unless the reader has refused.
 fn finish(
-    rows: &mut [u16; 3072],
+    rows: &mut [u16; statement::ROWS],
     r: Place,
     s: usize,
     kind: u16,
@@ -117,66 +128,86 @@ fn finish(
     if r.fault != 0 {
         return;
     }
-    rows[6 * s] = kind;
-    rows[6 * s + 1] = index as u16;
-    rows[6 * s + 2] = from as u16;
-    rows[6 * s + 3] = to as u16;
-    rows[6 * s + 4] = other as u16;
-    rows[6 * s + 5] = end as u16;
+    rows[statement::ROW * s] = kind;
+    rows[statement::ROW * s + statement::TOKEN] = index as u16;
+    rows[statement::ROW * s + statement::FROM] = from as u16;
+    rows[statement::ROW * s + statement::TO] = to as u16;
+    rows[statement::ROW * s + statement::OTHER] = other as u16;
+    rows[statement::ROW * s + statement::END] = end as u16;
 }
 
 // `null ;`
 fn null_statement(
-    kinds: &[u8; 16384],
-    long: &[u8; 16384],
+    kinds: &[u8; limit::TEXT],
+    long: &[u8; limit::TEXT],
     n: usize,
     p: Place,
     depth: usize,
-    rows: &mut [u16; 3072],
+    rows: &mut [u16; statement::ROWS],
 ) -> Place
-    requires { ⌜ AsksPlace n p × (p .fault ≡ 0) × (kindIn (now kinds) n (p .at) ≡ 34) ⌝ }
+    requires { ⌜ AsksPlace n p × (p .fault ≡ 0) × (kindIn (now kinds) n (p .at) ≡ NULL) ⌝ }
     ensures { λ r. ⌜ ((a : Arrays) → StatementOver (now (kinds .entry)) (now (long .entry)) n p depth (output a (now (rows .entry))) r (output a (now (rows .exit)))) ⌝ }
 {
     let a = begin(long, p, depth, p.items);
-    let b = take(kinds, long, n, a, 7);
-    finish(rows, b, p.s, 4, 16384, p.n, p.n, p.s + 1, p.s + 1);
+    let b = take(kinds, long, n, a, token::SEMI);
+    finish(
+        rows,
+        b,
+        p.s,
+        statement::NULL,
+        token::NOWHERE,
+        p.n,
+        p.n,
+        p.s + 1,
+        p.s + 1,
+    );
     b
 }
 
 // `wait until clk = '1' ;`
 fn wait_statement(
-    kinds: &[u8; 16384],
-    long: &[u8; 16384],
+    kinds: &[u8; limit::TEXT],
+    long: &[u8; limit::TEXT],
     n: usize,
     p: Place,
     depth: usize,
-    rows: &mut [u16; 3072],
+    rows: &mut [u16; statement::ROWS],
 ) -> Place
-    requires { ⌜ AsksPlace n p × (p .fault ≡ 0) × (kindIn (now kinds) n (p .at) ≡ 35) ⌝ }
+    requires { ⌜ AsksPlace n p × (p .fault ≡ 0) × (kindIn (now kinds) n (p .at) ≡ WAIT) ⌝ }
     ensures { λ r. ⌜ ((a : Arrays) → StatementOver (now (kinds .entry)) (now (long .entry)) n p depth (output a (now (rows .entry))) r (output a (now (rows .exit)))) ⌝ }
 {
     let a = begin(long, p, depth, p.items);
-    let b = take(kinds, long, n, a, 36);
-    let c = take(kinds, long, n, b, 1);
-    let d = take(kinds, long, n, c, 13);
-    let e = take(kinds, long, n, d, 4);
-    let f = take(kinds, long, n, e, 7);
-    finish(rows, f, p.s, 0, b.at, p.n, p.n, p.s + 1, p.s + 1);
+    let b = take(kinds, long, n, a, token::UNTIL);
+    let c = take(kinds, long, n, b, token::NAME);
+    let d = take(kinds, long, n, c, token::EQ);
+    let e = take(kinds, long, n, d, token::ONE);
+    let f = take(kinds, long, n, e, token::SEMI);
+    finish(
+        rows,
+        f,
+        p.s,
+        statement::WAIT,
+        b.at,
+        p.n,
+        p.n,
+        p.s + 1,
+        p.s + 1,
+    );
     f
 }
 
 // `o <= e ;` or `v := e ;`
 fn assignment(
-    kinds: &[u8; 16384],
-    long: &[u8; 16384],
+    kinds: &[u8; limit::TEXT],
+    long: &[u8; limit::TEXT],
     n: usize,
     p: Place,
     depth: usize,
-    codes: &mut [u8; 16384],
-    tokens: &mut [u16; 16384],
-    rows: &mut [u16; 3072],
+    codes: &mut [u8; limit::TEXT],
+    tokens: &mut [u16; limit::TEXT],
+    rows: &mut [u16; statement::ROWS],
 ) -> Place
-    requires { ⌜ AsksPlace n p × (p .fault ≡ 0) × (kindIn (now kinds) n (p .at) ≡ 1) ⌝ }
+    requires { ⌜ AsksPlace n p × (p .fault ≡ 0) × (kindIn (now kinds) n (p .at) ≡ NAME) ⌝ }
     ensures { λ r. ⌜ StatementOver (now (kinds .entry)) (now (long .entry)) n p depth (output (arrays (now (codes .entry)) (now (tokens .entry))) (now (rows .entry))) r (output (arrays (now (codes .exit)) (now (tokens .exit))) (now (rows .exit))) ⌝ }
 {
     let a = begin(long, p, depth, p.items);
@@ -184,7 +215,7 @@ fn assignment(
     let kind = kind_at(kinds, n, at);
     let b = fresh(a, kind);
     let e = expression(kinds, long, n, cursor_of(b), 0, codes, tokens);
-    let c = take(kinds, long, n, place_of(e, b.s), 7);
+    let c = take(kinds, long, n, place_of(e, b.s), token::SEMI);
     finish(
         rows,
         c,
@@ -203,10 +234,10 @@ fn assignment(
 fn row_kind(kind: u8) -> u16
     ensures { λ r. ⌜ r ≡ rowKind kind ⌝ }
 {
-    if kind == 16 {
-        return 1;
+    if kind == token::LE {
+        return statement::OUTPUT;
     }
-    2
+    statement::VARIABLE
 }
 
 // Takes <= or :=, behind which an expression begins.
@@ -217,13 +248,13 @@ fn fresh(p: Place, kind: u8) -> Place
     if p.fault != 0 {
         return p;
     }
-    if kind == 16 {
+    if kind == token::LE {
         return renewed(p);
     }
-    if kind == 10 {
+    if kind == token::BECOMES {
         return renewed(p);
     }
-    refuse(p, 3)
+    refuse(p, refusal::NO_SENTENCE)
 }
 
 // One token on, where an expression begins.
@@ -242,16 +273,16 @@ fn renewed(p: Place) -> Place
 
 // `if e then S else S end if ;`, the else part being optional.
 fn if_statement(
-    kinds: &[u8; 16384],
-    long: &[u8; 16384],
+    kinds: &[u8; limit::TEXT],
+    long: &[u8; limit::TEXT],
     n: usize,
     p: Place,
     depth: usize,
-    codes: &mut [u8; 16384],
-    tokens: &mut [u16; 16384],
-    rows: &mut [u16; 3072],
+    codes: &mut [u8; limit::TEXT],
+    tokens: &mut [u16; limit::TEXT],
+    rows: &mut [u16; statement::ROWS],
 ) -> Place
-    requires { ⌜ (depth ≤ 17) × AsksPlace n p × (p .fault ≡ 0) × (kindIn (now kinds) n (p .at) ≡ 37) ⌝ }
+    requires { ⌜ (depth ≤ 17) × AsksPlace n p × (p .fault ≡ 0) × (kindIn (now kinds) n (p .at) ≡ IF) ⌝ }
     ensures { λ r. ⌜ StatementOver (now (kinds .entry)) (now (long .entry)) n p depth (output (arrays (now (codes .entry)) (now (tokens .entry))) (now (rows .entry))) r (output (arrays (now (codes .exit)) (now (tokens .exit))) (now (rows .exit))) ⌝ }
 {
     let a = begin(long, p, depth, 0);
@@ -259,28 +290,28 @@ fn if_statement(
         return a;
     }
     let e = expression(kinds, long, n, cursor_of(a), 0, codes, tokens);
-    let b = take(kinds, long, n, place_of(e, a.s), 38);
+    let b = take(kinds, long, n, place_of(e, a.s), token::THEN);
     let c = body(kinds, long, n, b, depth + 1, codes, tokens, rows);
     let d = else_part(kinds, long, n, c, depth + 1, codes, tokens, rows);
-    let f = take(kinds, long, n, d, 26);
-    let g = take(kinds, long, n, f, 37);
-    let i = take(kinds, long, n, g, 7);
-    finish(rows, i, p.s, 3, p.at, p.n, e.n, c.s, d.s);
+    let f = take(kinds, long, n, d, token::END);
+    let g = take(kinds, long, n, f, token::IF);
+    let i = take(kinds, long, n, g, token::SEMI);
+    finish(rows, i, p.s, statement::IF, p.at, p.n, e.n, c.s, d.s);
     i
 }
 
 // `while e loop S end loop ;`
 fn while_statement(
-    kinds: &[u8; 16384],
-    long: &[u8; 16384],
+    kinds: &[u8; limit::TEXT],
+    long: &[u8; limit::TEXT],
     n: usize,
     p: Place,
     depth: usize,
-    codes: &mut [u8; 16384],
-    tokens: &mut [u16; 16384],
-    rows: &mut [u16; 3072],
+    codes: &mut [u8; limit::TEXT],
+    tokens: &mut [u16; limit::TEXT],
+    rows: &mut [u16; statement::ROWS],
 ) -> Place
-    requires { ⌜ (depth ≤ 17) × AsksPlace n p × (p .fault ≡ 0) × (kindIn (now kinds) n (p .at) ≡ 40) ⌝ }
+    requires { ⌜ (depth ≤ 17) × AsksPlace n p × (p .fault ≡ 0) × (kindIn (now kinds) n (p .at) ≡ WHILE) ⌝ }
     ensures { λ r. ⌜ StatementOver (now (kinds .entry)) (now (long .entry)) n p depth (output (arrays (now (codes .entry)) (now (tokens .entry))) (now (rows .entry))) r (output (arrays (now (codes .exit)) (now (tokens .exit))) (now (rows .exit))) ⌝ }
 {
     let a = begin(long, p, depth, 0);
@@ -288,47 +319,47 @@ fn while_statement(
         return a;
     }
     let e = expression(kinds, long, n, cursor_of(a), 0, codes, tokens);
-    let b = take(kinds, long, n, place_of(e, a.s), 41);
+    let b = take(kinds, long, n, place_of(e, a.s), token::LOOP);
     let c = body(kinds, long, n, b, depth + 1, codes, tokens, rows);
-    let f = take(kinds, long, n, c, 26);
-    let g = take(kinds, long, n, f, 41);
-    let i = take(kinds, long, n, g, 7);
-    finish(rows, i, p.s, 5, p.at, p.n, e.n, c.s, c.s);
+    let f = take(kinds, long, n, c, token::END);
+    let g = take(kinds, long, n, f, token::LOOP);
+    let i = take(kinds, long, n, g, token::SEMI);
+    finish(rows, i, p.s, statement::WHILE, p.at, p.n, e.n, c.s, c.s);
     i
 }
 
 // `else S`, or nothing.
 fn else_part(
-    kinds: &[u8; 16384],
-    long: &[u8; 16384],
+    kinds: &[u8; limit::TEXT],
+    long: &[u8; limit::TEXT],
     n: usize,
     p: Place,
     depth: usize,
-    codes: &mut [u8; 16384],
-    tokens: &mut [u16; 16384],
-    rows: &mut [u16; 3072],
+    codes: &mut [u8; limit::TEXT],
+    tokens: &mut [u16; limit::TEXT],
+    rows: &mut [u16; statement::ROWS],
 ) -> Place
     requires { ⌜ (depth ≤ 17) × AsksPlace n p ⌝ }
     ensures { λ r. ⌜ ElseOver (now (kinds .entry)) (now (long .entry)) n p depth (output (arrays (now (codes .entry)) (now (tokens .entry))) (now (rows .entry))) r (output (arrays (now (codes .exit)) (now (tokens .exit))) (now (rows .exit))) ⌝ }
 {
     let at = p.at;
-    if kind_at(kinds, n, at) != 39 {
+    if kind_at(kinds, n, at) != token::ELSE {
         return p;
     }
-    let a = take(kinds, long, n, p, 39);
+    let a = take(kinds, long, n, p, token::ELSE);
     body(kinds, long, n, a, depth, codes, tokens, rows)
 }
 
 // A statement, by the kind of its first token.
 fn statement(
-    kinds: &[u8; 16384],
-    long: &[u8; 16384],
+    kinds: &[u8; limit::TEXT],
+    long: &[u8; limit::TEXT],
     n: usize,
     p: Place,
     depth: usize,
-    codes: &mut [u8; 16384],
-    tokens: &mut [u16; 16384],
-    rows: &mut [u16; 3072],
+    codes: &mut [u8; limit::TEXT],
+    tokens: &mut [u16; limit::TEXT],
+    rows: &mut [u16; statement::ROWS],
 ) -> Place
     requires { ⌜ (depth ≤ 17) × AsksPlace n p ⌝ }
     ensures { λ r. ⌜ StatementOver (now (kinds .entry)) (now (long .entry)) n p depth (output (arrays (now (codes .entry)) (now (tokens .entry))) (now (rows .entry))) r (output (arrays (now (codes .exit)) (now (tokens .exit))) (now (rows .exit))) ⌝ }
@@ -338,34 +369,34 @@ fn statement(
     }
     let at = p.at;
     let kind = kind_at(kinds, n, at);
-    if kind == 1 {
+    if kind == token::NAME {
         return assignment(kinds, long, n, p, depth, codes, tokens, rows);
     }
-    if kind == 34 {
+    if kind == token::NULL {
         return null_statement(kinds, long, n, p, depth, rows);
     }
-    if kind == 35 {
+    if kind == token::WAIT {
         return wait_statement(kinds, long, n, p, depth, rows);
     }
-    if kind == 37 {
+    if kind == token::IF {
         return if_statement(kinds, long, n, p, depth, codes, tokens, rows);
     }
-    if kind == 40 {
+    if kind == token::WHILE {
         return while_statement(kinds, long, n, p, depth, codes, tokens, rows);
     }
-    refuse(p, 3)
+    refuse(p, refusal::NO_SENTENCE)
 }
 
 // A list of statements, at least one.
 pub fn body(
-    kinds: &[u8; 16384],
-    long: &[u8; 16384],
+    kinds: &[u8; limit::TEXT],
+    long: &[u8; limit::TEXT],
     n: usize,
     p: Place,
     depth: usize,
-    codes: &mut [u8; 16384],
-    tokens: &mut [u16; 16384],
-    rows: &mut [u16; 3072],
+    codes: &mut [u8; limit::TEXT],
+    tokens: &mut [u16; limit::TEXT],
+    rows: &mut [u16; statement::ROWS],
 ) -> Place
     requires { ⌜ (depth ≤ 17) × AsksPlace n p ⌝ }
     ensures { λ r. ⌜ ReadsLinesOver bodyPart bodyEntries (now (kinds .entry)) (now (long .entry)) n p depth (output (arrays (now (codes .entry)) (now (tokens .entry))) (now (rows .entry))) r (output (arrays (now (codes .exit)) (now (tokens .exit))) (now (rows .exit))) ⌝ }
@@ -378,7 +409,7 @@ pub fn body(
 }
 
 // Whether a further statement follows.
-fn more_statements(kinds: &[u8; 16384], n: usize, p: Place) -> bool
+fn more_statements(kinds: &[u8; limit::TEXT], n: usize, p: Place) -> bool
     requires { ⌜ n ≤ 16384 ⌝ }
     ensures { λ r. ⌜ r ≡ moreStatements (p .fault) (kindIn (now (kinds .entry)) n (p .at)) ⌝ }
 {
@@ -392,17 +423,17 @@ fn more_statements(kinds: &[u8; 16384], n: usize, p: Place) -> bool
 fn begins_statement(kind: u8) -> bool
     ensures { λ r. ⌜ r ≡ isStart kind ⌝ }
 {
-    if kind == 1 {
+    if kind == token::NAME {
         return true;
     }
-    if kind == 34 {
+    if kind == token::NULL {
         return true;
     }
-    if kind == 35 {
+    if kind == token::WAIT {
         return true;
     }
-    if kind == 37 {
+    if kind == token::IF {
         return true;
     }
-    kind == 40
+    kind == token::WHILE
 }

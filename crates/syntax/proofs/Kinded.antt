@@ -1,12 +1,13 @@
 -- In the tree of a derivation every token has the kind that its place in the grammar asks for: a property of what each nonterminal says, kept by
 -- every production. Assumes nothing.
-use mathlib.Core.Path.{_≡_, sym, subst}
+use mathlib.Core.Path.{_≡_, refl, sym, subst}
 use mathlib.Core.Logic.{inl, inr}
 use mathlib.Core.List.{List}
 use Prim.Native.Nat.{ℕ, _≤_, _<_}
 use native.Mathlib.Omega.{arith}
 use lib.ListN.{length}
-use Rattle.grammar.specs.Token.{Token, NAME}
+use Rattle.codes.specs.Token.{oneOf, NAME, IF}
+use Rattle.grammar.specs.Token.{Token}
 use Rattle.grammar.specs.Tree.{Expr, binary, Stmt, Body, Text}
 use Rattle.grammar.specs.Grammar.{NonTerminal, text, ports, morePorts, port, names, moreNames, mode, type, init, value, vars, body, more, statement, target, else-part, expression, chain, ands, ors, xors, relation, compared, simple, terms, term, factors, factor, primary}
 use Rattle.grammar.specs.Grammar.{Says, Mark, productions, textProduction}
@@ -37,7 +38,7 @@ Kept body v = KindedBody v
 Kept more f = (s : Stmt) → KindedStmt s → KindedBody (f s)
 Kept statement v = KindedStmt v
 Kept target f = (x : Token) → x .kind ≡ NAME → KindedStmt (f x)
-Kept else-part f = (i : Token) (e : Expr) (a : Body) → i .kind ≡ 37 → KindedExpr e → KindedBody a → KindedStmt (f i e a)
+Kept else-part f = (i : Token) (e : Expr) (a : Body) → i .kind ≡ IF → KindedExpr e → KindedBody a → KindedStmt (f i e a)
 Kept expression v = KindedExpr v
 Kept chain f = Goes f
 Kept ands f = Goes f
@@ -60,7 +61,7 @@ joined : (x : Token) (k : ℕ) → OperatorKind k → x .kind ≡ k → (b : Exp
 joined x k h e b kb f g a ka = g _ (operator x k h e, ka, kb)
 
 all-keep : (M : NonTerminal) → KeepAll (λ (k : ℕ) (x : Token). x .kind ≡ k) Kept M (productions M)
-unfolding productions textProduction
+unfolding productions textProduction oneOf
 all-keep text = (
   λ _ _ e he _ _ _ _ _ _ ps hp _ _ _ _ _ _ e′ he′ _ _ _ _ a ha _ _ o ho _ _ _ _ p hpr vs hv _ _ b hb _ _ _ _ _ _ _ _ a′ ha′ _ _.
       record { entity = he; ports = hp; entityEnd = he′; arch = ha; archOf = ho; process = hpr; vars = hv; body = hb; archEnd = ha′ },
@@ -88,43 +89,43 @@ all-keep expression = (λ a ha f hf. hf a ha, tt)
 all-keep chain = (
   λ a ha. ha,
   (
-    λ x hx b hb f hf. joined x _ (inl (omega arith)) hx b hb f hf,
+    λ x hx b hb f hf. joined x _ refl hx b hb f hf,
     (
-      λ x hx b hb f hf. joined x _ (inl (omega arith)) hx b hb f hf,
-      (λ x hx b hb f hf. joined x _ (inl (omega arith)) hx b hb f hf, tt),
+      λ x hx b hb f hf. joined x _ refl hx b hb f hf,
+      (λ x hx b hb f hf. joined x _ refl hx b hb f hf, tt),
     ),
   ),
 )
-all-keep ands = (λ a ha. ha, (λ x hx b hb f hf. joined x _ (inl (omega arith)) hx b hb f hf, tt))
-all-keep ors = (λ a ha. ha, (λ x hx b hb f hf. joined x _ (inl (omega arith)) hx b hb f hf, tt))
-all-keep xors = (λ a ha. ha, (λ x hx b hb f hf. joined x _ (inl (omega arith)) hx b hb f hf, tt))
+all-keep ands = (λ a ha. ha, (λ x hx b hb f hf. joined x _ refl hx b hb f hf, tt))
+all-keep ors = (λ a ha. ha, (λ x hx b hb f hf. joined x _ refl hx b hb f hf, tt))
+all-keep xors = (λ a ha. ha, (λ x hx b hb f hf. joined x _ refl hx b hb f hf, tt))
 all-keep relation = (λ a ha f hf. hf a ha, tt)
 all-keep compared = (
   λ a ha. ha,
   (
-    λ x hx b hb a ha. (operator x _ (inl (omega arith)) hx, ha, hb),
+    λ x hx b hb a ha. (operator x _ refl hx, ha, hb),
     (
-      λ x hx b hb a ha. (operator x _ (inl (omega arith)) hx, ha, hb),
+      λ x hx b hb a ha. (operator x _ refl hx, ha, hb),
       (
-        λ x hx b hb a ha. (operator x _ (inl (omega arith)) hx, ha, hb),
+        λ x hx b hb a ha. (operator x _ refl hx, ha, hb),
         (
-          λ x hx b hb a ha. (operator x _ (inl (omega arith)) hx, ha, hb),
-          (λ x hx b hb a ha. (operator x _ (inl (omega arith)) hx, ha, hb), (λ x hx b hb a ha. (operator x _ (inl (omega arith)) hx, ha, hb), tt)),
+          λ x hx b hb a ha. (operator x _ refl hx, ha, hb),
+          (λ x hx b hb a ha. (operator x _ refl hx, ha, hb), (λ x hx b hb a ha. (operator x _ refl hx, ha, hb), tt)),
         ),
       ),
     ),
   ),
 )
 all-keep simple = (λ a ha f hf. hf a ha, (λ s hs a ha f hf. hf _ (hs, ha), tt))
-all-keep terms = (λ a ha. ha, (λ x hx b hb f hf. joined x _ (inl (omega arith)) hx b hb f hf, (λ x hx b hb f hf. joined x _ (inl (omega arith)) hx b hb f hf, tt)))
+all-keep terms = (λ a ha. ha, (λ x hx b hb f hf. joined x _ refl hx b hb f hf, (λ x hx b hb f hf. joined x _ refl hx b hb f hf, tt)))
 all-keep term = (λ a ha f hf. hf a ha, tt)
 all-keep factors = (
   λ a ha. ha,
   (
-    λ x hx b hb f hf. joined x _ (inr (omega arith)) hx b hb f hf,
+    λ x hx b hb f hf. joined x _ refl hx b hb f hf,
     (
-      λ x hx b hb f hf. joined x _ (inr (omega arith)) hx b hb f hf,
-      (λ x hx b hb f hf. joined x _ (inr (omega arith)) hx b hb f hf, (λ x hx b hb f hf. joined x _ (inr (omega arith)) hx b hb f hf, tt)),
+      λ x hx b hb f hf. joined x _ refl hx b hb f hf,
+      (λ x hx b hb f hf. joined x _ refl hx b hb f hf, (λ x hx b hb f hf. joined x _ refl hx b hb f hf, tt)),
     ),
   ),
 )

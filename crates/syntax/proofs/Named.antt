@@ -3,11 +3,12 @@ use mathlib.Core.Path.{_≡_}
 use mathlib.Core.List.{List}
 use Prim.Native.Nat.{ℕ}
 use native.Mathlib.Omega.{arith}
-use Rattle.grammar.specs.Token.{Token, NAME}
+use Rattle.grammar.specs.Token.{Token}
+use Rattle.codes.specs.Token.{NAME}
 use Rattle.grammar.specs.Tree.{Expr}
 use Rattle.grammar.specs.Limits.{Each}
 use Rattle.expressions.specs.Postfix.{Item, postfix}
-use Rattle.expressions.proofs.Codes.{code-above}
+use Rattle.codes.proofs.OperationLaws.{operation-none}
 use Rattle.expressions.proofs.Folds.{Steps, postfix-whole}
 use Rattle.syntax.specs.Kinded.{KindedExpr}
 
@@ -26,7 +27,7 @@ named-steps =
       name = λ x w k f c. ((λ z. f), c);
       sign = λ x a w k f. (f .1, λ c. ((λ z. absurd (omega arith)), c));
       negate = λ x a w k f. (f .1, λ c. ((λ z. absurd (omega arith)), c));
-      binary = λ x a b w k f. (f .1, f .2, λ c. ((λ z. absurd (let h = code-above (x .kind) in omega arith)), c));
+      binary = λ x a b w k f. (f .1, f .2, λ c. ((λ z. absurd (operation-none (x .kind) _ (omega arith) (omega arith) z)), c));
       parens = λ a w k f. (f, λ c. c);
     }
 

@@ -4,7 +4,10 @@ use mathlib.Core.List.{List, [], _∷_, map}
 use Prim.Native.Nat.{ℕ, zero, suc, _+_, _*_, _≤_, _<_}
 use lib.Dec.{ltb}
 use lib.ListN.{length, getD}
-use Rattle.grammar.specs.Token.{Token, NAME}
+use Rattle.codes.specs.Statement as S
+use Rattle.codes.specs.Limit as L
+use Rattle.grammar.specs.Token.{Token}
+use Rattle.codes.specs.Token.{NAME}
 use Rattle.grammar.specs.Reader.{choose}
 use Rattle.language.specs.Declarations.{Decl}
 use Rattle.language.specs.Elaboration.{position}
@@ -16,12 +19,12 @@ use Rattle.statements.specs.Rows.{Row, row, seen, linesFrom}
 
 -- the number at an index of an array of which n elements count; 0 past them
 abbrev pub numberIn : List ℕ → ℕ → ℕ → ℕ
-numberIn l n i = choose (ltb i n) (choose (ltb i 16384) (getD l i 0) 0) 0
+numberIn l n i = choose (ltb i n) (choose (ltb i L.TEXT) (getD l i 0) 0) 0
 
 -- Tokens: the arrays hold the kinds and places of n tokens
 pub record TokensIn (ts : List Token) (kinds places : List ℕ) (n : ℕ) : Type 0 where
   pub count : length ts ≡ n
-  pub short : n ≤ 16384
+  pub short : n ≤ L.TEXT
   pub kind : (i : ℕ) → i < n → getD kinds i 0 ≡ tokenAt ts i .kind
   pub place : (i : ℕ) → i < n → getD places i 0 ≡ tokenAt ts i .place
 
@@ -37,12 +40,14 @@ placedFrom codes indices m (suc c) = record { code = getD codes m 0; index = get
 -- the arrays hold k items, which are these
 pub record ItemsIn (ts : List Token) (is : List Item) (codes indices : List ℕ) (k : ℕ) : Type 0 where
   pub count : length is ≡ k
-  pub short : k ≤ 16384
+  pub short : k ≤ L.TEXT
   pub are : map (itemAtIndex ts) (placedFrom codes indices 0 k) ≡ is
 
 -- Statements: row j of six numbers, and those from row j on, c of them
 abbrev pub rowIn : List ℕ → ℕ → Row
-rowIn rows j = row (getD rows (6 * j) 0) (getD rows (6 * j + 1) 0) (getD rows (6 * j + 2) 0) (getD rows (6 * j + 3) 0) (getD rows (6 * j + 4) 0) (getD rows (6 * j + 5) 0)
+rowIn rows j =
+    row (getD rows (S.ROW * j) 0) (getD rows (S.ROW * j + S.TOKEN) 0) (getD rows (S.ROW * j + S.FROM) 0) (getD rows (S.ROW * j + S.TO) 0)
+    (getD rows (S.ROW * j + S.OTHER) 0) (getD rows (S.ROW * j + S.END) 0)
 
 unfoldable pub rowsFrom : List ℕ → ℕ → ℕ → List Row
 rowsFrom rows j zero = []
@@ -51,5 +56,5 @@ rowsFrom rows j (suc c) = rowIn rows j ∷ rowsFrom rows (j + 1) c
 -- the array holds s statements, which are these
 pub record RowsIn (ts : List Token) (es : List Entry) (rows : List ℕ) (s : ℕ) : Type 0 where
   pub count : length es ≡ s
-  pub short : s ≤ 512
+  pub short : s ≤ L.STATEMENTS
   pub are : map (seen ts) (rowsFrom rows 0 s) ≡ linesFrom 0 0 es

@@ -3,29 +3,26 @@ use mathlib.Core.Path.{_≡_}
 use mathlib.Core.List.{List, [], _∷_, _++_, map}
 use Prim.Native.Nat.{ℕ, zero, suc, _+_, _*_, _≤_}
 use lib.ListN.{length, getD}
+use Rattle.codes.specs.Declaration as D
+use Rattle.codes.specs.Limit as L
 use Rattle.grammar.specs.Token.{Token}
 use Rattle.grammar.specs.Tree.{Init, without, integer-literal, logic-literal, minus, Mode, input, output-port, variable-mode, Group, Text}
-use Rattle.design.specs.Types.{Ty, std-logic, integer}
+use Rattle.design.specs.Types.{typeByte}
 use Rattle.language.specs.Declarations.{typeNamed, groups}
 use Rattle.cursor.specs.Tokens.{noToken, tokenAt}
 
 -- the mode as a number: 0 in, 1 out, 2 variable
 unfoldable pub modeCode : Mode → ℕ
-modeCode input = 0
-modeCode output-port = 1
-modeCode variable-mode = 2
-
--- the type as a number: 0 std_logic, 1 integer
-unfoldable pub typeCode : Ty → ℕ
-typeCode std-logic = 0
-typeCode integer = 1
+modeCode input = D.IN
+modeCode output-port = D.OUT
+modeCode variable-mode = D.VARIABLE
 
 -- the initial value's kind: 0 none, 1 a number, 2 '0' or '1', 3 a number after -
 unfoldable pub initCode : Init → ℕ
-initCode without = 0
-initCode (integer-literal x) = 1
-initCode (logic-literal x) = 2
-initCode (minus s x) = 3
+initCode without = D.NONE
+initCode (integer-literal x) = D.NUMBER
+initCode (logic-literal x) = D.BIT
+initCode (minus s x) = D.NEGATIVE
 
 -- "value's first token"
 unfoldable pub initToken : Init → Token
@@ -55,7 +52,7 @@ pub record Heading : Type 0 where
 unfoldable pub namesOf : Group → Token → List Token → List Heading
 namesOf g f [] = []
 namesOf g f (x ∷ xs) =
-    record { name = x; mode = modeCode (g .mode); type = typeCode (typeNamed (g .type)); init = initCode (g .init); sign = initToken (g .init); value = valueToken (g .init); first = f } ∷ namesOf g f xs
+    record { name = x; mode = modeCode (g .mode); type = typeByte (typeNamed (g .type)); init = initCode (g .init); sign = initToken (g .init); value = valueToken (g .init); first = f } ∷ namesOf g f xs
 
 unfoldable pub groupNames : Group → List Token → List Heading
 groupNames g [] = []
@@ -80,7 +77,15 @@ pub record DeclRow : Type 0 where
 
 -- row j of six numbers, and those from row j on, c of them
 abbrev pub declIn : List ℕ → ℕ → DeclRow
-declIn l j = record { name = getD l (6 * j) 0; mode = getD l (6 * j + 1) 0; type = getD l (6 * j + 2) 0; init = getD l (6 * j + 3) 0; value = getD l (6 * j + 4) 0; first = getD l (6 * j + 5) 0 }
+declIn l j =
+    record {
+      name = getD l (D.ROW * j) 0;
+      mode = getD l (D.ROW * j + D.MODE) 0;
+      type = getD l (D.ROW * j + D.TYPE) 0;
+      init = getD l (D.ROW * j + D.INIT) 0;
+      value = getD l (D.ROW * j + D.VALUE) 0;
+      first = getD l (D.ROW * j + D.FIRST) 0;
+    }
 
 unfoldable pub declsFrom : List ℕ → ℕ → ℕ → List DeclRow
 declsFrom l j zero = []
@@ -100,5 +105,5 @@ headingSeen ts r = record { name = tokenAt ts (r .name); mode = r .mode; type = 
 -- the array holds d declared names, which are these; "17 in ports, 16 out, 32 variables" make at most 65
 pub record DeclsIn (ts : List Token) (hs : List Heading) (decls : List ℕ) (d : ℕ) : Type 0 where
   pub count : length hs ≡ d
-  pub short : d ≤ 65
+  pub short : d ≤ L.NAMES
   pub are : map (headingSeen ts) (declsFrom decls 0 d) ≡ hs

@@ -1,10 +1,12 @@
 -- The kinds of the tokens that stand in a tree: a name is a name, an operator an operator. Every tree that the grammar reads is such. Assumes nothing.
 use mathlib.Core.Path.{_≡_}
+use mathlib.Core.Bool.{true}
 use mathlib.Core.List.{List}
 use mathlib.Core.Logic.{_⊎_}
 use Prim.Native.Nat.{ℕ, _≤_, _<_}
 use lib.ListN.{length}
-use Rattle.grammar.specs.Token.{Token, NAME, NUMBER, ZERO, ONE, PLUS, MINUS, XOR, NOT, TIMES, REM, IF, WHILE, PROCESS, STD-LOGIC, INTEGER}
+use Rattle.grammar.specs.Token.{Token}
+use Rattle.codes.specs.Token.{oneOf, operators, NAME, NUMBER, ZERO, ONE, MINUS, NOT, IF, WHILE, PROCESS, STD-LOGIC, INTEGER}
 use Rattle.grammar.specs.Tree.{Expr, number, bit, name, sign, negate, binary, parens, Stmt, output, assign, null, wait, if-then, if-else, while, Body, only, andThen, Init, without, integer-literal, logic-literal, minus, Group, Text}
 use Rattle.grammar.specs.Limits.{Each}
 
@@ -15,9 +17,9 @@ IsBit x = (x .kind ≡ ZERO) ⊎ (x .kind ≡ ONE)
 abbrev pub IsType : Token → Type 0
 IsType x = (x .kind ≡ STD-LOGIC) ⊎ (x .kind ≡ INTEGER)
 
--- + - = /= < <= > >= and or xor have successive kinds, and so have * / mod rem
+-- an operator between two operands
 abbrev pub OperatorKind : ℕ → Type 0
-OperatorKind k = ((PLUS ≤ k) × (k ≤ XOR)) ⊎ ((TIMES ≤ k) × (k ≤ REM))
+OperatorKind k = oneOf k operators ≡ true
 
 abbrev pub IsOperator : Token → Type 0
 IsOperator x = OperatorKind (x .kind)

@@ -3,6 +3,7 @@ ghost use mathlib.Core.Path.{_≡_};
 ghost use Rattle.language.specs.Lists.{unless};
 ghost use Rattle.syntax.specs.Lowest.{lowestOf, lower as lowerOf, findingFrom};
 ghost use Rattle.syntax.specs.Arrays.{numberIn};
+use codes::limit;
 
 // What a stage finds in a tree: no offence, or the lowest place of one.
 pub enum Finding {
@@ -11,11 +12,11 @@ pub enum Finding {
 }
 
 // The place of the token at an index, or 0 past the last.
-pub fn place_at(places: &[u16; 16384], n: usize, i: usize) -> u16
+pub fn place_at(places: &[u16; limit::TEXT], n: usize, i: usize) -> u16
     ensures { λ r. ⌜ r ≡ numberIn (now (places .entry)) n i ⌝ }
 {
     if i < n {
-        if i < 16384 {
+        if i < limit::TEXT {
             return places[i];
         }
         return 0;

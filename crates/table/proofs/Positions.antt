@@ -11,13 +11,13 @@ use lib.Seq.{getD-drop, drop-drop}
 use lib.IntN.{ℤ}
 use lib.Dec.{leb, eqb}
 use borrow.Author.Tests.{leb-true}
-use Rattle.design.specs.Types.{Ty, std-logic, integer, inType}
+use Rattle.design.specs.Types.{Ty, std-logic, integer, inType, typeByte, typeOfByte}
 use Rattle.design.specs.Expression.{nth}
 use Rattle.semantics.specs.Rows.{wrongValue}
 use Rattle.semantics.proofs.Basic.{none-some, some-injective, eqb-true, and-left, and-right}
 use Rattle.format.specs.Words.{word4, word4At}
 use Rattle.semantics.specs.Twos.{signed32}
-use Rattle.format.specs.Signature.{Cell, Signature, types, initials, typeByte, typeBytes, typeOfByte, readTypes, readCell, readCells, atEnd, signatureOf}
+use Rattle.format.specs.Signature.{Cell, Signature, types, initials, typeBytes, readTypes, readCell, readCells, atEnd, signatureOf}
 use Rattle.semantics.specs.Records.{slotsOk}
 use Rattle.format.proofs.Basic.{andThen-some, onlyIf-some, cond-case}
 use Rattle.signed.specs.Signed.{inTypeByte, inSome}

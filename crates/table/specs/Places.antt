@@ -7,6 +7,8 @@ use Prim.Native.Nat.{ℕ, zero, suc, _+_, _*_, _/_}
 use lib.ListN.{length, getD}
 use lib.IntN.{ℤ, pos}
 use lib.Dec.{ltb, eqb}
+use Rattle.codes.specs.Limit as L
+use Rattle.codes.specs.Image as M
 use Rattle.design.specs.Types.{eqZ}
 use Rattle.signed.specs.Signed.{inTypeByte}
 use Rattle.format.specs.Words.{word4At}
@@ -21,16 +23,16 @@ Opens signature lines code t = openSections (record { signature = signature; lin
 
 -- "bytes for the counts of data inputs .., outputs, variables ..; a type byte per input; for each output": where the outputs begin
 abbrev pub outputsAt : List ℕ → ℕ
-outputsAt s = 3 + getD s 0 0
+outputsAt s = M.COUNTS + getD s 0 0
 
 -- "type and 4-byte initial value" of each output, "then variable": where the variables begin
 abbrev pub variablesAt : List ℕ → ℕ
-variablesAt s = outputsAt s + 5 * getD s 1 0
+variablesAt s = outputsAt s + M.SLOT * getD s M.OUTPUTS 0
 
 -- the lowest index of an input value that is not of its type, the first value having the index k; input k's type byte stands at 3 + k
 unfoldable pub wrongFrom : List ℕ → ℕ → List ℤ → Option ℕ
 wrongFrom s k [] = none
-wrongFrom s k (z ∷ l) = cond (inTypeByte (getD s (3 + k) 0) z) (wrongFrom s (suc k) l) (some k)
+wrongFrom s k (z ∷ l) = cond (inTypeByte (getD s (M.COUNTS + k) 0) z) (wrongFrom s (suc k) l) (some k)
 
 -- a slot whose type byte stands at p, or an unused one: "unused ones 0, a std_logic slot 0 or 1"
 abbrev pub slotAt : List ℕ → ℕ → Bool → ℤ → Bool
@@ -40,7 +42,7 @@ slotAt s p used z = cond used (inTypeByte (getD s p 0) z) (eqZ z (pos 0))
 unfoldable pub slotsAt : List ℕ → ℕ → ℕ → List ℤ → Bool
 slotsAt s p zero l = zeros l
 slotsAt s p (suc n) [] = false
-slotsAt s p (suc n) (z ∷ l) = inTypeByte (getD s p 0) z && slotsAt s (p + 5) n l
+slotsAt s p (suc n) (z ∷ l) = inTypeByte (getD s p 0) z && slotsAt s (p + M.SLOT) n l
 
 -- "the initial values": what the four bytes at p say, or 0 in an unused slot
 abbrev pub initialAt : List ℕ → ℕ → Bool → ℤ
@@ -49,13 +51,13 @@ initialAt s p used = cond used (signed32 (word4At s p)) (pos 0)
 -- the initial values of the n outputs or variables that begin at p
 unfoldable pub initialsAt : List ℕ → ℕ → ℕ → List ℤ
 initialsAt s p zero = []
-initialsAt s p (suc n) = signed32 (word4At s (p + 1)) ∷ initialsAt s (p + 5) n
+initialsAt s p (suc n) = signed32 (word4At s (p + 1)) ∷ initialsAt s (p + M.SLOT) n
 
 -- the type bytes of the n outputs or variables that begin at p
 unfoldable pub typeBytesAt : List ℕ → ℕ → ℕ → List ℕ
 typeBytesAt s p zero = []
-typeBytesAt s p (suc n) = getD s p 0 ∷ typeBytesAt s (p + 5) n
+typeBytesAt s p (suc n) = getD s p 0 ∷ typeBytesAt s (p + M.SLOT) n
 
 -- "A place (512 for the beginning, else a wait's line)": a 12-byte line whose "kind byte" is "0 wait"
 unfoldable pub placeAt : List ℕ → ℕ → Bool
-placeAt l p = eqb p 512 || (ltb p (length l / 12) && eqb (getD l (p * 12) 0) 0)
+placeAt l p = eqb p L.BEGINNING || (ltb p (length l / M.LINE) && eqb (getD l (p * M.LINE) 0) M.WAIT)

@@ -7,6 +7,8 @@ ghost use Rattle.format.specs.Image.{Table};
 ghost use Rattle.format.specs.State.{placeOk};
 ghost use Rattle.format.specs.Walk.{from};
 ghost use Rattle.table.specs.Places.{Opens};
+use codes::image;
+use codes::record;
 use words::word2;
 
 // The line where a cycle begins: the first from the beginning, else the one that follows the wait.
@@ -15,8 +17,8 @@ pub fn first_line(lines: &[u8], place: u16) -> usize
         → r ≡ from (t .lines) place) ⌝ }
     ensures { λ r. ⌜ r < 65536 ⌝ }
 {
-    if place == 512 {
+    if place == record::BEGINNING {
         return 0;
     }
-    word2(lines, (place as usize) * 12 + 6) as usize
+    word2(lines, (place as usize) * image::LINE + image::LINE_NEXT) as usize
 }

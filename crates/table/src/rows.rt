@@ -10,6 +10,7 @@ ghost use Rattle.table.specs.Answers.{checkOf};
 use super::RowCheck;
 use super::signature::count;
 use super::signature::value_ok;
+use codes::image;
 
 // The lowest index of an input value that is not of its type.
 fn first_wrong(signature: &[u8], inputs: &[i32]) -> RowCheck
@@ -17,7 +18,7 @@ fn first_wrong(signature: &[u8], inputs: &[i32]) -> RowCheck
 {
     let mut k: usize = 0;
     while k < inputs.len() {
-        let right = value_ok(signature, 3 + k, inputs[k]);
+        let right = value_ok(signature, image::COUNTS + k, inputs[k]);
         if !right {
             return RowCheck::WrongAt(k);
         }
@@ -30,10 +31,10 @@ fn first_wrong(signature: &[u8], inputs: &[i32]) -> RowCheck
 pub fn row_place(signature: &[u8], inputs: &[i32], room: usize) -> RowCheck
     ensures { λ r. ⌜ ((σ : Signature) → signatureOf (now (signature .entry)) ≡ some σ → r ≡ checkOf (rowPlace σ (now (inputs .entry)) room)) ⌝ }
 {
-    if inputs.len() != count(signature, 0) {
+    if inputs.len() != count(signature, image::INPUTS) {
         return RowCheck::WrongAt(0);
     }
-    if room != count(signature, 1) {
+    if room != count(signature, image::OUTPUTS) {
         return RowCheck::WrongAt(0);
     }
     first_wrong(signature, inputs)

@@ -4,6 +4,7 @@ ghost use Prim.Native.Nat.{_<_};
 ghost use lib.ListN.{getD};
 ghost use Rattle.signed.specs.Signed.{inTypeByte};
 ghost use Rattle.table.specs.Places.{outputsAt, variablesAt, slotAt, initialAt};
+use codes::image;
 use signed::equal;
 use signed::from_bits;
 use signed::in_type;
@@ -24,7 +25,7 @@ pub fn outputs_at(s: &[u8]) -> usize
     ensures { λ r. ⌜ r ≡ outputsAt (now (s .entry)) ⌝ }
     ensures { λ r. ⌜ r < 512 ⌝ }
 {
-    3 + count(s, 0)
+    image::COUNTS + count(s, image::INPUTS)
 }
 
 // Where the variables begin.
@@ -32,7 +33,7 @@ pub fn variables_at(s: &[u8]) -> usize
     ensures { λ r. ⌜ r ≡ variablesAt (now (s .entry)) ⌝ }
     ensures { λ r. ⌜ r < 2048 ⌝ }
 {
-    outputs_at(s) + 5 * count(s, 1)
+    outputs_at(s) + image::SLOT * count(s, image::OUTPUTS)
 }
 
 // Whether v is of the type whose type byte stands at a position.

@@ -15,18 +15,21 @@ use super::signature::outputs_at;
 use super::signature::slot_ok;
 use super::signature::variables_at;
 use answers::State;
+use codes::image;
+use codes::limit;
+use codes::record;
 use words::byte;
 
 // Whether a place is the beginning or a wait's line.
 pub fn place_ok(lines: &[u8], place: u16) -> bool
     ensures { λ r. ⌜ r ≡ placeAt (now (lines .entry)) place ⌝ }
 {
-    if place == 512 {
+    if place == record::BEGINNING {
         return true;
     }
     let p = place as usize;
-    if p < lines.len() / 12 {
-        return byte(lines, p * 12) == 0;
+    if p < lines.len() / image::LINE {
+        return byte(lines, p * image::LINE) == image::WAIT;
     }
     false
 }
@@ -38,7 +41,7 @@ fn slots_ok(signature: &[u8], at: usize, n: usize, slots: &[i32]) -> bool
 {
     let mut k: usize = 0;
     while k < slots.len() {
-        let right = slot_ok(signature, at + 5 * k, k < n, slots[k]);
+        let right = slot_ok(signature, at + image::SLOT * k, k < n, slots[k]);
         if !right {
             return false;
         }
@@ -59,7 +62,7 @@ pub fn state_ok(signature: &[u8], lines: &[u8], s: State) -> bool
     let right = slots_ok(
         signature,
         outputs_at(signature),
-        count(signature, 1),
+        count(signature, image::OUTPUTS),
         &outputs,
     );
     if !right {
@@ -69,7 +72,7 @@ pub fn state_ok(signature: &[u8], lines: &[u8], s: State) -> bool
     slots_ok(
         signature,
         variables_at(signature),
-        count(signature, 2),
+        count(signature, image::VARIABLES),
         &variables,
     )
 }
@@ -81,7 +84,7 @@ fn fill(signature: &[u8], at: usize, n: usize, slots: &mut [i32])
 {
     let mut k: usize = 0;
     while k < slots.len() {
-        slots[k] = initial(signature, at + 5 * k + 1, k < n);
+        slots[k] = initial(signature, at + image::SLOT * k + 1, k < n);
         k += 1;
     }
 }
@@ -90,22 +93,22 @@ fn fill(signature: &[u8], at: usize, n: usize, slots: &mut [i32])
 pub fn fresh(signature: &[u8]) -> State
     ensures { λ r. ⌜ ((t : Table) → signatureOf (now (signature .entry)) ≡ some (t .signature) → r ≡ freshTable t) ⌝ }
 {
-    let mut outputs = [0i32; 16];
+    let mut outputs = [0i32; limit::OUTPUTS];
     fill(
         signature,
         outputs_at(signature),
-        count(signature, 1),
+        count(signature, image::OUTPUTS),
         &mut outputs,
     );
-    let mut variables = [0i32; 32];
+    let mut variables = [0i32; limit::VARIABLES];
     fill(
         signature,
         variables_at(signature),
-        count(signature, 2),
+        count(signature, image::VARIABLES),
         &mut variables,
     );
     State {
-        place: 512,
+        place: record::BEGINNING,
         outputs,
         variables,
     }

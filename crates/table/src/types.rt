@@ -9,6 +9,7 @@ ghost use Rattle.table.specs.Places.{typeBytesAt};
 use super::signature::count;
 use super::signature::outputs_at;
 use super::signature::variables_at;
+use codes::image;
 use words::byte;
 
 // The type bytes of the inputs: that part of the section.
@@ -19,7 +20,7 @@ pub fn input_types<'a>(signature: &'a [u8]) -> &'a [u8]
     if signature.len() < end {
         return signature;
     }
-    &signature[3..end]
+    &signature[image::COUNTS..end]
 }
 
 // Copies the type bytes of the n outputs or variables that begin at a position.
@@ -29,7 +30,7 @@ fn copy_types(signature: &[u8], at: usize, n: usize, kinds: &mut [u8])
 {
     let mut k: usize = 0;
     while k < n {
-        kinds[k] = byte(signature, at + 5 * k);
+        kinds[k] = byte(signature, at + image::SLOT * k);
         k += 1;
     }
 }
@@ -40,7 +41,7 @@ pub fn variable_types(signature: &[u8], kinds: &mut [u8]) -> usize
         → (r ≡ length (σ .variables))
         × (now (kinds .exit) ≡ typeBytes (types (σ .variables)) ++ drop (length (σ .variables)) (now (kinds .entry)))) ⌝ }
 {
-    let n = count(signature, 2);
+    let n = count(signature, image::VARIABLES);
     if kinds.len() < n {
         return 0;
     }

@@ -10,8 +10,9 @@ use lib.ListN.{length, getD, take, drop, length-append, length-drop, length-map}
 use lib.Seq.{length-take-le}
 use lib.IntN.{ℤ}
 use lib.Dec.{eqb}
-use Rattle.answers.specs.Answers.{Told, done, refusal, numberOf, placeOf, batchTold}
+use Rattle.answers.specs.Answers.{Told, done, refusal, batchTold}
 use Rattle.answers.specs.Numbers.{Narrow, numbersOf, uncounted, batchedNumbers}
+use Rattle.answers.proofs.Told.{done-refused}
 use Rattle.answers.proofs.Narrow.{narrowed, refused-narrow, done-narrow}
 use Rattle.answers.specs.declared.State.{State}
 use Rattle.answers.specs.declared.Batched as declared-batched
@@ -44,7 +45,7 @@ use Rattle.theorems.specs.Promises.{answerInC, RefusedAs}
 use Rattle.theorems.specs.Batch.{Due, DueTo, BatchRefused, by-image, by-length, endToEnd, Comes, turned-away, takes, Singly, Batched, BatchTold, BatchOfText}
 use Rattle.theorems.proofs.Size.{valid-fits}
 use Rattle.theorems.proofs.Demand3.{wrote, demand3}
-use Rattle.theorems.proofs.Entry.{apart, apart-too, told-by}
+use Rattle.theorems.proofs.Entry.{told-by}
 
 -- THE COUNT'S DUE
 eqb-is : (m n : ℕ) → m ≡ n → eqb m n ≡ true
@@ -125,7 +126,7 @@ module _ (image : List ℕ) (h : Bytes image) (s : State) (n : ℕ) (is os : Lis
       on (opened t) f = test (due (t .signature) n is os ns) refl
         where
           test : (b : Bool) → due (t .signature) n is os ns ≡ b → BatchRefused image n is os ns q k
-          test true d = apart _ q k (sym (ap (λ (b : Batch). b .answer) (batch-taken image s n is os ns t f (is-due (t .signature) n is os ns d))) ∙ e)
+          test true d = done-refused (sym (ap (λ (b : Batch). b .answer) (batch-taken image s n is os ns t f (is-due (t .signature) n is os ns d))) ∙ e)
           test false d =
               let no : DueTo t n is os ns → ⊥ = λ y. false-true (sym d ∙ due-is (t .signature) n is os ns y) in
               let z : refusal 17 0 ≡ refusal q k = sym (ap (λ (b : Batch). b .answer) (batch-17 image s n is os ns t f no)) ∙ e in
@@ -241,7 +242,7 @@ batched image h s n is os ns =
       refused = λ q k. (turned-there image h s n is os ns q k, λ r. ap (λ (b : Batch). b .answer) (turned-back image h s n is os ns q k r));
       place = λ q k e. turned-place image h s n is os ns q k (turned-there image h s n is os ns q k e);
       untouched = λ q k. batch-cases image s n is os ns (λ b. b .answer ≡ refusal q k → b ≡ record { answer = refusal q k; state = s; rows = os; answers = ns })
-          (λ x y e. ap (λ (a : Told (List Called)). record { answer = a; state = s; rows = os; answers = ns }) e) (λ t e d f. apart _ q k f);
+          (λ x y e. ap (λ (a : Told (List Called)). record { answer = a; state = s; rows = os; answers = ns }) e) (λ t e d f. done-refused f);
       taken = batch-taken image s n is os ns;
       singly = λ t e d. singly image t e s n is os ns d;
       long = batch-cases image s n is os ns (λ b. (length (b .rows) ≡ length os) × (length (b .answers) ≡ length ns))
@@ -257,10 +258,10 @@ batch-told = record { taken = taken-is; refused = refused-is }
   where
     taken-is : (r : declared-batched.Batched) (rs : List Called) → batchTold r ≡ done tt → r ≡ Taken
     taken-is Taken rs e = refl
-    taken-is (NotTaken x) rs e = apart-too _ (numberOf x) (placeOf x) e
+    taken-is (NotTaken x) rs e = done-refused (sym e)
 
     refused-is : (r : declared-batched.Batched) (q k : ℕ) → batchTold r ≡ refusal q k → RefusedAs NotTaken r q k
-    refused-is Taken q k e = apart _ q k e
+    refused-is Taken q k e = done-refused e
     refused-is (NotTaken x) q k e = told-by NotTaken x q k e
 
 -- ON WHAT A COMPILE WROTE

@@ -9,6 +9,7 @@ use lib.Seq.{take-all, take-at, drop-at}
 use lib.IntN.{ℤ, pos}
 use borrow.Author.Tests.{lt-ltb}
 use Rattle.answers.specs.declared.State.{State}
+use Rattle.answers.specs.Answers.{Told}
 use Rattle.answers.specs.Numbers.{numbersOf}
 use Rattle.language.proofs.Judged.{accepts}
 use Rattle.language.proofs.WellFormed.{valid-well-formed}
@@ -18,19 +19,21 @@ use Rattle.semantics.specs.Records.{Started, stateFor, fresh}
 use Rattle.semantics.specs.Calls.{performed, not-performed, Called, Call}
 use Rattle.semantics.specs.Comparison.{laid, equationCalls}
 use Rattle.semantics.proofs.Slots.{pad-length}
+use Rattle.language.proofs.Numbers.{of-text-above-0}
 use Rattle.format.specs.Words.{Bytes}
 use Rattle.format.specs.Image.{Table}
 use Rattle.format.specs.Opening.{opened, openOf}
 use Rattle.format.specs.State.{freshOf}
 use Rattle.format.specs.Cycle.{cycleOf, callsOf}
 use Rattle.format.specs.Encode.{encode}
+use Rattle.format.specs.Writing.{Writing}
 use Rattle.format.proofs.Opens.{opens-exactly}
 use Rattle.format.proofs.Calls.{refused-untouched}
 use Rattle.images.specs.Outcome as Image
 use Rattle.images.proofs.Processes.{encode-bytes}
 use Rattle.behaviour.specs.Direct.{directOf}
 use Rattle.behaviour.proofs.DirectRun.{direct-run}
-use Rattle.theorems.specs.Compile.{Compile, Compiled, written, not-compiled, compileAnswer, compileOf}
+use Rattle.theorems.specs.Compile.{written, not-compiled, compileOf}
 use Rattle.theorems.specs.CInterface.{placeOfC, stateOfC, cOfState, Left, cycleLeft, startLeft, openNumbers, compileInC, cycleInC, directInC, callsInC}
 use Rattle.theorems.specs.Promises as P
 use Rattle.theorems.specs.Promises.{SlotsInC, ToldInC, CallsInC, seenInC, refusedNumbers, doneNumbers}
@@ -42,10 +45,10 @@ use Rattle.theorems.proofs.Untouched.{direct-untouched}
 -- ONE CALL
 
 -- a compile that is refused leaves the buffer
-buffer-kept : (text buffer : List ℕ) (q k : ℕ) (r : Compile) → P.Compiles text buffer r → r .answer ≡ not-compiled q k → r .buffer ≡ buffer
+buffer-kept : (text buffer : List ℕ) (q k : ℕ) (r : Writing) → P.Compiles text buffer r → r .answer ≡ not-compiled q k → r .buffer ≡ buffer
 buffer-kept text buffer q k r (P.Compiles.writes d v l) e = absurd (let z : _≡_ {A = ℕ} 0 1 = cc in omega arith)
 buffer-kept text buffer q k r (P.Compiles.too-short d v l) e = refl
-buffer-kept text buffer q k r (P.Compiles.refuses n p a b h) e = refl
+buffer-kept text buffer q k r (P.Compiles.refuses n p a h) e = refl
 
 -- a cycle that is refused
 left-refused : (call : State → Called) (l o : List ℤ) (q k : ℕ) → call (stateOfC l) .answer ≡ not-performed q k → call (stateOfC l) .row ≡ o
@@ -60,8 +63,8 @@ left-performed call l way s row e = rw e
 pub told-in-c : (text buffer image : List ℕ) → Bytes image → (l : List ℤ) (c : Call) → ToldInC text buffer image l c
 told-in-c text buffer image h l c =
     record {
-      compiled = λ n e. ap (λ (a : Compiled). (numbersOf (compileAnswer a), compileOf text buffer .buffer)) e;
-      compile-refused = λ q k e. ap (λ (a : Compiled). (numbersOf (compileAnswer a), compileOf text buffer .buffer)) e
+      compiled = λ n e. ap (λ (a : Told ℕ). (numbersOf a, compileOf text buffer .buffer)) e;
+      compile-refused = λ q k e. ap (λ (a : Told ℕ). (numbersOf a, compileOf text buffer .buffer)) e
           ∙ ap (λ (b : List ℕ). (refusedNumbers q k, b)) (buffer-kept text buffer q k (compileOf text buffer) (demand1 text buffer image h (stateOfC l) c .compiled) e);
       opened = λ t e. ap openNumbers e;
       open-refused = λ q k e. ap openNumbers e;
@@ -138,10 +141,10 @@ calls-agree f g h l [] = refl
 calls-agree f g h l (c ∷ cs) = rw (h l (c .inputs) (c .outputs)) (ap (λ (rest : List Left). g l (c .inputs) (c .outputs) ∷ rest) (calls-agree f g h _ cs))
 
 -- three numbers that tell n bytes are those of a compile that wrote n bytes
-told-written : (text buffer : List ℕ) (n : ℕ) (r : Compile) → P.Compiles text buffer r → numbersOf (compileAnswer (r .answer)) ≡ doneNumbers n → r .answer ≡ written n
+told-written : (text buffer : List ℕ) (n : ℕ) (r : Writing) → P.Compiles text buffer r → numbersOf (r .answer) ≡ doneNumbers n → r .answer ≡ written n
 told-written text buffer n r (P.Compiles.writes d v l) e = let z : length (encode d) ≡ n = cc in ap written z
 told-written text buffer n r (P.Compiles.too-short d v l) e = absurd (let z : _≡_ {A = ℕ} 10 0 = cc in omega arith)
-told-written text buffer n r (P.Compiles.refuses q k a b h) e = absurd (let z : q ≡ 0 = cc in omega arith)
+told-written text buffer n r (P.Compiles.refuses q k a h) e = let b = of-text-above-0 a in absurd (let z : q ≡ 0 = cc in omega arith)
 
 no-bytes : Bytes []
 unfolding Bytes

@@ -1,20 +1,16 @@
 -- What each call comes to (demand 1): by cases on the verdict, on the opened image and on the direct row. Assumes nothing.
 use mathlib.Core.Path.{_≡_, refl, sym, _∙_, ap, subst}
-use mathlib.Core.Bool.{Bool, true, false, cond}
+use mathlib.Core.Bool.{Bool, true, false}
 use mathlib.Core.Option.{Option, none, some}
-use mathlib.Core.List.{List, _++_}
+use mathlib.Core.List.{List}
 use Prim.Native.Nat.{ℕ, _≤_}
 use native.Mathlib.Omega.{arith}
-use lib.ListN.{length, drop}
-use lib.Dec.{leb}
-use borrow.Author.Tests.{leb-true, leb-false}
 use Rattle.answers.specs.declared.State.{State}
 use Rattle.design.specs.Process.{Process, WellFormed}
-use Rattle.grammar.specs.Tree.{Text}
-use Rattle.language.specs.Rules.{table}
-use Rattle.language.specs.Validity.{Valid, First, here, there, Refuses, too-long, no-token, no-sentence, past-limit, offends}
+use Rattle.language.specs.Validity.{Valid}
 use Rattle.language.specs.Verdict.{Verdict, accepted, refused, verdict}
 use Rattle.language.proofs.Judged as J
+use Rattle.language.proofs.Numbers.{refuses-of-text}
 use Rattle.language.proofs.WellFormed.{valid-well-formed}
 use Rattle.semantics.specs.Rows.{rowRefusal, row, atFirst}
 use Rattle.semantics.specs.InputRow.{Meets14}
@@ -31,42 +27,20 @@ use Rattle.format.specs.Refusals.{Refusal, sections-refused, signature-refused,
 use Rattle.format.specs.State.{freshFrom, freshOf}
 use Rattle.format.specs.Cycle.{cycleOf}
 use Rattle.format.specs.Encode.{encode}
+use Rattle.format.specs.Writing.{writtenInto}
+use Rattle.format.proofs.Writing.{written-cases}
 use Rattle.format.proofs.Opens.{opens-exactly}
 use Rattle.format.proofs.Refusals.{refused-exactly}
 use Rattle.images.proofs.Outcomes.{image-outcome}
 use Rattle.behaviour.specs.Direct.{unlessRefused, directOf, freshText, directFresh}
-use Rattle.theorems.specs.Compile.{written, not-compiled, written-into, onVerdict, compileOf}
+use Rattle.theorems.specs.Compile.{onVerdict, compileOf}
 use Rattle.theorems.specs.Promises.{Compiles, writes, too-short, Opens, opens, Starts, Runs, runs, RunsText, by-14, by-15, answers, StartsText}
 use Rattle.theorems.specs.Promises as D
 
--- the numbers of the rules
-pub first-number : (t : Text) (n p : ℕ) → First t n p table → (5 ≤ n) × (n ≤ 9)
-unfolding table
-first-number t n p (here e l) = (omega arith, omega arith)
-first-number t n p (there f (here e l)) = (omega arith, omega arith)
-first-number t n p (there f (there g (here e l))) = (omega arith, omega arith)
-first-number t n p (there f (there g (there i (here e l)))) = (omega arith, omega arith)
-first-number t n p (there f (there g (there i (there j (here e l))))) = (omega arith, omega arith)
-
--- the numbers of a text's refusals
-refuses-9 : (b : List ℕ) (n p : ℕ) → Refuses b n p → (1 ≤ n) × (n ≤ 9)
-refuses-9 b n p (too-long h) = (omega arith, omega arith)
-refuses-9 b n p (no-token h s) = (omega arith, omega arith)
-refuses-9 b n p (no-sentence ts h l e) = (omega arith, omega arith)
-refuses-9 b n p (past-limit ts h l e) = (omega arith, omega arith)
-refuses-9 b n p (offends {t = t} h f) = let z = first-number t n p f in let a = z .0 in (omega arith, z .1)
-
 -- a compile
 module _ (text buffer : List ℕ) where
-  written-compiles : (d : Process) → Valid text d → Compiles text buffer (written-into (encode d) buffer)
-  unfolding written-into
-  written-compiles d v = fits (leb (length (encode d)) (length buffer)) refl
-    where
-      fits : (b : Bool) → leb (length (encode d)) (length buffer) ≡ b
-          → Compiles text buffer
-          (cond b (record { answer = written (length (encode d)); buffer = encode d ++ drop (length (encode d)) buffer }) (record { answer = not-compiled 10 (length (encode d)); buffer = buffer }))
-      fits true e = writes d v (leb-true (length (encode d)) (length buffer) e)
-      fits false e = too-short d v (leb-false (length (encode d)) (length buffer) e)
+  written-compiles : (d : Process) → Valid text d → Compiles text buffer (writtenInto (encode d) buffer)
+  written-compiles d v = written-cases (encode d) buffer (Compiles text buffer) (writes d v) (too-short d v)
 
   pub compiles : Compiles text buffer (compileOf text buffer)
   unfolding compileOf
@@ -74,7 +48,7 @@ module _ (text buffer : List ℕ) where
     where
       on : (v : Verdict) → verdict text ≡ v → Compiles text buffer (onVerdict v buffer)
       on (accepted d) e = written-compiles d (J.accepts text d .0 e)
-      on (refused n k) e = let c = J.refuses text n k .0 e in let r = refuses-9 text n k c in D.refuses n k (r .0) (r .1) c
+      on (refused n k) e = let c = J.refuses text n k .0 e in D.refuses n k (refuses-of-text text n k c) c
 
 -- an image
 module _ (image : List ℕ) (h : Bytes image) where
@@ -137,7 +111,7 @@ module _ (text : List ℕ) (s : State) (c : Call) where
     where
       on : (v : Verdict) → verdict text ≡ v → RunsText text s c (unlessRefused v s c)
       on (accepted d) e = let v = J.accepts text d .0 e in process-runs d v (valid-well-formed v)
-      on (refused n k) e = let x = J.refuses text n k .0 e in let r = refuses-9 text n k x in D.refuses n k (r .0) (r .1) x
+      on (refused n k) e = let x = J.refuses text n k .0 e in D.refuses n k (refuses-of-text text n k x) x
 
 pub text-starts : (text : List ℕ) → StartsText text (directFresh text)
 unfolding directFresh
@@ -145,4 +119,4 @@ text-starts text = on (verdict text) refl
   where
     on : (v : Verdict) → verdict text ≡ v → StartsText text (freshText v)
     on (accepted d) e = D.starts d (J.accepts text d .0 e)
-    on (refused n k) e = let x = J.refuses text n k .0 e in let r = refuses-9 text n k x in D.refuses n k (r .0) (r .1) x
+    on (refused n k) e = let x = J.refuses text n k .0 e in D.refuses n k (refuses-of-text text n k x) x

@@ -1,16 +1,15 @@
 -- Demand 1: what each call comes to (Cases), and every refusal exactly when its clause says so: from the verdict, the opener's clauses, and the tests of
 -- rows, states and operators. Assumes nothing.
 use mathlib.Core.Path.{_≡_, refl, sym, _∙_, ap, subst}
-use mathlib.Core.Bool.{Bool, true, false, cond}
+use mathlib.Core.Bool.{Bool, true, false}
 use mathlib.Core.Logic.{_↔_}
 use mathlib.Core.Option.{Option, none, some}
-use mathlib.Core.List.{List, [], _++_}
+use mathlib.Core.List.{List, []}
 use Prim.Native.Nat.{ℕ, _≤_, _<_}
 use native.Mathlib.Omega.{arith}
-use lib.ListN.{length, drop}
+use lib.ListN.{length}
 use lib.IntN.{ℤ}
-use lib.Dec.{leb}
-use borrow.Author.Tests.{lt-leb, leb-false}
+use Rattle.answers.proofs.Told.{done-refused}
 use Rattle.answers.specs.declared.State.{State}
 use Rattle.design.specs.Process.{Process, WellFormed}
 use Rattle.language.specs.Validity.{Valid, Refuses}
@@ -41,42 +40,38 @@ use Rattle.format.specs.State.{stateOk, memoryOf, freshFrom, freshOf}
 use Rattle.format.specs.Walk.{tableCycle}
 use Rattle.format.specs.Cycle.{rowPlace, ended, tableRow, rowOf, unlessClosed, cycleOf}
 use Rattle.format.specs.Encode.{encode}
+use Rattle.format.specs.Writing.{Writing, writtenInto}
+use Rattle.format.proofs.Writing.{short-written, written-cases}
 use Rattle.format.proofs.Opens.{opens-exactly}
 use Rattle.format.proofs.Refusals.{refused-exactly}
 use Rattle.images.specs.Outcome as O
 use Rattle.images.proofs.InputRows.{row-exactly}
 use Rattle.images.proofs.States.{state-exactly}
 use Rattle.behaviour.specs.Direct.{unlessRefused, directOf, freshText, directFresh}
-use Rattle.theorems.specs.Compile.{Compile, Compiled, written, not-compiled, written-into, onVerdict, compileOf}
+use Rattle.theorems.specs.Compile.{not-compiled, onVerdict, compileOf}
 use Rattle.theorems.specs.Promises as P
 use Rattle.theorems.proofs.Cases.{compiles, image-opens, image-starts, image-runs, text-runs, text-starts}
 
 -- COMPILE
 module _ (text buffer : List ℕ) (q k : ℕ) where
   compile-back : P.CompileRefused text buffer q k → compileOf text buffer .answer ≡ not-compiled q k
-  unfolding compileOf written-into
+  unfolding compileOf
   compile-back (P.CompileRefused.by-text r) = ap (λ (v : Verdict). onVerdict v buffer .answer) (J.refuses text q k .1 r)
   compile-back (P.CompileRefused.by-buffer d v h e f) =
-      let l : leb (length (encode d)) (length buffer) ≡ false = lt-leb (length (encode d)) (length buffer) h in
-      let z : onVerdict (accepted d) buffer .answer ≡ not-compiled 10 (length (encode d)) = rw l in
+      let z : onVerdict (accepted d) buffer .answer ≡ not-compiled 10 (length (encode d)) = ap (λ (w : Writing). w .answer) (short-written (encode d) buffer h) in
       ap (λ (x : Verdict). onVerdict x buffer .answer) (J.accepts text d .1 v) ∙ (z ∙ ap (λ (n : ℕ). not-compiled n (length (encode d))) (sym e) ∙ ap (λ (n : ℕ). not-compiled q n) (sym f))
 
-  on-encoded : (d : Process) → Valid text d → (b : Bool) → leb (length (encode d)) (length buffer) ≡ b
-      → cond {A = Compile} b (record { answer = written (length (encode d)); buffer = encode d ++ drop (length (encode d)) buffer }) (record { answer = not-compiled 10 (length (encode d)); buffer = buffer }) .answer ≡ not-compiled q k
-      → P.CompileRefused text buffer q k
-  on-encoded d v true l e = absurd (let z : _≡_ {A = ℕ} 0 1 = cc in omega arith)
-  on-encoded d v false l e =
-      let a : q ≡ 10 = cc in
-      let b : k ≡ length (encode d) = cc in
-      P.CompileRefused.by-buffer d v (leb-false (length (encode d)) (length buffer) l) a b
+  on-encoded : (d : Process) → Valid text d → writtenInto (encode d) buffer .answer ≡ not-compiled q k → P.CompileRefused text buffer q k
+  on-encoded d v =
+      written-cases (encode d) buffer (λ (w : Writing). w .answer ≡ not-compiled q k → P.CompileRefused text buffer q k) (λ h e. done-refused e)
+      (λ h e. P.CompileRefused.by-buffer d v h (cc) (cc))
 
   compile-there : compileOf text buffer .answer ≡ not-compiled q k → P.CompileRefused text buffer q k
-  unfolding compileOf written-into
+  unfolding compileOf
   compile-there e = on (verdict text) refl
     where
       on : (v : Verdict) → verdict text ≡ v → P.CompileRefused text buffer q k
-      on (accepted d) f =
-          on-encoded d (J.accepts text d .0 f) (leb (length (encode d)) (length buffer)) refl (sym (ap (λ (x : Verdict). onVerdict x buffer .answer) f) ∙ e)
+      on (accepted d) f = on-encoded d (J.accepts text d .0 f) (sym (ap (λ (x : Verdict). onVerdict x buffer .answer) f) ∙ e)
       on (refused n x) f =
           let z : not-compiled n x ≡ not-compiled q k = sym (ap (λ (y : Verdict). onVerdict y buffer .answer) f) ∙ e in
           let a : n ≡ q = cc in
@@ -217,7 +212,7 @@ module _ (text : List ℕ) (q k : ℕ) where
     on-answers d v m g r (A.performs x τ y z w) e = absurd (let u : _≡_ {A = ℕ} 0 1 = cc in omega arith)
 
     on-text : (r : Called) → P.RunsText text s c r → r .answer ≡ not-performed q k → P.DirectRefused text s c q k
-    on-text _ (P.RunsText.refuses n x l m y) e =
+    on-text _ (P.RunsText.refuses n x l y) e =
         let a : n ≡ q = cc in
         let b : x ≡ k = cc in
         P.DirectRefused.by-text (subst (λ (z : ℕ). Refuses text q z) b (subst (λ (z : ℕ). Refuses text z x) a y))

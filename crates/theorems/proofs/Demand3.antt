@@ -1,13 +1,10 @@
 -- Demand 3. Every call on the image is a call of the equations (`one-row`), and what the equations keep stays as `Invariant` says; so, by induction on
 -- the list of calls, all calls are. Assumes nothing.
 use mathlib.Core.Path.{_≡_, refl, sym, _∙_, ap}
-use mathlib.Core.Bool.{Bool, true, false}
-use mathlib.Core.List.{List, [], _∷_, _++_}
+use mathlib.Core.List.{List, [], _∷_}
 use Prim.Native.Nat.{ℕ}
-use native.Mathlib.Omega.{arith}
-use lib.ListN.{length, take, drop}
-use lib.Seq.{take-at}
-use lib.Dec.{leb}
+use lib.ListN.{length, take}
+use Rattle.answers.proofs.Told.{done-refused}
 use Rattle.answers.specs.declared.State.{State}
 use Rattle.design.specs.Process.{Process, WellFormed}
 use Rattle.language.specs.Validity.{Valid}
@@ -23,7 +20,8 @@ use Rattle.semantics.specs.Records as S
 use Rattle.format.specs.Cycle.{cycleOf, callsOf}
 use Rattle.semantics.specs.Calls.{Called, Call}
 use Rattle.format.specs.Encode.{tableOf, encode}
-use Rattle.theorems.specs.Compile.{written, not-compiled, Compile, written-into, onVerdict, compileOf}
+use Rattle.format.proofs.Writing.{wrote-into}
+use Rattle.theorems.specs.Compile.{written, onVerdict, compileOf}
 use Rattle.semantics.specs.Comparison.{fed, laid, told, seen, equationCalls}
 use Rattle.semantics.specs.DirectRow.{directRow}
 use Rattle.behaviour.specs.Direct.{unlessRefused, directOf, freshText, directFresh}
@@ -73,26 +71,15 @@ pub record Wrote (text buffer : List ℕ) (n : ℕ) : Type 0 where
   pub count : length (encode process) ≡ n
   pub image : take n (compileOf text buffer .buffer) ≡ encode process
 
-not-written : {A : Type 0} {q k n : ℕ} → not-compiled q k ≡ written n → A
-not-written e = absurd (let z : _≡_ {A = ℕ} 0 1 = cc in omega arith)
-
 pub wrote : (text buffer : List ℕ) (n : ℕ) → compileOf text buffer .answer ≡ written n → Wrote text buffer n
-unfolding compileOf written-into
+unfolding compileOf
 wrote text buffer n e = on (verdict text) refl
   where
     on : (v : Verdict) → verdict text ≡ v → Wrote text buffer n
-    on (refused q k) h = not-written (sym (ap (λ (v : Verdict). onVerdict v buffer .answer) h) ∙ e)
-    on (accepted p) h = fits (leb (length (encode p)) (length buffer)) refl
-      where
-        fits : (b : Bool) → leb (length (encode p)) (length buffer) ≡ b → Wrote text buffer n
-        fits true l =
-            let c : compileOf text buffer ≡ record { answer = written (length (encode p)); buffer = encode p ++ drop (length (encode p)) buffer } = rw (h, l) in
-            let a : written (length (encode p)) ≡ written n = sym (ap (λ (r : Compile). r .answer) c) ∙ e in
-            let m : length (encode p) ≡ n = cc in
-            record { process = p; verdict = h; count = m; image = ap (λ (r : Compile). take n (r .buffer)) c ∙ take-at (encode p) (drop (length (encode p)) buffer) n m }
-        fits false l =
-            let c : compileOf text buffer ≡ record { answer = not-compiled 10 (length (encode p)); buffer = buffer } = rw (h, l) in
-            not-written (sym (ap (λ (r : Compile). r .answer) c) ∙ e)
+    on (refused q k) h = done-refused (sym e ∙ ap (λ (v : Verdict). onVerdict v buffer .answer) h)
+    on (accepted p) h =
+        let w = wrote-into (encode p) buffer n (sym (ap (λ (v : Verdict). onVerdict v buffer .answer) h) ∙ e) in
+        record { process = p; verdict = h; count = w .0; image = ap (λ (v : Verdict). take n (onVerdict v buffer .buffer)) h ∙ w .1 }
 
 -- THE THEOREM
 pub demand3 : (text buffer : List ℕ) (n : ℕ) → compileOf text buffer .answer ≡ written n → Demand3 text buffer n

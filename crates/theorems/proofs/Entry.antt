@@ -1,10 +1,10 @@
 -- Answers that are enums, and what entry leaves and tells beside them: each by the cases of the answer. Assumes nothing.
 use Prim.Native.Nat.{ℕ}
-use native.Mathlib.Omega.{arith}
-use mathlib.Core.Path.{_≡_, refl, ap}
+use mathlib.Core.Path.{_≡_, refl, sym, ap}
 use mathlib.Core.List.{List}
 use lib.ListN.{length}
 use Rattle.answers.specs.Answers.{Told, done, refusal, numberOf, placeOf, compileTold, freshTold, cycleTold}
+use Rattle.answers.proofs.Told.{done-refused}
 use Rattle.answers.specs.declared.State.{State}
 use Rattle.answers.specs.declared.Refusal.{Refusal}
 use Rattle.answers.specs.declared.Compiled as declared-compiled
@@ -17,39 +17,32 @@ use Rattle.semantics.specs.Records.{Started}
 use Rattle.theorems.specs.Entry.{stateAfter, openingTold}
 use Rattle.theorems.specs.Promises.{RefusedAs, AnswersTold, ToldByEntry}
 
--- what is done is not refused
-pub apart : {A B : Type 0} (x : A) (q k : ℕ) → done x ≡ refusal q k → B
-apart x q k e = absurd (let z : _≡_ {A = ℕ} 0 1 = cc in omega arith)
-
-pub apart-too : {A B : Type 0} (x : A) (q k : ℕ) → refusal q k ≡ done x → B
-apart-too x q k e = absurd (let z : _≡_ {A = ℕ} 0 1 = cc in omega arith)
-
 -- a refusal that tells q and k
 pub told-by : {A B : Type 0} (wrap : Refusal → B) (x : Refusal) (q k : ℕ) → _≡_ {A = Told A} (refusal (numberOf x) (placeOf x)) (refusal q k) → RefusedAs wrap (wrap x) q k
 told-by wrap x q k e = (x, refl, cc, cc)
 
 compiled-is : (r : declared-compiled.Compiled) (n : ℕ) → compileTold r ≡ done n → r ≡ Written n
 compiled-is (Written m) n e = let z : m ≡ n = cc in ap Written z
-compiled-is (NotCompiled x) n e = apart-too n (numberOf x) (placeOf x) e
+compiled-is (NotCompiled x) n e = done-refused (sym e)
 
 compile-refused-is : (r : declared-compiled.Compiled) (q k : ℕ) → compileTold r ≡ refusal q k → RefusedAs NotCompiled r q k
-compile-refused-is (Written m) q k e = apart m q k e
+compile-refused-is (Written m) q k e = done-refused e
 compile-refused-is (NotCompiled x) q k e = told-by NotCompiled x q k e
 
 started-is : (r : declared-started.Started) → freshTold r ≡ done tt → r ≡ Fresh
 started-is Fresh e = refl
-started-is (NotStarted x) e = apart-too _ (numberOf x) (placeOf x) e
+started-is (NotStarted x) e = done-refused (sym e)
 
 start-refused-is : (r : declared-started.Started) (q k : ℕ) → freshTold r ≡ refusal q k → RefusedAs NotStarted r q k
-start-refused-is Fresh q k e = apart _ q k e
+start-refused-is Fresh q k e = done-refused e
 start-refused-is (NotStarted x) q k e = told-by NotStarted x q k e
 
 cycled-is : (r : Cycled) (n : ℕ) → cycleTold r ≡ done n → r ≡ Performed n
 cycled-is (Performed m) n e = let z : m ≡ n = cc in ap Performed z
-cycled-is (NotPerformed x) n e = apart-too n (numberOf x) (placeOf x) e
+cycled-is (NotPerformed x) n e = done-refused (sym e)
 
 cycle-refused-is : (r : Cycled) (q k : ℕ) → cycleTold r ≡ refusal q k → RefusedAs NotPerformed r q k
-cycle-refused-is (Performed m) q k e = apart m q k e
+cycle-refused-is (Performed m) q k e = done-refused e
 cycle-refused-is (NotPerformed x) q k e = told-by NotPerformed x q k e
 
 pub answers-told : AnswersTold

@@ -11,10 +11,10 @@ use Rattle.language.specs.Lexing as S
 use Rattle.language.specs.Lexer.{tokenAt}
 use Rattle.language.specs.Validity.{Refuses}
 use Rattle.language.specs.Validity as Q
+use Rattle.language.proofs.Numbers.{first-not-2}
 use Rattle.language.proofs.TokenAt.{token-at, token-some, starts-computed, stop-nothing}
 use Rattle.theorems.specs.Lending.{bytesBetween, Lends, StandsAt, PartAt}
 use Rattle.theorems.specs.Promises.{Handed}
-use Rattle.theorems.proofs.Cases.{first-number}
 use Rattle.theorems.proofs.Lending.{stands-between, stands-lent, empty-stands, empty-between}
 
 -- what starts at p, the text t being read from n on, stands so far behind n
@@ -66,7 +66,7 @@ no-token t p = (
 -- refusal 2
 stopped : (t : List ℕ) (p : ℕ) → Refuses t 2 p → tokenAt t p ≡ []
 stopped t p (Q.no-token h s) = stop-nothing s
-stopped t p (Q.offends {t = x} r f) = let z = first-number x 2 p f .0 in absurd (omega arith)
+stopped t p (Q.offends {t = x} r f) = first-not-2 x p f
 
 -- what is lent between the bounds of the token
 lent : (t : List ℕ) (p : ℕ) (s r : RefT (List ℕ)) → now s ≡ t → Lends s p (p + length (tokenAt t p)) r → (now r ≡ tokenAt t p) × (p ≤ length t → PartAt s p r)

@@ -9,7 +9,6 @@ pub mod Lending
 pub mod Handed
 pub mod SectionsLent
 pub mod Main
-pub mod TokensOf
 pub mod LexedPlaces
 pub mod OffencePlaces
 pub mod Places

@@ -17,11 +17,12 @@ use Rattle.language.specs.Typing.{typeOf, wrong1, wrong2, typesIn, wants, types
 use Rattle.language.specs.Values.{firstAt, missing, valuesOf, values}
 use Rattle.language.specs.Clock.{readsIn, readsOf, strays, clockFor, clock}
 use Rattle.language.specs.Classes.{classes, isC, notClassedWrong, loopsOf, orWhole, loops}
-use Rattle.language.specs.Rules.{Rule, table}
+use Rattle.language.specs.Rules.{Offence, Stage, by, table}
 use Rattle.language.specs.Validity.{In, First}
 use Rattle.language.specs.Validity as Q
+use Rattle.language.proofs.Offences.{in-by}
 use Rattle.theorems.proofs.LexedPlaces.{By}
-use Rattle.theorems.proofs.TokensOf.{InExpr, InStmt, InBody, InInit, InGroup, InText}
+use Rattle.grammar.proofs.TokensOf.{InExpr, InStmt, InBody, InInit, InGroup, InText}
 
 module _ (n : ℕ) where
   -- all places are at most n
@@ -313,16 +314,26 @@ module _ (n : ℕ) where
       or-whole-inside (each loopsOf (statements (t .body))) (isC (classes (t .body))) (t .process .place)
       (each-inside (InStmt (By n)) loopsOf loops-of-inside (statements (t .body)) (statements-in (t .body) (h .body))) (h .process)
 
-  -- ALL RULES
-  abbrev Kept : List Rule → Text → Type 0
-  Kept rs t = Each (λ (r : Rule). Inside (r .offences t)) rs
+  -- ALL STAGES
+  abbrev AllBy : List Offence → Type 0
+  AllBy l = (o : Offence) → In o l → o .place ≤ n
+
+  -- a stage with one row
+  by-inside : (k : ℕ) (places : Text → List ℕ) (t : Text) → Inside (places t) → AllBy (by k places t)
+  by-inside k places t h o i = in-inside (o .place) (places t) (in-by k places t o i .1) h
+
+  abbrev Kept : List Stage → Text → Type 0
+  Kept rs t = Each (λ (r : Stage). AllBy (r t)) rs
 
   table-inside : (t : Text) → InText (By n) t → Kept table t
   unfolding table
-  table-inside t h = (names-inside t h, (types-inside t h, (values-inside t h, (clock-inside t h, (loops-inside t h, tt)))))
+  table-inside t h = (
+    by-inside 5 names t (names-inside t h),
+    (by-inside 6 types t (types-inside t h), (by-inside 7 values t (values-inside t h), (by-inside 8 clock t (clock-inside t h), (by-inside 9 loops t (loops-inside t h), tt)))),
+  )
 
-  first-inside : (t : Text) (q p : ℕ) (rs : List Rule) → First t q p rs → Kept rs t → p ≤ n
-  first-inside t q p rs (Q.First.here {r} e h) k = in-inside p (r .offences t) (h .one) (k .0)
+  first-inside : (t : Text) (q p : ℕ) (rs : List Stage) → First t q p rs → Kept rs t → p ≤ n
+  first-inside t q p rs (Q.First.here h) k = k .0 _ (h .one)
   first-inside t q p rs (Q.First.there {rs = qs} e f) k = first-inside t q p qs f (k .1)
 
   -- the place of the first offence of a tree

@@ -25,7 +25,7 @@ use Rattle.behaviour.specs.Direct.{unlessRefused, directOf, directFresh}
 use Rattle.theorems.specs.Compile.{written, not-compiled, compileOf}
 use Rattle.theorems.specs.Promises as P
 use Rattle.theorems.specs.Places.{PlacesFit}
-use Rattle.theorems.proofs.TokensOf.{tokens-of}
+use Rattle.grammar.proofs.TokensOf.{tokens-of}
 use Rattle.theorems.proofs.LexedPlaces.{By, lexed-places, stopped-place, token-place}
 use Rattle.theorems.proofs.OffencePlaces.{offence-place}
 use Rattle.theorems.proofs.Size.{valid-fits}

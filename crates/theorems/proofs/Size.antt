@@ -16,7 +16,7 @@ use Rattle.format.specs.Signature.{Cell, typeBytes, cellBytes, signatureBytes}
 use Rattle.format.specs.Image.{lineCode, linesCode, pairs, joined, image, Sections, form1, sectionsFor, encodeTable}
 use Rattle.format.specs.Encode.{cells, signatureFor, tableOf, encode}
 use Rattle.design.proofs.Postfix.{Steps, lay-whole}
-use Rattle.format.proofs.Coding.{post-laid}
+use Rattle.format.proofs.Coding.{untyped1, untyped2, post-laid}
 use Rattle.format.proofs.Encoded.{raws-length}
 use Rattle.language.specs.Validity.{Valid}
 use Rattle.language.proofs.WellFormed.{valid-well-formed}
@@ -54,7 +54,7 @@ bytes-before : (i : Operation) (k : List Operation) (m : ℕ) → length (operat
 bytes-before i k m h = let e = bytes-append (i ∷ []) k in omega arith
 
 -- with n bytes before it, at most 3 bytes an item and 2 more
-room-steps : (r : ℕ) → Steps push apply1 apply2 (λ (e : Expr) (n : ℕ). Unit {0}) (λ (e : Expr) (n : ℕ). n + (3 * items e + 2)) (λ (k : List Operation) (n : ℕ). n + length (operationBytes k) ≤ r)
+room-steps : (r : ℕ) → Steps push untyped1 untyped2 (λ (e : Expr) (n : ℕ). Unit {0}) (λ (e : Expr) (n : ℕ). n + (3 * items e + 2)) (λ (k : List Operation) (n : ℕ). n + length (operationBytes k) ≤ r)
 unfolding items
 room-steps r =
     record {

@@ -29,7 +29,7 @@ unfolding Bytes
 direct-untouched text s c q k = go (directOf text s c) (demand1 text [] [] tt s c .run)
   where
     go : (r : Called) → RunsText text s c r → r .answer ≡ not-performed q k → (r .state ≡ s) × (r .row ≡ c .outputs)
-    go _ (P.RunsText.refuses x y h j m) e = (refl, refl)
+    go _ (P.RunsText.refuses x y h m) e = (refl, refl)
     go _ (P.RunsText.by-14 d v x m) e = (refl, refl)
     go _ (P.RunsText.by-15 d v m n) e = (refl, refl)
     go _ (P.RunsText.answers d v m g r a) e = let u = row-untouched d (g .kept) c r q k a e in (u .0 ∙ g .layout, u .1)

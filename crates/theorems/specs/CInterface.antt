@@ -17,7 +17,7 @@ use Rattle.format.specs.State.{freshOf}
 use Rattle.format.specs.Cycle.{cycleOf}
 use Rattle.format.specs.Batch.{Batch, batchOf}
 use Rattle.behaviour.specs.Direct.{directOf, directFresh}
-use Rattle.theorems.specs.Compile.{compileAnswer, compileOf}
+use Rattle.theorems.specs.Compile.{compileOf}
 
 -- "A place (512 for the beginning, else a wait's line)": a number outside 0 to 65535 is read as 65535, which is neither 512 nor a wait's line and so is
 -- refused by 15 where 14 does not come first
@@ -72,7 +72,7 @@ directFreshInC text l = startLeft (directFresh text) l
 
 -- rabtishu_compile: the three numbers, and the buffer as it is left
 abbrev pub compileInC : List ℕ → List ℕ → List ℕ × List ℕ
-compileInC text buffer = let c = compileOf text buffer in (numbersOf (compileAnswer (c .answer)), c .buffer)
+compileInC text buffer = let c = compileOf text buffer in (numbersOf (c .answer), c .buffer)
 
 -- rabtishu_open: nothing is counted
 abbrev pub openNumbers : Opened → List ℕ

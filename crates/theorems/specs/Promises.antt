@@ -24,7 +24,7 @@ use Rattle.design.specs.Process.{Process}
 use Rattle.language.specs.Lexing as Lexing
 use Rattle.language.specs.Lexer.{tokenAt}
 use Rattle.language.specs.Reading.{reading}
-use Rattle.language.specs.Validity.{Parses, Valid, Refuses}
+use Rattle.language.specs.Validity.{Parses, Valid, Refuses, OfText}
 use Rattle.language.specs.Verdict.{accepted, refused, verdict}
 use Rattle.semantics.specs.Rows.{Kept, Outcome, rows, atFirst}
 use Rattle.semantics.specs.Rows as R
@@ -49,10 +49,11 @@ use Rattle.format.specs.Refusals.{Refusal}
 use Rattle.format.specs.State.{memoryOf, freshTable, freshOf}
 use Rattle.format.specs.Cycle.{cycleOf, callsOf}
 use Rattle.format.specs.Encode.{tableOf, encode}
+use Rattle.format.specs.Writing.{Writing}
 use Rattle.images.specs.Outcome as Image
 use Rattle.behaviour.specs.Direct.{directOf, directFresh, directCalls}
 use Rattle.behaviour.specs.DirectRun.{DirectRun}
-use Rattle.theorems.specs.Compile.{Compile, written, not-compiled, compileAnswer, compileOf}
+use Rattle.theorems.specs.Compile.{written, not-compiled, compileOf}
 use Rattle.theorems.specs.Entry.{stateAfter, openingTold}
 use Rattle.theorems.specs.CInterface.{Left, stateOfC, cOfState, compileInC, openInC, freshInC, cycleInC, directFreshInC, directInC, callsInC}
 use Rattle.theorems.specs.Lending.{Lends, StandsAt, PartAt, LentAs}
@@ -62,12 +63,12 @@ use Rattle.theorems.specs.Lending.{Lends, StandsAt, PartAt, LentAs}
 -- the condition that document 01 has for it; behind them, for each operation, that it is refused by q at k exactly when a clause of the table says so.
 
 -- compile: 1 to 9 by the table's rows, 10 where the image does not fit, else the image, "only the image's own bytes"
-pub data Compiles (text buffer : List ℕ) : Compile → Type 0 where
+pub data Compiles (text buffer : List ℕ) : Writing → Type 0 where
   writes : (d : Process) → Valid text d → length (encode d) ≤ length buffer
       → Compiles text buffer (record { answer = written (length (encode d)); buffer = encode d ++ drop (length (encode d)) buffer })
   too-short : (d : Process) → Valid text d → length buffer < length (encode d)
       → Compiles text buffer (record { answer = not-compiled 10 (length (encode d)); buffer = buffer })
-  refuses : (q k : ℕ) → 1 ≤ q → q ≤ 9 → Refuses text q k → Compiles text buffer (record { answer = not-compiled q k; buffer = buffer })
+  refuses : (q k : ℕ) → OfText q → Refuses text q k → Compiles text buffer (record { answer = not-compiled q k; buffer = buffer })
 
 -- open: the table whose bytes these are, or 11, 12 or 13
 pub data Opens (image : List ℕ) : Opened → Type 0 where
@@ -86,7 +87,7 @@ pub data Runs (image : List ℕ) (s : State) (c : Call) : Called → Type 0 wher
 
 -- direct: 1 to 9 of the text, 14, 15; else the row as the equations answer it, performed or refused by 16 or 18
 pub data RunsText (text : List ℕ) (s : State) (c : Call) : Called → Type 0 where
-  refuses : (q k : ℕ) → 1 ≤ q → q ≤ 9 → Refuses text q k → RunsText text s c (turnedBack q k s (c .outputs))
+  refuses : (q k : ℕ) → OfText q → Refuses text q k → RunsText text s c (turnedBack q k s (c .outputs))
   by-14 : (d : Process) → Valid text d → (k : ℕ) → Meets14 d (fed c) k → RunsText text s c (turnedBack 14 k s (c .outputs))
   by-15 : (d : Process) → Valid text d → ((k : ℕ) → Meets14 d (fed c) k → ⊥) → (Described d s → ⊥) → RunsText text s c (turnedBack 15 0 s (c .outputs))
   answers : (d : Process) → Valid text d → ((k : ℕ) → Meets14 d (fed c) k → ⊥) → (g : Described d s) → (r : Outcome × Kept) → Answers d (g .kept) (fed c) r
@@ -95,7 +96,7 @@ pub data RunsText (text : List ℕ) (s : State) (c : Call) : Called → Type 0 w
 -- direct_fresh: the beginning and the initial values, or 1 to 9
 pub data StartsText (text : List ℕ) : Started → Type 0 where
   starts : (d : Process) → Valid text d → StartsText text (fresh (laid (atFirst d)))
-  refuses : (q k : ℕ) → 1 ≤ q → q ≤ 9 → Refuses text q k → StartsText text (not-started q k)
+  refuses : (q k : ℕ) → OfText q → Refuses text q k → StartsText text (not-started q k)
 
 -- the clauses for a refused compile: 1 to 9, and 10, "image buffer too short", at "bytes needed"
 pub data CompileRefused (text buffer : List ℕ) (q k : ℕ) : Type 0 where
@@ -214,8 +215,8 @@ abbrev pub RefusedAs : {A : Type 0} → (declared.Refusal → A) → A → ℕ �
 RefusedAs wrap r q k = (x : declared.Refusal) × (r ≡ wrap x) × (numberOf x ≡ q) × (placeOf x ≡ k)
 
 pub record AnswersTold : Type 0 where
-  pub compiled : (r : declared-compiled.Compiled) (n : ℕ) → compileTold r ≡ compileAnswer (written n) → r ≡ Written n
-  pub compile-refused : (r : declared-compiled.Compiled) (q k : ℕ) → compileTold r ≡ compileAnswer (not-compiled q k) → RefusedAs NotCompiled r q k
+  pub compiled : (r : declared-compiled.Compiled) (n : ℕ) → compileTold r ≡ written n → r ≡ Written n
+  pub compile-refused : (r : declared-compiled.Compiled) (q k : ℕ) → compileTold r ≡ not-compiled q k → RefusedAs NotCompiled r q k
   pub started : (r : declared-started.Started) (s : State) → freshTold r ≡ freshAnswer (fresh s) → r ≡ Fresh
   pub start-refused : (r : declared-started.Started) (q k : ℕ) → freshTold r ≡ freshAnswer (not-started q k) → RefusedAs NotStarted r q k
   pub cycled : (r : Cycled) (way : List ℕ) → cycleTold r ≡ cycleAnswer (performed way) → r ≡ Performed (length way)

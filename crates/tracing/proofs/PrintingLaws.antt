@@ -15,7 +15,8 @@ use mir.Syntax.{w32}
 use mir.Val.{SFits}
 use Rattle.semantics.specs.Twos.{unsigned32}
 use Rattle.language.specs.Bytes.{bytes}
-use Rattle.tracing.specs.Printing.{decimalBy, decimal, integer, integers, performedLine, refusedLine, refusedText}
+use Rattle.design.specs.Spelling.{decimalBy, decimal}
+use Rattle.tracing.specs.Printing.{integer, integers, performedLine, refusedLine, refusedText}
 use Rattle.tracing.specs.Stored.{Puts, tens}
 use Rattle.tracing.proofs.Storing.{sets-append, sets-out}
 

@@ -9,14 +9,16 @@ use native.Mathlib.Omega.{arith}
 use lib.ListN.{length, take}
 use lib.Seq.{sets}
 use lib.Dec.{leb}
-use borrow.Author.Tests.{le-leb, leb-true, leb-false}
+use borrow.Author.Tests.{leb-true, leb-false}
 use Rattle.answers.specs.Answers.{countOf}
 use Rattle.design.specs.Process.{Process}
 use Rattle.language.specs.Verdict.{Verdict, accepted, refused, verdict}
 use Rattle.language.proofs.Judged.{accepts}
 use Rattle.format.specs.Words.{Bytes}
 use Rattle.format.specs.Encode.{encode}
-use Rattle.theorems.specs.Compile.{written, onVerdict, written-into, compileOf, compileAnswer}
+use Rattle.format.specs.Writing.{Writing}
+use Rattle.format.proofs.Writing.{fits-written}
+use Rattle.theorems.specs.Compile.{written, onVerdict, compileOf}
 use Rattle.theorems.proofs.Size.{valid-fits}
 use Rattle.compiler.proofs.Written.{accepted-fits, written-opens}
 use Rattle.labels.specs.Header.{headerOf, headerFor}
@@ -33,11 +35,10 @@ use Rattle.tracing.proofs.Refused.{only-refused}
 
 -- an accepted text's image fits
 written-whole : (text b : List ℕ) (p : Process) → verdict text ≡ accepted p → 65535 ≤ length b → compileOf text b .answer ≡ written (length (encode p))
-unfolding compileOf written-into
+unfolding compileOf
 written-whole text b p v h =
     let f = valid-fits text p (accepts text p .0 v) in
-    let k : leb (length (encode p)) (length b) ≡ true = le-leb (length (encode p)) (length b) (omega arith) in
-    ap (λ (x : Verdict). onVerdict x b .answer) v ∙ rw k
+    ap (λ (x : Verdict). onVerdict x b .answer) v ∙ ap (λ (w : Writing). w .answer) (fits-written (encode p) b (omega arith))
 
 accepted-prints : (text rows b : List ℕ) (free : ℕ) (p : Process) → verdict text ≡ accepted p → 65535 ≤ length b → 512 ≤ free
     → printedOf text rows b free ≡ traceOf text rows
@@ -66,7 +67,7 @@ program-prints text rows b free h r = on (verdict text) refl
     on : (v : Verdict) → verdict text ≡ v → printedOf text rows b free ≡ traceOf text rows
     on (accepted p) e = accepted-prints text rows b free p e h r
     on (refused n k) e =
-        ap (λ (o : Option (List ℕ)). printedBy o (headerFor (verdict text)) (take (countOf (compileAnswer (compileOf text b .answer))) (compileOf text b .buffer)) rows free)
+        ap (λ (o : Option (List ℕ)). printedBy o (headerFor (verdict text)) (take (countOf (compileOf text b .answer)) (compileOf text b .buffer)) rows free)
         (only-refused text rows b n k e)
 
 -- the first bytes of a buffer after a fill, as many as the fill answers, are what it put

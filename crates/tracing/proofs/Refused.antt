@@ -5,14 +5,14 @@ use mathlib.Core.List.{List}
 use Prim.Native.Nat.{ℕ}
 use lib.ListN.{length}
 use Rattle.language.specs.Verdict.{Verdict, refused, verdict}
-use Rattle.theorems.specs.Compile.{onVerdict, compileOf, compileAnswer}
+use Rattle.theorems.specs.Compile.{onVerdict, compileOf}
 use Rattle.tracing.specs.Trace.{traceOf}
 use Rattle.tracing.specs.Chunks.{onlyLine}
 use Rattle.tracing.proofs.Whole.{trace-refused}
 
 -- the only line of the trace of a refused text, by the compile's answer
 pub only-refused : (text rows buffer : List ℕ) (n k : ℕ) → verdict text ≡ refused n k
-    → onlyLine (compileAnswer (compileOf text buffer .answer)) (length rows) ≡ some (traceOf text rows)
+    → onlyLine (compileOf text buffer .answer) (length rows) ≡ some (traceOf text rows)
 unfolding compileOf
 only-refused text rows buffer n k v =
-    ap (λ (x : Verdict). onlyLine (compileAnswer (onVerdict x buffer .answer)) (length rows)) v ∙ ap some (sym (trace-refused text rows n k v))
+    ap (λ (x : Verdict). onlyLine (onVerdict x buffer .answer) (length rows)) v ∙ ap some (sym (trace-refused text rows n k v))

@@ -17,7 +17,8 @@ use Rattle.format.specs.Cycle.{cycleOf}
 use Rattle.images.specs.Outcome as O
 use Rattle.theorems.specs.Promises as P
 use Rattle.theorems.proofs.Main.{demand1}
-use Rattle.tracing.specs.Printing.{decimalBy, decimal, integer, integers, performedLine, refusedLine, refusedText}
+use Rattle.design.specs.Spelling.{decimalBy, decimal}
+use Rattle.tracing.specs.Printing.{integer, integers, performedLine, refusedLine, refusedText}
 use Rattle.tracing.specs.Chunks.{lineOf, shown, room, rowShown, goesOn, onward, rowAt, nextOf}
 use Rattle.tracing.specs.declared.Progress.{Progress}
 

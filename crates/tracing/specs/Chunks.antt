@@ -9,6 +9,9 @@ use lib.ListN.{length, getD, drop, replicate}
 use lib.Seq.{sets}
 use lib.IntN.{ℤ, pos}
 use lib.Dec.{leb, ltb}
+use Rattle.codes.specs.Limit as L
+use Rattle.codes.specs.Image as M
+use Rattle.codes.specs.Refusal as F
 use Rattle.answers.specs.Answers.{Told, done, refusal, countOf}
 use Rattle.answers.specs.declared.State.{State}
 use Rattle.answers.specs.declared.Sections.{Sections}
@@ -44,11 +47,11 @@ shown n c = lineOf n (cycleAnswer (c .answer)) (c .state .place) (c .row)
 
 -- the number of outputs, which an image has in the second byte of its signature
 abbrev pub room : List ℕ → ℕ
-room b = min (getD b 29 0) 16
+room b = min (getD b M.OUTPUT-COUNT 0) L.OUTPUTS
 
 -- the line of the row n and the state after it; an unreadable row leaves the state as it was
 abbrev pub rowShown : List ℕ → State → ℕ → Option (List ℤ) → List ℕ × State
-rowShown b s n none = (refusedLine n 14, s)
+rowShown b s n none = (refusedLine n F.BAD-ROW, s)
 rowShown b s n (some v) = let c = cycleOf b s v (replicate (room b) (pos 0)) in (shown n c, c .state)
 
 -- the state t after the row and the line in the buffer, o before and u after, of which r bytes stand there
@@ -58,7 +61,7 @@ pub record Shows (b : List ℕ) (s : State) (n : ℕ) (v : Option (List ℤ)) (o
 
 -- there is a row at the place: rows of above 65,536 bytes are not traced
 unfoldable pub goesOn : ℕ → ℕ → ℕ → Bool
-goesOn length number at = leb length 65536 && (ltb at length && ltb number 65536)
+goesOn length number at = leb length L.TRACED && (ltb at length && ltb number L.TRACED)
 
 -- where the trace of an image stands before the first row
 abbrev pub firstOf : List ℕ → Progress
@@ -111,7 +114,7 @@ pub record Fills (x : List ℕ × Progress) (o : List ℕ) (r : Filled) (u : Lis
 
 -- "A refused text prints only `refused`, number, place"; "with above 65,536 bytes of rows it prints only `refused 14 0`"; else there is no only line
 abbrev pub onlyLine : Told ℕ → ℕ → Option (List ℕ)
-onlyLine (done n) rows = cond (leb rows 65536) none (some (refusedText 14 0))
+onlyLine (done n) rows = cond (leb rows L.TRACED) none (some (refusedText F.BAD-ROW 0))
 onlyLine (refusal q k) rows = some (refusedText q k)
 
 abbrev pub begunBy : Option (List ℕ) → ℕ → List ℕ → Begun × List ℕ

@@ -1,19 +1,9 @@
 -- What the trace prints, as bytes (document 01, "The trace of tally"). Assumes nothing.
-use mathlib.Core.Bool.{cond}
 use mathlib.Core.List.{List, [], _∷_, _++_}
-use Prim.Native.Nat.{ℕ, zero, suc, _+_, _/_, _%_}
+use Prim.Native.Nat.{ℕ, suc}
 use lib.IntN.{ℤ, pos, negsuc}
-use lib.Dec.{ltb}
+use Rattle.design.specs.Spelling.{decimal}
 use Rattle.language.specs.Bytes.{bytes}
-
--- a number's decimal digits, of which there are at most f and one more; 48 is the byte of 0
-unfoldable pub decimalBy : ℕ → ℕ → List ℕ
-decimalBy zero n = (48 + n) ∷ []
-decimalBy (suc f) n = cond (ltb n 10) ((48 + n) ∷ []) (decimalBy f (n / 10) ++ ((48 + n % 10) ∷ []))
-
--- a number in decimals: 20 digits are enough for every number of 64 bits
-abbrev pub decimal : ℕ → List ℕ
-decimal n = decimalBy 19 n
 
 -- an integer in decimals, after `-` where it is below zero; negsuc n is -(n + 1)
 abbrev pub integer : ℤ → List ℕ

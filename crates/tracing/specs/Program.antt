@@ -5,7 +5,7 @@ use Prim.Native.Nat.{ℕ}
 use lib.ListN.{length, take}
 use Rattle.answers.specs.Answers.{Told, countOf}
 use Rattle.language.specs.Verdict.{verdict}
-use Rattle.theorems.specs.Compile.{compileOf, compileAnswer}
+use Rattle.theorems.specs.Compile.{compileOf}
 use Rattle.labels.specs.Header.{headerFor}
 use Rattle.tracing.specs.Chunks.{onlyLine, firstOf, fills}
 
@@ -20,4 +20,4 @@ printedAfter text rows c b free = printedBy (onlyLine c (length rows)) (headerFo
 
 -- what is printed for a text and rows, where the image is compiled into the buffer b and lines are put into a buffer of so many bytes
 unfoldable pub printedOf : List ℕ → List ℕ → List ℕ → ℕ → List ℕ
-printedOf text rows b free = printedAfter text rows (compileAnswer (compileOf text b .answer)) (compileOf text b .buffer) free
+printedOf text rows b free = printedAfter text rows (compileOf text b .answer) (compileOf text b .buffer) free

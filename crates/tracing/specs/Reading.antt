@@ -8,6 +8,7 @@ use lib.ListN.{length, drop}
 use lib.Seq.{sets}
 use lib.IntN.{ℤ}
 use lib.Dec.{eqb, leb}
+use Rattle.codes.specs.Limit as L
 use Rattle.scanner.specs.Places.{runEnd}
 use Rattle.tracing.specs.Rows.{parted, all, decimals}
 use Rattle.tracing.specs.declared.rows.Decimal.{Decimal}
@@ -37,7 +38,7 @@ readAs (some z) = Value z
 -- a row of at most 16 values: "data inputs (at most 16)", so a longer one is not as long as its count
 abbrev pub short : Option (List ℤ) → Option (List ℤ)
 short none = none
-short (some l) = cond (leb (length l) 16) (some l) none
+short (some l) = cond (leb (length l) L.INPUTS) (some l) none
 
 -- the row's answer r, and the lent values, v before and w after: the values of the row are stored from index 0 on
 abbrev pub readsOf : Option (List ℤ) → List ℤ → Row → List ℤ → Type 0
@@ -64,7 +65,7 @@ joined l ws = short (after l (all ws))
 pub record Reading (line : List ℕ) (before now : List ℤ) (n i : ℕ) : Type 0 where
   pub read : List ℤ
   pub count : n ≡ length read
-  pub few : n ≤ 16
+  pub few : n ≤ L.INPUTS
   pub stored : now ≡ sets before 0 read
   pub inside : i ≤ length line + 1
   pub rest : short (decimals line) ≡ joined read (partsFrom line i)

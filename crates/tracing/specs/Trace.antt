@@ -6,10 +6,11 @@ use Prim.Native.Nat.{ℕ, suc}
 use lib.ListN.{length}
 use lib.IntN.{ℤ}
 use lib.Dec.{leb}
+use Rattle.codes.specs.Refusal as F
 use Rattle.design.specs.Process.{Process}
 use Rattle.semantics.specs.Rows.{Kept, Outcome, performed, row-refused, operator-refused, row, atFirst}
 use Rattle.semantics.specs.Records.{number}
-use Rattle.language.specs.Verdict.{Verdict, accepted, refused, verdict}
+use Rattle.language.specs.Verdict.{Verdict, onAccepted, verdict}
 use Rattle.tracing.specs.Rows.{rowsIn, decimals}
 use Rattle.tracing.specs.Printing.{performedLine, refusedLine, refusedText}
 use Rattle.labels.specs.Header.{headerOf}
@@ -17,12 +18,12 @@ use Rattle.labels.specs.Header.{headerOf}
 -- the line of the row n: "row number, wait line, lines performed, outputs; a refused row prints its number, `refused`, the refusal"
 abbrev pub lineFor : ℕ → Outcome × Kept → List ℕ
 lineFor n (performed outputs way, k) = performedLine n (number (k .place)) (length way) outputs
-lineFor n (row-refused place, k) = refusedLine n 14
+lineFor n (row-refused place, k) = refusedLine n F.BAD-ROW
 lineFor n (operator-refused q line, k) = refusedLine n q
 
 -- the line of a row and what is kept after it; "A row that is unreadable or has a decimal outside integer counts as 14."
 abbrev pub rowTraced : Process → Kept → ℕ → Option (List ℤ) → List ℕ × Kept
-rowTraced p k n none = (refusedLine n 14, k)
+rowTraced p k n none = (refusedLine n F.BAD-ROW, k)
 rowTraced p k n (some v) = let r = row p k (record { inputs = v; room = length (p .outputs) }) in (lineFor n r, r .1)
 
 -- the lines of the rows, from the row n on
@@ -37,9 +38,10 @@ rowValues (w ∷ ws) = decimals w ∷ rowValues ws
 
 -- "A refused text prints only `refused`, number, place"; "For an accepted text with above 65,536 bytes of rows it prints only `refused 14 0`."
 abbrev pub tracedBy : Verdict → List ℕ → List ℕ
-tracedBy (refused n k) rows = refusedText n k
-tracedBy (accepted p) rows =
-    cond (leb (length rows) 65536) (headerOf p ++ rowsTraced p (atFirst p) 0 (rowValues (rowsIn rows))) (refusedText 14 0)
+tracedBy v rows =
+    onAccepted
+    (λ p. cond (leb (length rows) 65536) (headerOf p ++ rowsTraced p (atFirst p) 0 (rowValues (rowsIn rows))) (refusedText F.BAD-ROW 0))
+    refusedText v
 
 -- what the trace program prints for the text and the rows
 unfoldable pub traceOf : List ℕ → List ℕ → List ℕ

@@ -13,7 +13,7 @@ ghost use Rattle.tracing.specs.Stored.{Puts};
 ghost use Rattle.tracing.specs.Chunks.{OpenedAt, lineOf, shown, room, Shows, goesOn, firstOf, nextOf, hasMore, fillBy, fillOf, Fills, begunOf};
 ghost use Rattle.answers.specs.declared.Compiled.the-variants.{Written};
 ghost use Rattle.answers.specs.Answers.{done, cycleTold};
-ghost use Rattle.theorems.specs.Compile.{compileOf, compileAnswer};
+ghost use Rattle.theorems.specs.Compile.{compileOf};
 
 mod printing;
 mod rows;
@@ -23,8 +23,14 @@ use answers::Cycled;
 use answers::Opened;
 use answers::Sections;
 use answers::State;
+use codes::image;
+use codes::limit;
+use codes::refusal;
 use lexer::parts::part_of;
 use rows::Row;
+
+// Bytes that no line has more of.
+const LINE: usize = 512;
 
 // A row run: the state after it, and how many bytes of its line stand in the buffer.
 struct Ran {
@@ -90,8 +96,12 @@ fn run_row(
 fn outputs_of(image: &[u8]) -> usize
     ensures { λ r. ⌜ r ≡ room (now (image .entry)) ⌝ }
 {
-    let n = words::byte(image, 29) as usize;
-    if n < 16 { n } else { 16 }
+    let n = words::byte(image, image::OUTPUT_COUNT) as usize;
+    if n < limit::OUTPUTS {
+        n
+    } else {
+        limit::OUTPUTS
+    }
 }
 
 // The first n of 16 values.
@@ -109,7 +119,7 @@ fn call_row(image: &[u8], at: Sections, s: State, n: usize, inputs: &[i32], out:
     requires { ⌜ OpenedAt (now image) at ⌝ }
     ensures { λ r. ⌜ Shows (now (image .entry)) s n (some (now (inputs .entry))) (now (out .entry)) (r .state) (now (out .exit)) (r .size) ⌝ }
 {
-    let mut row = [0i32; 16];
+    let mut row = [0i32; limit::OUTPUTS];
     let m = outputs_of(image);
     run_row(image, at, s, n, inputs, &mut row[0..m], out)
 }
@@ -119,11 +129,11 @@ fn row_line(image: &[u8], at: Sections, s: State, n: usize, line: &[u8], out: &m
     requires { ⌜ OpenedAt (now image) at × (length (now line) ≤ 65536) ⌝ }
     ensures { λ r. ⌜ Shows (now (image .entry)) s n (short (decimals (now (line .entry)))) (now (out .entry)) (r .state) (now (out .exit)) (r .size) ⌝ }
 {
-    let mut values = [0i32; 16];
+    let mut values = [0i32; limit::INPUTS];
     match rows::read_row(line, &mut values) {
         Row::Values(k) => call_row(image, at, s, n, first_values(&values, k), out),
         Row::Unreadable => {
-            let size = printing::refused_line(out, n, 14);
+            let size = printing::refused_line(out, n, refusal::BAD_ROW);
             Ran {
                 state: s,
                 size: size,
@@ -136,13 +146,13 @@ fn row_line(image: &[u8], at: Sections, s: State, n: usize, line: &[u8], out: &m
 fn goes_on(length: usize, number: usize, at: usize) -> bool
     ensures { λ r. ⌜ r ≡ goesOn length number at ⌝ }
 {
-    if 65536 < length {
+    if limit::TRACED < length {
         return false;
     }
     if length <= at {
         return false;
     }
-    number < 65536
+    number < limit::TRACED
 }
 
 // Where the row behind an end begins.
@@ -174,7 +184,7 @@ fn next(image: &[u8], at: Sections, rows: &[u8], p: Progress, out: &mut [u8]) ->
     let state = p.state;
     let number = p.number;
     let from = p.at;
-    let end = rows::part_end(rows, from, 10);
+    let end = rows::part_end(rows, from, b'\n');
     let ran = row_line(
         image,
         at,
@@ -220,7 +230,7 @@ fn append(
 fn has_more(free: usize, length: usize, p: Progress) -> bool
     ensures { λ r. ⌜ r ≡ hasMore free length p ⌝ }
 {
-    if free < 512 {
+    if free < LINE {
         return false;
     }
     goes_on(length, p.number, p.at)
@@ -263,16 +273,16 @@ pub fn fill(image: &[u8], rows: &[u8], p: Progress, out: &mut [u8]) -> Filled
 fn begin(n: usize, length: usize, out: &mut [u8]) -> Begun
     ensures { λ r. ⌜ (r ≡ begunOf (done n) length (now (out .entry)) .0) × (now (out .exit) ≡ begunOf (done n) length (now (out .entry)) .1) ⌝ }
 {
-    if 65536 < length {
-        return Begun::Only(printing::refused_text(out, 14, 0));
+    if limit::TRACED < length {
+        return Begun::Only(printing::refused_text(out, refusal::BAD_ROW, 0));
     }
     Begun::Image(n)
 }
 
 // The beginning of the trace: the refusal of the text or of the rows, which is then all of it, or the image.
 pub fn start(text: &[u8], rows: &[u8], image: &mut [u8], out: &mut [u8]) -> Begun
-    ensures { λ r. ⌜ (r ≡ begunOf (compileAnswer (compileOf (now (text .entry)) (now (image .entry)) .answer)) (length (now (rows .entry))) (now (out .entry)) .0)
-        × (now (out .exit) ≡ begunOf (compileAnswer (compileOf (now (text .entry)) (now (image .entry)) .answer)) (length (now (rows .entry))) (now (out .entry)) .1)
+    ensures { λ r. ⌜ (r ≡ begunOf (compileOf (now (text .entry)) (now (image .entry)) .answer) (length (now (rows .entry))) (now (out .entry)) .0)
+        × (now (out .exit) ≡ begunOf (compileOf (now (text .entry)) (now (image .entry)) .answer) (length (now (rows .entry))) (now (out .entry)) .1)
         × (now (image .exit) ≡ compileOf (now (text .entry)) (now (image .entry)) .buffer) ⌝ }
 {
     match compiler::compile(text, image) {

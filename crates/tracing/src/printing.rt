@@ -5,8 +5,18 @@ ghost use mathlib.Core.List.{[], _∷_};
 ghost use Prim.Native.Nat.{ℕ, _+_, _<_};
 ghost use lib.IntN.{pos};
 ghost use lib.ListN.{getD};
-ghost use Rattle.tracing.specs.Printing.{decimalBy, decimal, integer, integers, performedLine, refusedLine, refusedText};
+ghost use Rattle.design.specs.Spelling.{decimalBy, decimal};
+ghost use Rattle.tracing.specs.Printing.{integer, integers, performedLine, refusedLine, refusedText};
 ghost use Rattle.tracing.specs.Stored.{Puts, tens};
+use codes::limit;
+
+// How many digits there are.
+const TEN: usize = 10;
+
+// How many numbers 32 bits have, and the first of those that stand for a negative integer.
+const WORDS: usize = limit::WORD as usize + 1;
+
+const NEGATIVE: usize = limit::INTEGER as usize + 1;
 
 // A byte.
 fn put(out: &mut [u8], at: usize, b: u8) -> usize
@@ -37,18 +47,18 @@ fn digit_byte(n: usize) -> u8
     requires { ⌜ n < 10 ⌝ }
     ensures { λ r. ⌜ r ≡ 48 + n ⌝ }
 {
-    48 + n as u8
+    b'0' + n as u8
 }
 
 // The digits of a number, at most 20: those before the last one first.
 fn put_digits(out: &mut [u8], at: usize, n: usize) -> usize
     ensures { λ r. ⌜ ((f : ℕ) → n < tens f → Puts (now (out .entry)) at (decimalBy f n) (now (out .exit)) r) ⌝ }
 {
-    if n < 10 {
+    if n < TEN {
         return put(out, at, digit_byte(n));
     }
-    let next = put_digits(out, at, n / 10);
-    put(out, next, digit_byte(n % 10))
+    let next = put_digits(out, at, n / TEN);
+    put(out, next, digit_byte(n % TEN))
 }
 
 // A number in decimals.
@@ -63,11 +73,11 @@ fn put_integer(out: &mut [u8], at: usize, v: i32) -> usize
     ensures { λ r. ⌜ Puts (now (out .entry)) at (integer v) (now (out .exit)) r ⌝ }
 {
     let n = signed::to_bits(v) as usize;
-    if n < 2147483648 {
+    if n < NEGATIVE {
         return put_number(out, at, n);
     }
-    let next = put(out, at, 45);
-    put_number(out, next, 4294967296 - n)
+    let next = put(out, at, b'-');
+    put_number(out, next, WORDS - n)
 }
 
 // The value at an index, or 0 past the end.
@@ -84,7 +94,7 @@ fn put_integers(out: &mut [u8], at: usize, values: &[i32]) -> usize
     let mut k = at;
     let mut i = 0;
     while i < values.len() {
-        let next = put(out, k, 32);
+        let next = put(out, k, b' ');
         k = put_integer(out, next, value(values, i));
         i += 1;
     }
@@ -102,12 +112,12 @@ pub(crate) fn performed_line(
     ensures { λ r. ⌜ Puts (now (out .entry)) 0 (performedLine n place lines (now (outputs .entry))) (now (out .exit)) r ⌝ }
 {
     let a = put_number(out, 0, n);
-    let b = put(out, a, 32);
+    let b = put(out, a, b' ');
     let c = put_number(out, b, place);
-    let d = put(out, c, 32);
+    let d = put(out, c, b' ');
     let e = put_number(out, d, lines);
     let f = put_integers(out, e, outputs);
-    put(out, f, 10)
+    put(out, f, b'\n')
 }
 
 // The line of a refused row.
@@ -117,7 +127,7 @@ pub(crate) fn refused_line(out: &mut [u8], n: usize, number: usize) -> usize
     let a = put_number(out, 0, n);
     let b = put_text(out, a, b" refused ");
     let c = put_number(out, b, number);
-    put(out, c, 10)
+    put(out, c, b'\n')
 }
 
 // The line of a refused text.
@@ -126,7 +136,7 @@ pub(crate) fn refused_text(out: &mut [u8], number: usize, place: usize) -> usize
 {
     let a = put_text(out, 0, b"refused ");
     let b = put_number(out, a, number);
-    let c = put(out, b, 32);
+    let c = put(out, b, b' ');
     let d = put_number(out, c, place);
-    put(out, d, 10)
+    put(out, d, b'\n')
 }

@@ -9,7 +9,21 @@ ghost use lib.ListN.{length, drop, set};
 ghost use Rattle.language.specs.Bytes.{between};
 ghost use Rattle.tracing.specs.Rows.{magnitude, decimalOf, decimals};
 ghost use Rattle.tracing.specs.Reading.{partEnd, orAbove, readAs, Reads, short};
+use codes::limit;
 use lexer::parts::part_of;
+
+// How many digits there are.
+const TEN: u64 = 10;
+
+// The largest integer, the least without its sign, and a number above both.
+const LARGEST: u64 = limit::INTEGER as u64;
+
+const LEAST: u64 = LARGEST + 1;
+
+const ABOVE: u64 = LEAST + 1;
+
+// How many numbers 32 bits have.
+const WORDS: u64 = limit::WORD as u64 + 1;
 
 // A decimal: its integer, or unreadable, which stands for one outside integer too.
 pub(crate) enum Decimal {
@@ -61,11 +75,11 @@ fn next_number(v: u64, b: u8) -> u64
     requires { ⌜ v ≤ 2147483649 ⌝ }
     ensures { λ r. ⌜ r ≡ min (v * 10 + (b - 48)) 2147483649 ⌝ }
 {
-    let sum = v * 10 + digit(b);
-    if sum < 2147483649 {
+    let sum = v * TEN + digit(b);
+    if sum < ABOVE {
         return sum;
     }
-    2147483649
+    ABOVE
 }
 
 // The number of the digits from an index on: 2147483649 where it is above that, and where there are none or other bytes.
@@ -73,13 +87,13 @@ fn number(w: &[u8], from: usize) -> u64
     ensures { λ r. ⌜ r ≡ orAbove (magnitude (drop from (now (w .entry)))) ⌝ }
 {
     if w.len() <= from {
-        return 2147483649;
+        return ABOVE;
     }
     let mut v: u64 = 0;
     let mut i = from;
     while i < w.len() {
         if !is_digit(w[i]) {
-            return 2147483649;
+            return ABOVE;
         }
         v = next_number(v, w[i]);
         i += 1;
@@ -91,7 +105,7 @@ fn number(w: &[u8], from: usize) -> u64
 fn upward(m: u64) -> Decimal
     ensures { λ r. ⌜ r ≡ readAs (cond (leb m 2147483647) (some (pos m)) none) ⌝ }
 {
-    if 2147483647 < m {
+    if LARGEST < m {
         return Decimal::Unreadable;
     }
     Decimal::Value(signed::from_bits(m as u32))
@@ -101,13 +115,13 @@ fn upward(m: u64) -> Decimal
 fn downward(m: u64) -> Decimal
     ensures { λ r. ⌜ r ≡ readAs (cond (leb m 2147483648) (some (negℤ (pos m))) none) ⌝ }
 {
-    if 2147483648 < m {
+    if LEAST < m {
         return Decimal::Unreadable;
     }
     if m == 0 {
         return Decimal::Value(signed::from_bits(0));
     }
-    Decimal::Value(signed::from_bits((4294967296 - m) as u32))
+    Decimal::Value(signed::from_bits((WORDS - m) as u32))
 }
 
 // The integer of a decimal.
@@ -143,10 +157,10 @@ pub(crate) fn read_row(line: &[u8], values: &mut [i32]) -> Row
     let mut n: usize = 0;
     let mut i: usize = 0;
     while i <= line.len() {
-        if 16 <= n {
+        if limit::INPUTS <= n {
             return Row::Unreadable;
         }
-        let end = part_end(line, i, 32);
+        let end = part_end(line, i, b' ');
         match read_decimal(part_of(line, i, end - i)) {
             Decimal::Value(v) => store(values, n, v),
             Decimal::Unreadable => {

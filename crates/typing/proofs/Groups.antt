@@ -9,7 +9,7 @@ use lib.ListN.{length}
 use Rattle.grammar.specs.Token.{Token}
 use Rattle.grammar.specs.Tree.{Init, without, integer-literal, logic-literal, minus, Mode, input, output-port, variable-mode, Group, Text}
 use Rattle.grammar.specs.Limits.{Each}
-use Rattle.design.specs.Types.{Ty, std-logic, integer, sameTy}
+use Rattle.design.specs.Types.{Ty, std-logic, integer, sameTy, typeByte}
 use Rattle.language.specs.Lists.{unless, each, lowest}
 use Rattle.language.specs.Declarations.{typeNamed, isInput, groups}
 use Rattle.language.specs.Values.{firstAt, missing, valuesOf, values}
@@ -17,7 +17,7 @@ use Rattle.language.specs.Typing.{initialOf, initialsOf}
 use Rattle.language.proofs.Facts.{each-append}
 use Rattle.syntax.specs.Lowest.{number, lowestOf, lower, lowestFrom}
 use Rattle.syntax.specs.Arrays.{TokensIn}
-use Rattle.syntax.specs.Headings.{modeCode, typeCode, initCode, initToken, valueToken, Heading, namesOf, groupNames, groupsNames, headings, declIn, declsFrom, headingSeen, DeclsIn}
+use Rattle.syntax.specs.Headings.{modeCode, initCode, initToken, valueToken, Heading, namesOf, groupNames, groupsNames, headings, declIn, declsFrom, headingSeen, DeclsIn}
 use Rattle.syntax.proofs.Lowest.{lower-none, lowest-append}
 use Rattle.typing.specs.Names.{valueThere, valueAt, valuesIn, initialFits, initialAt}
 use Rattle.typing.proofs.Places.{place-law, lower-self}
@@ -28,7 +28,7 @@ headingIn g f x =
     record {
       name = x;
       mode = modeCode (g .mode);
-      type = typeCode (typeNamed (g .type));
+      type = typeByte (typeNamed (g .type));
       init = initCode (g .init);
       sign = initToken (g .init);
       value = valueToken (g .init);
@@ -124,8 +124,8 @@ values-judged places decls n d r h e = (rw (le-leb d 65 h) e, λ ts kinds t k l.
 initialIn : Heading → List ℕ
 initialIn h = unless (initialFits (h .mode) (h .type) (h .init)) (h .sign .place)
 
-initial-heading : (m : Mode) (ty : Ty) (i : Init) → unless (initialFits (modeCode m) (typeCode ty) (initCode i)) (initToken i .place) ≡ cond (isInput m) [] (initialOf ty i)
-unfolding modeCode typeCode initCode initToken unless isInput initialOf sameTy
+initial-heading : (m : Mode) (ty : Ty) (i : Init) → unless (initialFits (modeCode m) (typeByte ty) (initCode i)) (initToken i .place) ≡ cond (isInput m) [] (initialOf ty i)
+unfolding modeCode initCode initToken unless isInput initialOf sameTy
 initial-heading input ty i = refl
 initial-heading output-port ty without = refl
 initial-heading output-port std-logic (integer-literal y) = refl

@@ -9,30 +9,34 @@ use native.Mathlib.Decide.{decLt}
 use borrow.Author.Tests.{lt-ltb, le-ltb}
 use lib.Dec.{eqb, ltb, leb·suc-suc}
 use lib.ListN.{length, getD}
-use Rattle.grammar.specs.Token.{Token, NAME}
+use Rattle.grammar.specs.Token.{Token}
+use Rattle.codes.specs.Token.{NAME}
 use Rattle.grammar.specs.Tree.{Group, Text}
 use Rattle.grammar.specs.Reader.{choose}
-use Rattle.design.specs.Types.{Ty, std-logic, integer, plain}
+use Rattle.design.specs.Types.{typeByte}
+use Rattle.codes.specs.Declaration.{ROW, TYPE}
+use Rattle.codes.specs.Types.{NONE, tagOr, declaredType}
+use Rattle.codes.specs.Limit.{TEXT, NAMES}
+use Rattle.codes.proofs.TypeLaws.{declared-type}
 use Rattle.language.specs.Declarations.{Decl, declare, spread, declared, groups, find, typeIn}
 use Rattle.language.specs.Elaboration.{position}
 use Rattle.cursor.specs.Tokens.{tokenAt}
 use Rattle.syntax.specs.Arrays.{TokensIn, OwnersIn}
-use Rattle.syntax.specs.Headings.{typeCode, Heading, namesOf, groupNames, groupsNames, headings, DeclRow, declsFrom, headingSeen, DeclsIn}
-use Rattle.typing.specs.Operators.{codeOf, typeCodeOf}
+use Rattle.syntax.specs.Headings.{Heading, namesOf, groupNames, groupsNames, headings, DeclRow, declsFrom, headingSeen, DeclsIn}
 use Rattle.typing.specs.Expressions.{declaredCode, nameCode}
 use Rattle.typing.proofs.Places.{index-within}
 
 -- the type of a declaration as its heading's number; of the j-th of a list of them
 abbrev shown : ℕ → ℕ
-shown x = choose (eqb x 1) 2 1
+shown x = tagOr (declaredType x)
 
 codeAt : List ℕ → ℕ → ℕ
-codeAt [] j = 0
+codeAt [] j = NONE
 codeAt (x ∷ l) zero = shown x
 codeAt (x ∷ l) (suc j) = codeAt l j
 
 typeOfDecl : Decl → ℕ
-typeOfDecl d = typeCode (d .type)
+typeOfDecl d = typeByte (d .type)
 
 -- headings and declarations have the same types
 names-types : (g : Group) (f : Token) (xs : List Token) → map (λ (h : Heading). h .type) (namesOf g f xs) ≡ map typeOfDecl (declare g xs)
@@ -52,37 +56,32 @@ groups-types (g ∷ gs) =
     map-append (λ (h : Heading). h .type) (groupNames g (g .names)) (groupsNames gs) ∙ (rw (group-types g (g .names), groups-types gs) (sym (map-append typeOfDecl (declare g (g .names)) (spread gs))))
 
 -- the type at a name's position
-shown-law : (t : Ty) → shown (typeCode t) ≡ typeCodeOf (some (plain t))
-unfolding typeCode typeCodeOf codeOf
-shown-law std-logic = refl
-shown-law integer = refl
-
-found-type : (Δ : List Decl) (v : ℕ) → codeAt (map typeOfDecl Δ) (position Δ v) ≡ typeCodeOf (typeIn (find Δ v))
-unfolding codeAt position find typeIn typeOfDecl typeCodeOf
+found-type : (Δ : List Decl) (v : ℕ) → codeAt (map typeOfDecl Δ) (position Δ v) ≡ tagOr (typeIn (find Δ v))
+unfolding codeAt position find typeIn typeOfDecl
 found-type [] v = refl
 found-type (d ∷ ds) v = go (eqb (d .name .value) v) (found-type ds v)
   where
-    go : (b : Bool) → codeAt (map typeOfDecl ds) (position ds v) ≡ typeCodeOf (typeIn (find ds v))
-        → codeAt (map typeOfDecl (d ∷ ds)) (cond b zero (suc (position ds v))) ≡ typeCodeOf (typeIn (cond b (some d) (find ds v)))
-    go true h = shown-law (d .type)
+    go : (b : Bool) → codeAt (map typeOfDecl ds) (position ds v) ≡ tagOr (typeIn (find ds v))
+        → codeAt (map typeOfDecl (d ∷ ds)) (cond b zero (suc (position ds v))) ≡ tagOr (typeIn (cond b (some d) (find ds v)))
+    go true h = ap tagOr (declared-type (d .type))
     go false h = h
 
 -- the types in the array
-array-types : (decls : List ℕ) (m c j : ℕ) → codeAt (map (λ (r : DeclRow). r .type) (declsFrom decls m c)) j ≡ choose (ltb j c) (shown (getD decls (6 * (m + j) + 2) 0)) 0
+array-types : (decls : List ℕ) (m c j : ℕ) → codeAt (map (λ (r : DeclRow). r .type) (declsFrom decls m c)) j ≡ choose (ltb j c) (shown (getD decls (ROW * (m + j) + TYPE) 0)) NONE
 unfolding codeAt declsFrom
 array-types decls m zero j = rw (le-ltb j 0 (omega arith))
 array-types decls m (suc c) zero = let z : m + 0 ≡ m = omega arith in rw (lt-ltb 0 (suc c) (omega arith), z)
 array-types decls m (suc c) (suc j) = let z : m + suc j ≡ m + 1 + j = omega arith in rw (leb·suc-suc (suc j) c, z) (array-types decls (m + 1) c j)
 
-declared-within : (decls : List ℕ) (d j : ℕ) → d ≤ 65 → declaredCode decls d j ≡ choose (ltb j d) (shown (getD decls (6 * j + 2) 0)) 0
+declared-within : (decls : List ℕ) (d j : ℕ) → d ≤ NAMES → declaredCode decls d j ≡ choose (ltb j d) (shown (getD decls (ROW * j + TYPE) 0)) NONE
 declared-within decls d j h = go (decLt j d)
   where
-    go : Dec (j < d) → declaredCode decls d j ≡ choose (ltb j d) (shown (getD decls (6 * j + 2) 0)) 0
-    go (yes l) = rw (lt-ltb j d l, lt-ltb j 65 (omega arith))
+    go : Dec (j < d) → declaredCode decls d j ≡ choose (ltb j d) (shown (getD decls (ROW * j + TYPE) 0)) NONE
+    go (yes l) = rw (lt-ltb j d l, lt-ltb j NAMES (omega arith))
     go (no l) = rw (le-ltb j d (omega arith))
 
 declared-law : (ts : List Token) (t : Text) (decls : List ℕ) (d v : ℕ) → DeclsIn ts (headings t) decls d
-    → declaredCode decls d (position (declared t) v) ≡ typeCodeOf (typeIn (find (declared t) v))
+    → declaredCode decls d (position (declared t) v) ≡ tagOr (typeIn (find (declared t) v))
 unfolding headings declared
 declared-law ts t decls d v h =
     let p = position (spread (groups t)) v in
@@ -95,9 +94,9 @@ declared-law ts t decls d v h =
 
 -- the type of a name at its index
 pub name-law : (ts : List Token) (kinds places owners decls : List ℕ) (n d i : ℕ) (t : Text) → TokensIn ts kinds places n → OwnersIn ts (declared t) owners n → DeclsIn ts (headings t) decls d
-    → tokenAt ts i .kind ≡ NAME → nameCode owners decls d i ≡ typeCodeOf (typeIn (find (declared t) (tokenAt ts i .value)))
+    → tokenAt ts i .kind ≡ NAME → nameCode owners decls d i ≡ tagOr (typeIn (find (declared t) (tokenAt ts i .value)))
 unfolding nameCode
 name-law ts kinds places owners decls n d i t h o k e =
     let l : i < length ts = index-within ts i (λ z. omega (arith, z, e)) in
     let b : i < n = omega (arith, l, h .count) in
-    rw (lt-ltb i 16384 (omega (arith, b, h .short)), o .owner i b e) (declared-law ts t decls d (tokenAt ts i .value) k)
+    rw (lt-ltb i TEXT (omega (arith, b, h .short)), o .owner i b e) (declared-law ts t decls d (tokenAt ts i .value) k)

@@ -7,7 +7,8 @@ use native.Mathlib.Omega.{arith}
 use native.Mathlib.Decide.{ℕ-discrete}
 use borrow.Author.Tests.{ne-eqb, le-leb}
 use lib.ListN.{length, getD, length-append, length-map}
-use Rattle.grammar.specs.Token.{Token, NAME}
+use Rattle.grammar.specs.Token.{Token}
+use Rattle.codes.specs.Token.{NAME}
 use Rattle.grammar.specs.Tree.{Expr, Stmt, output, assign, null, wait, if-then, if-else, while, Body, only, andThen, Text}
 use Rattle.grammar.specs.Limits.{Each, itemCount, stmtExprs, bodyExprs}
 use Rattle.grammar.proofs.Each.{each-split, each-join}
@@ -27,7 +28,7 @@ use Rattle.syntax.specs.Kinded.{KindedExpr, KindedStmt, KindedBody}
 use Rattle.syntax.specs.Entries.{stmtEntry}
 use Rattle.syntax.proofs.Lowest.{lowest-append}
 use Rattle.syntax.proofs.Named.{IsNamed, postfix-named}
-use Rattle.typing.specs.Operators.{codeOf, typeCodeOf}
+use Rattle.codes.specs.Types.{BOOLEAN, tagOr}
 use Rattle.typing.specs.Expressions.{Sources, Work, work, nameAt, placeAt, stepWork, itemWork, itemsWork, topOf}
 use Rattle.typing.specs.Statements.{wantedCode, judgedAs, rowCode, statementAt}
 use Rattle.typing.proofs.Places.{place-law}
@@ -104,11 +105,11 @@ step-other c u v p w f = rw (ne-eqb c 1 f)
 
 -- an expression where a type is wanted
 wanted-law : (Δ : List Decl) (a : Option ExprTy) (e : Expr) (p : ℕ) → KindedExpr e → itemCount e ≤ 64
-    → judgedAs (typeCodeOf a) p (listWork Δ (postfix e) (work [] 0)) ≡ lowestOf (typesIn Δ e ++ wants a (typeOf Δ e) p)
+    → judgedAs (tagOr a) p (listWork Δ (postfix e) (work [] 0)) ≡ lowestOf (typesIn Δ e ++ wants a (typeOf Δ e) p)
 unfolding listWork topOf lower
 wanted-law Δ a e p k h =
     let whole = rw (append-nil (postfix e)) at (expr-law Δ e [] [] 0 k (omega arith)) in
-    ap (judgedAs (typeCodeOf a) p) whole ∙ rw (wants-law a (typeOf Δ e) p) (sym (lowest-append (typesIn Δ e) (wants a (typeOf Δ e) p)))
+    ap (judgedAs (tagOr a) p) whole ∙ rw (wants-law a (typeOf Δ e) p) (sym (lowest-append (typesIn Δ e) (wants a (typeOf Δ e) p)))
 
 module _ (ts : List Token) (kinds : List ℕ) (t : Text) (A : Sources) (ht : TokensIn ts kinds (A .places) (A .n)) (ho : OwnersIn ts (declared t) (A .owners) (A .n)) (hd : DeclsIn ts (headings t) (A .decls) (A .d)) where
   -- an item by its code and its token's index
@@ -116,9 +117,9 @@ module _ (ts : List Token) (kinds : List ℕ) (t : Text) (A : Sources) (ht : Tok
   unfolding itemStep
   item-law c i w h = ap (λ (p : ℕ). stepWork c (nameAt A i) p w) (place-law ts kinds (A .places) (A .n) i ht) ∙ go (ℕ-discrete c 1)
     where
-      go : Dec (c ≡ 1) → stepWork c (nameAt A i) (tokenAt ts i .place) w ≡ stepWork c (typeCodeOf (typeIn (find (declared t) (tokenAt ts i .value)))) (tokenAt ts i .place) w
+      go : Dec (c ≡ 1) → stepWork c (nameAt A i) (tokenAt ts i .place) w ≡ stepWork c (tagOr (typeIn (find (declared t) (tokenAt ts i .value)))) (tokenAt ts i .place) w
       go (yes e) = ap (λ (u : ℕ). stepWork c u (tokenAt ts i .place) w) (name-law ts kinds (A .places) (A .owners) (A .decls) (A .n) (A .d) i t ht ho hd (h e))
-      go (no f) = step-other c (nameAt A i) (typeCodeOf (typeIn (find (declared t) (tokenAt ts i .value)))) (tokenAt ts i .place) w f
+      go (no f) = step-other c (nameAt A i) (tagOr (typeIn (find (declared t) (tokenAt ts i .value)))) (tokenAt ts i .place) w f
 
   -- items in the arrays, and those behind them
   items-law : (is rest : List Item) (m : ℕ) (w : Work) → Each IsNamed is → map (itemAtIndex ts) (placedFrom (A .codes) (A .indices) m (length (is ++ rest))) ≡ is ++ rest
@@ -151,8 +152,7 @@ module _ (ts : List Token) (kinds : List ℕ) (t : Text) (A : Sources) (ht : Tok
       (wanted-law (declared t) (typeIn (find (declared t) (x .value))) e (x .place) k h)
 
   condition-law : (x : Token) (e : Expr) (i : ℕ) → KindedExpr e → itemCount e ≤ 64 → tokenAt ts i ≡ x
-      → judgedAs 3 (tokenAt ts i .place) (listWork (declared t) (postfix e) (work [] 0)) ≡ lowestOf (typesIn (declared t) e ++ wants (some boolean) (typeOf (declared t) e) (x .place))
-  unfolding typeCodeOf codeOf
+      → judgedAs BOOLEAN (tokenAt ts i .place) (listWork (declared t) (postfix e) (work [] 0)) ≡ lowestOf (typesIn (declared t) e ++ wants (some boolean) (typeOf (declared t) e) (x .place))
   condition-law x e i k h q = rw q (wanted-law (declared t) (some boolean) e (x .place) k h)
 
   judged-law : (s : Stmt) (k i : ℕ) → Ok s → k ≡ stmtEntry s .kind → tokenAt ts i ≡ stmtEntry s .token

@@ -4,12 +4,15 @@ use mathlib.Core.List.{List, _∷_}
 use Prim.Native.Nat.{ℕ, zero, suc, _+_, _-_, _≤_, _<_}
 use native.Mathlib.Numerals.{add-one}
 use native.Mathlib.Omega.{arith}
-use borrow.Author.Tests.{lt-ltb, le-ltb}
+use borrow.Author.Tests.{lt-ltb, le-ltb, eq-eqb, ne-eqb}
 use lib.ListN.{length, getD, set, length-set}
 use lib.Seq.{getD-set-same, getD-set-other}
 use Rattle.language.specs.Lists.{unless}
 use Rattle.syntax.specs.Lowest.{lowestOf, lower}
-use Rattle.typing.specs.Operators.{unaryCode, binaryCode, rightOne, rightTwo}
+use Rattle.codes.specs.Operation.{operandsOf}
+use Rattle.codes.specs.Types.{NONE, tagOr, unaryTypeFor}
+use Rattle.codes.specs.Limit.{ITEMS}
+use Rattle.typing.specs.Operators.{binaryCode, rightOne, rightTwo}
 use Rattle.typing.specs.Expressions.{Sources, Work, work, operandCode, pushed, unaryOn, binaryOn, stepWork, itemWork, itemsWork, exprWork, topOf, stackOf, Room, Says}
 use Rattle.typing.specs.declared.Progress.{Progress}
 
@@ -29,17 +32,17 @@ unfolding stackOf
 stack-push a n v h = rw (stack-above a n v n (omega arith), getD-set-same a n v 0 h)
 
 -- a type pushed
-pub push-room : (a : List ℕ) (n t b : ℕ) → Room a n → n < 64 → Says (set a n t) (record { depth = n + 1; lowest = b }) (pushed t (stackOf a n) b)
+pub push-room : (a : List ℕ) (n t b : ℕ) → Room a n → n < ITEMS → Says (set a n t) (record { depth = n + 1; lowest = b }) (pushed t (stackOf a n) b)
 unfolding pushed
 push-room a n t b m h =
     record {
       room = record { size = length-set a n t ∙ m .size; depth = omega arith };
-      says = rw (stack-length a n, lt-ltb n 64 h, add-one n, stack-push a n t (omega (arith, m .size)));
+      says = rw (stack-length a n, lt-ltb n ITEMS h, add-one n, stack-push a n t (omega (arith, m .size)));
     }
 
-pub push-full : (a : List ℕ) (n t b : ℕ) → Room a n → 64 ≤ n → Says a (record { depth = n; lowest = b }) (pushed t (stackOf a n) b)
+pub push-full : (a : List ℕ) (n t b : ℕ) → Room a n → ITEMS ≤ n → Says a (record { depth = n; lowest = b }) (pushed t (stackOf a n) b)
 unfolding pushed
-push-full a n t b m h = record { room = m; says = rw (stack-length a n, le-ltb n 64 h) }
+push-full a n t b m h = record { room = m; says = rw (stack-length a n, le-ltb n ITEMS h) }
 
 -- an operator on one operand
 pub unary-none : (a : List ℕ) (n c p b : ℕ) → Room a n → n < 1 → Says a (record { depth = n; lowest = b }) (unaryOn c p (stackOf a n) b)
@@ -47,7 +50,7 @@ unfolding stackOf unaryOn
 unary-none a zero c p b m h = record { room = m; says = refl }
 unary-none a (suc n) c p b m h = absurd (omega arith)
 
-unary-top : (a : List ℕ) (n c p b r w : ℕ) → Room a (suc n) → r ≡ unaryCode c (getD a n 0)
+unary-top : (a : List ℕ) (n c p b r w : ℕ) → Room a (suc n) → r ≡ tagOr (unaryTypeFor c (getD a n 0))
     → w ≡ lower b (lowestOf (unless (rightOne (getD a n 0) r) p)) → Says (set a n r) (record { depth = suc n; lowest = w }) (unaryOn c p (stackOf a (suc n)) b)
 unfolding unaryOn stackOf
 unary-top a n c p b r w m e q =
@@ -56,13 +59,13 @@ unary-top a n c p b r w m e q =
       says = rw (stack-above a n r n (omega arith), getD-set-same a n r 0 (omega (arith, m .size, m .depth)), q, e);
     }
 
-pub unary-some : (a : List ℕ) (n c p b r w : ℕ) → Room a n → 1 ≤ n → r ≡ unaryCode c (getD a (n - 1) 0)
+pub unary-some : (a : List ℕ) (n c p b r w : ℕ) → Room a n → 1 ≤ n → r ≡ tagOr (unaryTypeFor c (getD a (n - 1) 0))
     → w ≡ lower b (lowestOf (unless (rightOne (getD a (n - 1) 0) r) p)) → Says (set a (n - 1) r) (record { depth = n; lowest = w }) (unaryOn c p (stackOf a n) b)
 unary-some a zero c p b r w m h e q = absurd (omega arith)
 unary-some a (suc n) c p b r w m h e q = let z : suc n - 1 ≡ n = omega arith in rw z (unary-top a n c p b r w m (rw z at e) (rw z at q))
 
 -- an operator on two operands
-pub binary-none : (a : List ℕ) (n c p b : ℕ) → Room a n → n < 2 → Says a (record { depth = n; lowest = b }) (binaryOn c p (stackOf a n) b)
+pub binary-none : (a : List ℕ) (n c p b : ℕ) → Room a n → n ≤ 1 → Says a (record { depth = n; lowest = b }) (binaryOn c p (stackOf a n) b)
 unfolding stackOf binaryOn
 binary-none a zero c p b m h = record { room = m; says = refl }
 binary-none a (suc zero) c p b m h = record { room = m; says = refl }
@@ -78,18 +81,18 @@ binary-top a n c p b r w m e q =
       says = rw (stack-above a n r n (omega arith), getD-set-same a n r 0 (omega (arith, m .size, m .depth)), q, e);
     }
 
-pub binary-some : (a : List ℕ) (n c p b r w : ℕ) → Room a n → 2 ≤ n → r ≡ binaryCode c (getD a (n - 2) 0) (getD a (n - 1) 0)
-    → w ≡ lower b (lowestOf (unless (rightTwo (getD a (n - 2) 0) (getD a (n - 1) 0) r) p))
-    → Says (set a (n - 2) r) (record { depth = n - 1; lowest = w }) (binaryOn c p (stackOf a n) b)
+pub binary-some : (a : List ℕ) (n c p b r w : ℕ) → Room a n → 1 < n → r ≡ binaryCode c (getD a (n - 1 - 1) 0) (getD a (n - 1) 0)
+    → w ≡ lower b (lowestOf (unless (rightTwo (getD a (n - 1 - 1) 0) (getD a (n - 1) 0) r) p))
+    → Says (set a (n - 1 - 1) r) (record { depth = n - 1; lowest = w }) (binaryOn c p (stackOf a n) b)
 binary-some a zero c p b r w m h e q = absurd (omega arith)
 binary-some a (suc zero) c p b r w m h e q = absurd (omega arith)
 binary-some a (suc (suc n)) c p b r w m h e q =
     let z : suc (suc n) - 1 ≡ suc n = omega arith in
-    let y : suc (suc n) - 2 ≡ n = omega arith in
-    rw (z, y) (binary-top a n c p b r w m (rw (y, z) at e) (rw (y, z) at q))
+    let y : suc (suc n) - 1 - 1 ≡ n = omega arith in
+    rw (y, z) (binary-top a n c p b r w m (rw (y, z) at e) (rw (y, z) at q))
 
 -- the type on top
-pub top-none : (a : List ℕ) (n : ℕ) → n < 1 → 0 ≡ topOf (stackOf a n)
+pub top-none : (a : List ℕ) (n : ℕ) → n < 1 → NONE ≡ topOf (stackOf a n)
 unfolding topOf stackOf
 top-none a zero h = refl
 top-none a (suc n) h = absurd (omega arith)
@@ -99,19 +102,22 @@ unfolding topOf stackOf
 top-some a zero h = absurd (omega arith)
 top-some a (suc n) h = let z : suc n - 1 ≡ n = omega arith in rw z
 
--- An item by its code.
+-- An item by its code, which has n operands.
 
-pub step-operand : {a : List ℕ} {r : Progress} (c t p u : ℕ) (s : List ℕ) (b : ℕ) → c < 4 → u ≡ operandCode c t → Says a r (pushed u s b) → Says a r (stepWork c t p (work s b))
+pub step-operand : {a : List ℕ} {r : Progress} (c t p u n : ℕ) (s : List ℕ) (b : ℕ) → n ≡ operandsOf c → n ≡ 0 → u ≡ operandCode c t → Says a r (pushed u s b)
+    → Says a r (stepWork c t p (work s b))
 unfolding stepWork
-step-operand c t p u s b h e q = rw (lt-ltb c 4 h, sym e) q
+step-operand c t p u n s b o h e q = rw (← o, eq-eqb n 0 h, sym e) q
 
-pub step-unary : {a : List ℕ} {r : Progress} (c t p q : ℕ) (s : List ℕ) (b : ℕ) → 4 ≤ c → c < 6 → q ≡ p → Says a r (unaryOn c q s b) → Says a r (stepWork c t p (work s b))
+pub step-unary : {a : List ℕ} {r : Progress} (c t p q n : ℕ) (s : List ℕ) (b : ℕ) → n ≡ operandsOf c → (n ≡ 0 → ⊥) → n ≡ 1 → q ≡ p → Says a r (unaryOn c q s b)
+    → Says a r (stepWork c t p (work s b))
 unfolding stepWork
-step-unary c t p q s b h k e w = rw (le-ltb c 4 h, lt-ltb c 6 k, sym e) w
+step-unary c t p q n s b o h k e w = rw (← o, ne-eqb n 0 h, eq-eqb n 1 k, sym e) w
 
-pub step-binary : {a : List ℕ} {r : Progress} (c t p q : ℕ) (s : List ℕ) (b : ℕ) → 4 ≤ c → 6 ≤ c → q ≡ p → Says a r (binaryOn c q s b) → Says a r (stepWork c t p (work s b))
+pub step-binary : {a : List ℕ} {r : Progress} (c t p q n : ℕ) (s : List ℕ) (b : ℕ) → n ≡ operandsOf c → (n ≡ 0 → ⊥) → (n ≡ 1 → ⊥) → q ≡ p → Says a r (binaryOn c q s b)
+    → Says a r (stepWork c t p (work s b))
 unfolding stepWork
-step-binary c t p q s b h k e w = rw (le-ltb c 4 h, le-ltb c 6 k, sym e) w
+step-binary c t p q n s b o h k e w = rw (← o, ne-eqb n 0 h, ne-eqb n 1 k, sym e) w
 
 -- The loop over items: the rest from item m makes what the whole makes.
 

@@ -4,11 +4,17 @@ use mathlib.Core.List.{List, [], _∷_}
 use Prim.Native.Nat.{ℕ, zero, suc, _+_, _*_, _-_, _≤_}
 use lib.Dec.{eqb, ltb}
 use lib.ListN.{length, getD}
+use Rattle.design.specs.Types.{std-logic, integer, plain}
+use Rattle.codes.specs.Item.{NAME, NUMBER}
+use Rattle.codes.specs.Operation.{operandsOf}
+use Rattle.codes.specs.Declaration.{ROW, TYPE}
+use Rattle.codes.specs.Types.{NONE, tagOf, tagOr, declaredType, unaryTypeFor}
+use Rattle.codes.specs.Limit.{TEXT, ITEMS, NAMES}
 use Rattle.grammar.specs.Reader.{choose}
 use Rattle.language.specs.Lists.{unless}
 use Rattle.syntax.specs.Lowest.{lowestOf, lower}
 use Rattle.syntax.specs.Arrays.{numberIn}
-use Rattle.typing.specs.Operators.{unaryCode, binaryCode, rightOne, rightTwo}
+use Rattle.typing.specs.Operators.{binaryCode, rightOne, rightTwo}
 use Rattle.typing.specs.declared.Progress.{Progress}
 use Rattle.typing.specs.declared.Judged.{Judged}
 
@@ -25,13 +31,13 @@ pub record Sources : Type 0 where
 abbrev pub sources : List ℕ → List ℕ → List ℕ → List ℕ → List ℕ → ℕ → ℕ → Sources
 sources cs is ps os ds n d = record { codes = cs; indices = is; places = ps; owners = os; decls = ds; n = n; d = d }
 
--- the type of declared name j: std_logic or integer; untyped where there is none
+-- the type of declared name j; untyped where there is none
 abbrev pub declaredCode : List ℕ → ℕ → ℕ → ℕ
-declaredCode decls d j = choose (ltb j d) (choose (ltb j 65) (choose (eqb (getD decls (6 * j + 2) 0) 1) 2 1) 0) 0
+declaredCode decls d j = choose (ltb j d) (choose (ltb j NAMES) (tagOr (declaredType (getD decls (ROW * j + TYPE) 0))) NONE) NONE
 
 -- the type of the name at a token's index
 unfoldable pub nameCode : List ℕ → List ℕ → ℕ → ℕ → ℕ
-nameCode owners decls d i = choose (ltb i 16384) (declaredCode decls d (getD owners i 0)) 0
+nameCode owners decls d i = choose (ltb i TEXT) (declaredCode decls d (getD owners i 0)) NONE
 
 -- the type and the place that are read at a token's index
 abbrev pub nameAt : Sources → ℕ → ℕ
@@ -48,18 +54,18 @@ pub record Work : Type 0 where
 abbrev pub work : List ℕ → ℕ → Work
 work s b = record { stack = s; lowest = b }
 
--- an operand, by its item code: 1 a name, whose type is t; 2 a number; 3 '0' or '1'
+-- an operand, by its item code: a name, whose type is t; a number; '0' or '1'
 abbrev pub operandCode : ℕ → ℕ → ℕ
-operandCode c t = choose (eqb c 1) t (choose (eqb c 2) 2 1)
+operandCode c t = choose (eqb c NAME) t (choose (eqb c NUMBER) (tagOf (plain integer)) (tagOf (plain std-logic)))
 
 -- one type more, where there is room
 unfoldable pub pushed : ℕ → List ℕ → ℕ → Work
-pushed t s b = choose (ltb (length s) 64) (work (t ∷ s) b) (work s b)
+pushed t s b = choose (ltb (length s) ITEMS) (work (t ∷ s) b) (work s b)
 
 -- an operator at the place p, on one operand and on two
 unfoldable pub unaryOn : ℕ → ℕ → List ℕ → ℕ → Work
 unaryOn c p [] b = work [] b
-unaryOn c p (t ∷ s) b = work (unaryCode c t ∷ s) (lower b (lowestOf (unless (rightOne t (unaryCode c t)) p)))
+unaryOn c p (t ∷ s) b = work (tagOr (unaryTypeFor c t) ∷ s) (lower b (lowestOf (unless (rightOne t (tagOr (unaryTypeFor c t))) p)))
 
 unfoldable pub binaryOn : ℕ → ℕ → List ℕ → ℕ → Work
 binaryOn c p [] b = work [] b
@@ -69,7 +75,8 @@ binaryOn c p (u ∷ (t ∷ s)) b = work (binaryCode c t u ∷ s) (lower b (lowes
 -- an item of code c, with the place p, whose type is t if it is a name
 unfoldable pub stepWork : ℕ → ℕ → ℕ → Work → Work
 stepWork c t p w =
-    choose (ltb c 4) (pushed (operandCode c t) (w .stack) (w .lowest)) (choose (ltb c 6) (unaryOn c p (w .stack) (w .lowest)) (binaryOn c p (w .stack) (w .lowest)))
+    choose (eqb (operandsOf c) 0) (pushed (operandCode c t) (w .stack) (w .lowest))
+    (choose (eqb (operandsOf c) 1) (unaryOn c p (w .stack) (w .lowest)) (binaryOn c p (w .stack) (w .lowest)))
 
 -- item m
 abbrev pub itemWork : Sources → ℕ → Work → Work
@@ -86,7 +93,7 @@ exprWork A from to = itemsWork A from (to - from) (work [] 0)
 
 -- the type of the whole; untyped where there is none
 unfoldable pub topOf : List ℕ → ℕ
-topOf [] = 0
+topOf [] = NONE
 topOf (t ∷ s) = t
 
 -- The stack in an array: its first n elements.
@@ -94,10 +101,10 @@ unfoldable pub stackOf : List ℕ → ℕ → List ℕ
 stackOf a zero = []
 stackOf a (suc n) = getD a n 0 ∷ stackOf a n
 
--- an array of 64 elements, of which n are in use
+-- an array with room for the items of an expression, of which n elements are in use
 pub record Room (a : List ℕ) (n : ℕ) : Type 0 where
-  pub size : length a ≡ 64
-  pub depth : n ≤ 64
+  pub size : length a ≡ ITEMS
+  pub depth : n ≤ ITEMS
 
 -- the array a and the answer r say w
 pub record Says (a : List ℕ) (r : Progress) (w : Work) : Type 0 where

@@ -1,8 +1,11 @@
 -- Refusal 6 by position: targets and conditions of the rows of statements, and initial values; and what the arrays of a text hold. Assumes nothing.
 use mathlib.Core.List.{List}
 use Prim.Native.Nat.{ℕ, _≤_, _<_}
-use lib.Dec.{eqb, leb, ltb}
+use lib.Dec.{eqb, leb}
 use lib.ListN.{length}
+use Rattle.codes.specs.Statement.{OUTPUT, VARIABLE, IF, WHILE}
+use Rattle.codes.specs.Types.{BOOLEAN, NONE}
+use Rattle.codes.specs.Limit.{TEXT, STATEMENTS, ITEMS, NAMES}
 use Rattle.grammar.specs.Token.{Token}
 use Rattle.grammar.specs.Tree.{Expr, Group, Text}
 use Rattle.grammar.specs.Limits.{Each, itemCount, bodyExprs}
@@ -19,9 +22,9 @@ use Rattle.typing.specs.Names.{initialAt}
 use Rattle.typing.specs.Operators.{fitsCode}
 use Rattle.typing.specs.Expressions.{Sources, Work, nameAt, placeAt, exprWork, topOf}
 
--- the type that a statement wants, by its kind: 0 wait and 4 null none; 1 and 2 the target's, t; 3 if and 5 while boolean
+-- the type that a statement wants, by its kind: the target's, t; boolean of a condition; none
 abbrev pub wantedCode : ℕ → ℕ → ℕ
-wantedCode kind t = choose (eqb kind 0) 0 (choose (eqb kind 4) 0 (choose (ltb kind 3) t 3))
+wantedCode kind t = choose (eqb kind OUTPUT) t (choose (eqb kind VARIABLE) t (choose (eqb kind IF) BOOLEAN (choose (eqb kind WHILE) BOOLEAN NONE)))
 
 -- the offences of an expression, and of a statement that wants the type t of it, at the place p
 abbrev pub judgedAs : ℕ → ℕ → Work → ℕ
@@ -30,14 +33,14 @@ judgedAs t p w = lower (w .lowest) (lowestOf (unless (fitsCode t (topOf (w .stac
 -- a row of the statements
 abbrev pub rowCode : Sources → Row → ℕ
 rowCode A r =
-    choose (leb (r .to) 16384) (judgedAs (wantedCode (r .kind) (nameAt A (r .index))) (placeAt A (r .index)) (exprWork A (r .from) (r .to))) 0
+    choose (leb (r .to) TEXT) (judgedAs (wantedCode (r .kind) (nameAt A (r .index))) (placeAt A (r .index)) (exprWork A (r .from) (r .to))) 0
 
 unfoldable pub statementAt : Sources → List ℕ → ℕ → ℕ
 statementAt A rows j = rowCode A (rowIn rows j)
 
--- all initial values and s statements; there are never more than 65 declared names and 512 statements
+-- all initial values and s statements; there are never more than the limits allow
 abbrev pub typesIn : Sources → List ℕ → ℕ → ℕ
-typesIn A rows s = choose (leb (A .d) 65) (choose (leb s 512) (lower (lowestFrom (initialAt (A .decls) (A .places) (A .n)) 0 (A .d)) (lowestFrom (statementAt A rows) 0 s)) 0) 0
+typesIn A rows s = choose (leb (A .d) NAMES) (choose (leb s STATEMENTS) (lower (lowestFrom (initialAt (A .decls) (A .places) (A .n)) 0 (A .d)) (lowestFrom (statementAt A rows) 0 s)) 0) 0
 
 -- the arrays hold the text t; its groups have names, and its expressions keep their limit: "64 literals, names and operators in an expression"
 pub record Laid (ts : List Token) (kinds : List ℕ) (t : Text) (A : Sources) (k : ℕ) (rows : List ℕ) (s : ℕ) : Type 0 where
@@ -48,4 +51,4 @@ pub record Laid (ts : List Token) (kinds : List ℕ) (t : Text) (A : Sources) (k
   pub headed : DeclsIn ts (headings t) (A .decls) (A .d)
   pub kinded : Kinded t
   pub named : Each (λ (g : Group). 0 < length (g .names)) (groups t)
-  pub limited : Each (λ (e : Expr). itemCount e ≤ 64) (bodyExprs (t .body))
+  pub limited : Each (λ (e : Expr). itemCount e ≤ ITEMS) (bodyExprs (t .body))

@@ -17,6 +17,8 @@ ghost use Rattle.syntax.specs.Headings.{headings, DeclsIn};
 ghost use Rattle.typing.specs.Names.{valuesIn};
 ghost use Rattle.typing.specs.Expressions.{sources};
 ghost use Rattle.typing.specs.Statements.{typesIn, Laid};
+use codes::declaration;
+use codes::limit;
 use syntax::Finding;
 
 // After an item: how many types are on the stack, and the lowest offence so far.
@@ -32,19 +34,29 @@ struct Judged {
 }
 
 // Refusal 7 of a text whose d declared names and n tokens stand in the arrays: 0 for none, else its place plus 1.
-fn lowest_value(decls: &[u16; 390], places: &[u16; 16384], n: usize, d: usize) -> usize
+fn lowest_value(
+    decls: &[u16; declaration::ROWS],
+    places: &[u16; limit::TEXT],
+    n: usize,
+    d: usize,
+) -> usize
     ensures answer { λ r. ⌜ r ≡ valuesIn (now (decls .entry)) (now (places .entry)) n d ⌝ }
     ensures lowest { λ r. ⌜ ((ts : List Token) (kinds : List ℕ) (t : Text) → TokensIn ts kinds (now (places .entry)) n
         → DeclsIn ts (headings t) (now (decls .entry)) d → r ≡ lowestOf (valueOffences t)) ⌝ }
 {
-    if d <= 65 {
+    if d <= limit::NAMES {
         return names::values_from(decls, places, n, d);
     }
     0
 }
 
 // The lowest offence of refusal 7.
-pub fn values(decls: &[u16; 390], places: &[u16; 16384], n: usize, d: usize) -> Finding
+pub fn values(
+    decls: &[u16; declaration::ROWS],
+    places: &[u16; limit::TEXT],
+    n: usize,
+    d: usize,
+) -> Finding
     ensures answer { λ r. ⌜ r ≡ findingFrom (valuesIn (now (decls .entry)) (now (places .entry)) n d) ⌝ }
     ensures lowest { λ r. ⌜ ((ts : List Token) (kinds : List ℕ) (t : Text) → TokensIn ts kinds (now (places .entry)) n
         → DeclsIn ts (headings t) (now (decls .entry)) d → r ≡ findingOf (valueOffences t)) ⌝ }
@@ -54,14 +66,14 @@ pub fn values(decls: &[u16; 390], places: &[u16; 16384], n: usize, d: usize) -> 
 
 // Refusal 6 of a text whose s statements, with their items, d declared names and n tokens stand in the arrays: 0 for none, else its place plus 1.
 fn lowest_type(
-    codes: &[u8; 16384],
-    indices: &[u16; 16384],
-    places: &[u16; 16384],
-    owners: &[u8; 16384],
-    decls: &[u16; 390],
+    codes: &[u8; limit::TEXT],
+    indices: &[u16; limit::TEXT],
+    places: &[u16; limit::TEXT],
+    owners: &[u8; limit::TEXT],
+    decls: &[u16; declaration::ROWS],
     n: usize,
     d: usize,
-    rows: &[u16; 3072],
+    rows: &[u16; codes::statement::ROWS],
     s: usize,
 ) -> usize
     ensures answer { λ r. ⌜ r ≡ typesIn (sources (now (codes .entry)) (now (indices .entry)) (now (places .entry)) (now (owners .entry)) (now (decls .entry)) n d) (now (rows .entry)) s ⌝ }
@@ -69,8 +81,8 @@ fn lowest_type(
         → Laid ts kinds t (sources (now (codes .entry)) (now (indices .entry)) (now (places .entry)) (now (owners .entry)) (now (decls .entry)) n d) k (now (rows .entry)) s
         → r ≡ lowestOf (typeOffences t)) ⌝ }
 {
-    if d <= 65 {
-        if s <= 512 {
+    if d <= limit::NAMES {
+        if s <= limit::STATEMENTS {
             let initial = names::initials_from(decls, places, n, d);
             let stated = statement::statements_from(
                 codes,
@@ -92,14 +104,14 @@ fn lowest_type(
 
 // The lowest offence of refusal 6.
 pub fn types(
-    codes: &[u8; 16384],
-    indices: &[u16; 16384],
-    places: &[u16; 16384],
-    owners: &[u8; 16384],
-    decls: &[u16; 390],
+    codes: &[u8; limit::TEXT],
+    indices: &[u16; limit::TEXT],
+    places: &[u16; limit::TEXT],
+    owners: &[u8; limit::TEXT],
+    decls: &[u16; declaration::ROWS],
     n: usize,
     d: usize,
-    rows: &[u16; 3072],
+    rows: &[u16; codes::statement::ROWS],
     s: usize,
 ) -> Finding
     ensures answer { λ r. ⌜ r ≡ findingFrom (typesIn (sources (now (codes .entry)) (now (indices .entry)) (now (places .entry)) (now (owners .entry)) (now (decls .entry)) n d) (now (rows .entry)) s) ⌝ }

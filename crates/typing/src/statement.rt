@@ -2,58 +2,73 @@
 ghost use mathlib.Core.Path.{_≡_};
 ghost use Prim.Native.Nat.{_+_, _*_, _<_, _≤_};
 ghost use lib.ListN.{getD};
+ghost use Rattle.codes.specs.Statement.{ROW};
+ghost use Rattle.codes.specs.Limit.{STATEMENTS};
 ghost use Rattle.typing.specs.Expressions.{nameCode, sources};
 ghost use Rattle.typing.specs.Statements.{wantedCode, statementAt};
 ghost use Rattle.syntax.specs.Lowest.{lowestFrom};
 use crate::expression::expression;
 use crate::expression::name_type;
 use crate::operators;
+use codes::declaration;
+use codes::limit;
+use codes::statement;
+use codes::types;
 
 // Number k of row j of the statements.
-fn field(rows: &[u16; 3072], j: usize, k: usize) -> u16
-    requires { ⌜ (j < 512) × (k < 6) ⌝ }
-    ensures { λ r. ⌜ r ≡ getD (now (rows .entry)) (6 * j + k) 0 ⌝ }
+fn field(rows: &[u16; statement::ROWS], j: usize, k: usize) -> u16
+    requires { ⌜ (j < STATEMENTS) × (k < ROW) ⌝ }
+    ensures { λ r. ⌜ r ≡ getD (now (rows .entry)) (ROW * j + k) 0 ⌝ }
 {
-    rows[6 * j + k]
+    rows[statement::ROW * j + k]
 }
 
-// The type that a statement of this kind wants of its expression.
-fn wanted_type(owners: &[u8; 16384], decls: &[u16; 390], d: usize, kind: u16, i: usize) -> u8
+// The type that a statement of this kind wants of its expression: its target's, or boolean of a condition.
+fn wanted_type(
+    owners: &[u8; limit::TEXT],
+    decls: &[u16; declaration::ROWS],
+    d: usize,
+    kind: u16,
+    i: usize,
+) -> u8
     ensures { λ r. ⌜ r ≡ wantedCode kind (nameCode (now (owners .entry)) (now (decls .entry)) d i) ⌝ }
 {
-    if kind == 0 {
-        return 0;
-    }
-    if kind == 4 {
-        return 0;
-    }
-    if kind < 3 {
+    if kind == statement::OUTPUT {
         return name_type(owners, decls, d, i);
     }
-    3
+    if kind == statement::VARIABLE {
+        return name_type(owners, decls, d, i);
+    }
+    if kind == statement::IF {
+        return types::BOOLEAN;
+    }
+    if kind == statement::WHILE {
+        return types::BOOLEAN;
+    }
+    types::NONE
 }
 
 // The lowest offence of one statement, those inside it aside.
 fn statement_at(
-    codes: &[u8; 16384],
-    indices: &[u16; 16384],
-    places: &[u16; 16384],
-    owners: &[u8; 16384],
-    decls: &[u16; 390],
+    codes: &[u8; limit::TEXT],
+    indices: &[u16; limit::TEXT],
+    places: &[u16; limit::TEXT],
+    owners: &[u8; limit::TEXT],
+    decls: &[u16; declaration::ROWS],
     n: usize,
     d: usize,
-    rows: &[u16; 3072],
+    rows: &[u16; statement::ROWS],
     j: usize,
 ) -> usize
-    requires { ⌜ j < 512 ⌝ }
+    requires { ⌜ j < STATEMENTS ⌝ }
     ensures { λ r. ⌜ r ≡ statementAt (sources (now (codes .entry)) (now (indices .entry)) (now (places .entry)) (now (owners .entry)) (now (decls .entry)) n d) (now (rows .entry)) j ⌝ }
 {
-    let to = field(rows, j, 3) as usize;
-    if to <= 16384 {
-        let from = field(rows, j, 2) as usize;
+    let to = field(rows, j, statement::TO) as usize;
+    if to <= limit::TEXT {
+        let from = field(rows, j, statement::FROM) as usize;
         let e = expression(codes, indices, places, owners, decls, n, d, from, to);
-        let i = field(rows, j, 1) as usize;
-        let wanted = wanted_type(owners, decls, d, field(rows, j, 0), i);
+        let i = field(rows, j, statement::TOKEN) as usize;
+        let wanted = wanted_type(owners, decls, d, field(rows, j, statement::KIND), i);
         let wrong = syntax::offence(
             operators::fits(wanted, e.code),
             syntax::place_at(places, n, i),
@@ -65,17 +80,17 @@ fn statement_at(
 
 // The lowest offence of the statements.
 pub(crate) fn statements_from(
-    codes: &[u8; 16384],
-    indices: &[u16; 16384],
-    places: &[u16; 16384],
-    owners: &[u8; 16384],
-    decls: &[u16; 390],
+    codes: &[u8; limit::TEXT],
+    indices: &[u16; limit::TEXT],
+    places: &[u16; limit::TEXT],
+    owners: &[u8; limit::TEXT],
+    decls: &[u16; declaration::ROWS],
     n: usize,
     d: usize,
-    rows: &[u16; 3072],
+    rows: &[u16; statement::ROWS],
     s: usize,
 ) -> usize
-    requires { ⌜ s ≤ 512 ⌝ }
+    requires { ⌜ s ≤ STATEMENTS ⌝ }
     ensures { λ r. ⌜ r ≡ lowestFrom (statementAt (sources (now (codes .entry)) (now (indices .entry)) (now (places .entry)) (now (owners .entry)) (now (decls .entry)) n d) (now (rows .entry))) 0 s ⌝ }
 {
     let mut lowest: usize = 0;

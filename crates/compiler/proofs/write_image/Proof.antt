@@ -1,8 +1,6 @@
 -- `compiler::write_image` meets its contract. Assumes nothing.
-use mathlib.Core.Path.{_∙_}
-use denote.Ref.{now}
-use Rattle.format.specs.Encode.{encode}
-use Rattle.compiler.proofs.Accepted.{written-answer, short-answer, same-buffer}
+use mathlib.Core.Path.{sym, _∙_, ap}
+use Rattle.encoder.specs.Outcome.{encodedTold}
 use borrow.Author.Needs.{needs}
 use Rattle.compiler.proofs.write_image.Statement.{statement}
 use Rattle.compiler.proofs.write_image.Tie as tie
@@ -35,13 +33,13 @@ same-length : tie.Need-same-length
 same-length c = search needs
 
 returns : tie.Need-returns
-returns c = λ p h w. let e = c .before .before .before .before .before .write .ensures .0 p (h .body) (h .declared) w in (written-answer (encode p) (now (c .before .before .before .before .before .before .before .before .before .before .before .before .before .args .image)) (e .0) (c .before .encoded .given .1), e .1 ∙ same-buffer (encode p) (now (c .before .before .before .before .before .before .before .before .before .before .before .before .before .args .image)))
+returns c = λ p h w. let e = c .before .before .before .before .before .write .ensures .0 p (h .body) (h .declared) w in (sym (ap encodedTold (c .before .encoded .given .1)) ∙ e .0, e .1)
 
 same-length-2 : tie.Need-same-length-2
 same-length-2 c = search needs
 
 returns-2 : tie.Need-returns-2
-returns-2 c = λ p h w. let e = c .before .before .before .before .before .write .ensures .0 p (h .body) (h .declared) w in (short-answer (encode p) (now (c .before .before .before .before .before .before .before .before .before .before .before .before .before .args .image)) (e .0) (c .before .encoded2 .given .1), e .1 ∙ same-buffer (encode p) (now (c .before .before .before .before .before .before .before .before .before .before .before .before .before .args .image)))
+returns-2 c = λ p h w. let e = c .before .before .before .before .before .write .ensures .0 p (h .body) (h .declared) w in (sym (ap encodedTold (c .before .encoded2 .given .1)) ∙ e .0, e .1)
 
 pub write-image-spec : {M : Type 1} → statement M
 write-image-spec =

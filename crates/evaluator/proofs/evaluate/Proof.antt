@@ -34,7 +34,7 @@ part-run-end : tie.Need-part-run-end
 part-run-end c = search needs
 
 run-requires : tie.Need-run-requires
-run-requires c κs = search needs
+run-requires c κs = record { numbers = search needs; tags = search needs; depth = omega arith; kinds = λ k l. absurd (omega arith) }
 
 returns-3 : tie.Need-returns-3
 returns-3 c =

@@ -1,9 +1,9 @@
 -- `evaluator::keep` meets its contract: one value more on the stack, or none. Assumes nothing.
-use Prim.Native.Nat.{_+_}
+use mathlib.Core.Path.{sym, _∙_}
 use mir.Syntax.{w32}
 use mir.Val.{SFits}
+use Rattle.evaluator.proofs.StackLaws.{kept, stopped, fault-pushed}
 use borrow.Author.Needs.{needs}
-use Rattle.evaluator.proofs.StackLaws.{kept, stopped}
 use Rattle.evaluator.proofs.keep.Statement.{statement}
 use Rattle.evaluator.proofs.keep.Tie as tie
 
@@ -19,23 +19,23 @@ element-set-from-v c = search needs
 element-write-tags : tie.Need-element-write-tags
 element-write-tags c = search needs
 
-add-t10 : tie.Need-add-t10
-add-t10 c = search needs
+add-t11 : tie.Need-add-t11
+add-t11 c = search needs
 
 enum-known-e-2 : tie.Need-enum-known-e-2
 enum-known-e-2 c = search needs
 
 returns : tie.Need-returns
 returns c =
-    let s = c .before .before .before in
-    let fit : SFits w32 (c .before .e .given .0 .1 .0) = search needs in
-    kept (s .args .stack .now) (s .args .tags .now) (s .args .i) (c .before .e .given .0 .1 .0) (c .before .e .given .0 .0) (s .args .at) (s .args .e)
-    (c .before .e .given .1) fit (s .pre)
+    let s = c .before .before .before .before .args in
+    let fit : SFits w32 (c .before .before .e .given .0 .0 .value) = search needs in
+    λ o q.
+    kept (s .stack .now) (s .tags .now) (s .i) (c .before .before .e .given .0 .0 .value) (c .before .before .e .given .0 .0 .kind) (s .at) o (sym (c .before .before .e .given .1) ∙ q) fit (c .before .before .before .before .pre .0) (c .before .before .before .before .pre .1)
 
 returns-2 : tie.Need-returns-2
 returns-2 c =
-    let s = c .before .before .before in
-    stopped (s .args .stack .now) (s .args .tags .now) (s .args .i + 1) (c .before .e2 .given .0 .0) (s .pre) (rw (c .before .e2 .given .1))
+    let s = c .before .before .before .args in
+    λ o q. stopped (s .stack .now) (s .tags .now) (s .i) (c .before .e2 .given .0 .0) (c .before .before .before .pre .0) (fault-pushed (c .before .e2 .given .0 .0) (s .at) o _ (sym (c .before .e2 .given .1) ∙ q))
 
 pub keep-spec : {M : Type 1} → statement M
 keep-spec =
@@ -45,7 +45,7 @@ keep-spec =
     mul-v
     element-set-from-v
     element-write-tags
-    add-t10
+    add-t11
     enum-known-e-2
     returns
     returns-2)

@@ -1,14 +1,13 @@
--- `evaluator::run` meets its contract. The invariant: the rest of the run answers what the whole answers. The measure: the operations left.
--- Assumes nothing.
+-- `evaluator::run` meets its contract. The invariant: the rest of the run answers what the whole answers. The measure: the operations left. Assumes nothing.
 use lib.ListN.{getD}
 use native.Mathlib.Omega.{arith}
 use lib.IntN.{pos}
 use mir.Syntax.{w32}
 use mir.Val.{SFits}
 use mir.Facts.{toZ-ofZ}
-use borrow.Author.Needs.{needs}
 use Rattle.evaluator.specs.Value.{machineFor}
 use Rattle.evaluator.proofs.LoopLaws.{Left, left-first, left-again, left-stop, left-spent, left-one, left-other}
+use borrow.Author.Needs.{needs}
 use Rattle.evaluator.proofs.run.Statement.{statement}
 use Rattle.evaluator.proofs.run.Tie as tie
 
@@ -50,9 +49,7 @@ loop-again c =
     let s = c .before .before .before .before .before .before .before .before .before .before .before .before .args in
     let m = c .before .before .before .before .before .before .before .before .loop in
     let M = machineFor (s .input-types .now) (s .variable-types .now) (s .inputs .now) (s .variables .now) in
-    left-again M (s .code .now) (m .stack) (m .tags) (m .depth) (m .at) (m .left) _ _
-    (c .before .before .before .step .result) (c .before .next .given .0 .0) (c .before .next .given .0 .1 .0) (m .inv)
-    (c .before .before .before .before .before .before .if1 .left) (c .before .before .before .before .before .before .before .loop-test .taken)
+    left-again M (s .code .now) (m .stack) (m .tags) (m .depth) (m .at) (m .left) _ _ (c .before .before .before .step .result) (c .before .next .given .0 .0) (c .before .next .given .0 .1 .0) (m .inv) (c .before .before .before .before .before .before .if1 .left) (c .before .before .before .before .before .before .before .loop-test .taken)
     (c .before .before .before .step .ensures) (c .before .next .given .1)
 
 enum-known-next-2 : tie.Need-enum-known-next-2 Inv-loop μ-loop
@@ -63,29 +60,21 @@ returns-2 c =
     let s = c .before .before .before .before .before .before .before .before .before .before .before .before .args in
     let m = c .before .before .before .before .before .before .before .before .loop in
     let M = machineFor (s .input-types .now) (s .variable-types .now) (s .inputs .now) (s .variables .now) in
-    left-stop M (s .code .now) (m .stack) (m .tags) (m .depth) (m .at) (m .left) _ _
-    (c .before .before .before .step .result) (c .before .next2 .given .0 .0) (m .inv)
-    (c .before .before .before .before .before .before .if1 .left) (c .before .before .before .before .before .before .before .loop-test .taken)
-    (c .before .before .before .step .ensures) (c .before .next2 .given .1)
+    left-stop M (s .code .now) (m .stack) (m .tags) (m .depth) (m .at) (m .left) _ _ (c .before .before .before .step .result) (c .before .next2 .given .0 .0) (m .inv) (c .before .before .before .before .before .before .if1 .left) (c .before .before .before .before .before .before .before .loop-test .taken) (c .before .before .before .step .ensures) (c .before .next2 .given .1)
 
-element-copy-out-plain-tag : tie.Need-element-copy-out-plain-tag Inv-loop μ-loop
-element-copy-out-plain-tag c = search needs
+element-copy-out-t22 : tie.Need-element-copy-out-t22 Inv-loop μ-loop
+element-copy-out-t22 c = search needs
 
-plain-tag-requires : tie.Need-plain-tag-requires Inv-loop μ-loop
-plain-tag-requires c κs = search needs
-
-element-copy-out-t26 : tie.Need-element-copy-out-t26 Inv-loop μ-loop
-element-copy-out-t26 c = search needs
+element-copy-out-t25 : tie.Need-element-copy-out-t25 Inv-loop μ-loop
+element-copy-out-t25 c = search needs
 
 returns-3 : tie.Need-returns-3 Inv-loop μ-loop
 returns-3 c =
-    let s = c .before .before .before .before .before .before .before .before .before .args in
-    let m = c .before .before .before .before .before .loop in
+    let s = c .before .before .before .before .before .before .before .before .args in
+    let m = c .before .before .before .before .loop in
     let M = machineFor (s .input-types .now) (s .variable-types .now) (s .inputs .now) (s .variables .now) in
     let fit : SFits w32 (getD (m .stack) 0 (pos 0)) = search needs in
-    rw (toZ-ofZ fit, c .before .plain-tag .ensures)
-    (left-one M (s .code .now) (m .stack) (m .tags) (m .depth) (m .at) (m .left) (m .inv)
-    (c .before .before .before .before .loop-test .left) (c .before .before .before .if2 .taken))
+    rw (toZ-ofZ fit) (left-one M (s .code .now) (m .stack) (m .tags) (m .depth) (m .at) (m .left) (m .inv) (c .before .before .before .loop-test .left) (c .before .before .if2 .taken))
 
 returns-4 : tie.Need-returns-4 Inv-loop μ-loop
 returns-4 c =
@@ -109,8 +98,7 @@ run-spec =
     loop-again
     enum-known-next-2
     returns-2
-    element-copy-out-plain-tag
-    plain-tag-requires
-    element-copy-out-t26
+    element-copy-out-t22
+    element-copy-out-t25
     returns-3
     returns-4)

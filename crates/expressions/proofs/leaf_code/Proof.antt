@@ -1,13 +1,19 @@
--- `expressions::leaf_code` meets its contract: the test is that of `leafCode`. Assumes nothing.
-use borrow.Author.Tests.{eq-eqb, ne-eqb}
+-- `expressions::leaf_code` meets its contract: the tests are those of `leafCode`. Assumes nothing.
+use mathlib.Core.Path.{sym, ap}
+use borrow.Author.Tests.{ne-eqb}
+use Rattle.codes.specs.Token.{NAME, NUMBER}
+use Rattle.expressions.specs.Tests.{leafCode}
 use Rattle.expressions.proofs.leaf_code.Statement.{statement}
 use Rattle.expressions.proofs.leaf_code.Tie as tie
 
 returns : tie.Need-returns
-returns c = rw (eq-eqb (c .before .args .kind) 4 (c .if1 .taken))
+returns c = ap leafCode (sym (c .match .keys1))
 
 returns-2 : tie.Need-returns-2
-returns-2 c = rw (ne-eqb (c .before .args .kind) 4 (c .if1 .left))
+returns-2 c = ap leafCode (sym (c .match .keys2))
+
+returns-3 : tie.Need-returns-3
+returns-3 c = rw (ne-eqb (c .before .args .kind) NAME (c .match .rest .0 .1), ne-eqb (c .before .args .kind) NUMBER (c .match .rest .1))
 
 pub leaf-code-spec : {M : Type 1} → statement M
-leaf-code-spec = tie.close (tie.spec returns returns-2)
+leaf-code-spec = tie.close (tie.spec returns returns-2 returns-3)

@@ -1,8 +1,7 @@
 -- `expressions::more_factors` meets its contract: the tests are those of `moreFactors`. Assumes nothing.
 use mathlib.Core.Path.{sym}
-use native.Mathlib.Omega.{arith}
 use borrow.Author.Needs.{needs}
-use borrow.Author.Tests.{eq-eqb, ne-eqb, lt-ltb, le-ltb}
+use borrow.Author.Tests.{eq-eqb, ne-eqb}
 use Rattle.expressions.specs.Tests.{moreFactors}
 use Rattle.expressions.proofs.more_factors.Statement.{statement}
 use Rattle.expressions.proofs.more_factors.Tie as tie
@@ -13,11 +12,7 @@ returns c = rw (ne-eqb (c .before .before .args .q .fault) 0 (c .if1 .taken))
 
 returns-2 : tie.Need-returns-2
 unfolding moreFactors
-returns-2 c = rw (eq-eqb (c .before .before .before .before .args .q .fault) 0 (c .before .before .if1 .left), sym (c .before .kind-at .ensures), lt-ltb (c .before .kind-at .result) 44 (omega arith))
-
-returns-3 : tie.Need-returns-3
-unfolding moreFactors
-returns-3 c = rw (eq-eqb (c .before .before .before .before .args .q .fault) 0 (c .before .before .if1 .left), sym (c .before .kind-at .ensures), le-ltb (c .before .kind-at .result) 44 (omega arith))
+returns-2 c = rw (eq-eqb (c .before .before .before .before .args .q .fault) 0 (c .before .before .if1 .left), sym (c .before .kind-at .ensures)) (c .is-multiplying .ensures)
 
 pub more-factors-spec : {M : Type 1} → statement M
-more-factors-spec = tie.close (tie.spec returns (λ c κs. search needs) returns-2 returns-3)
+more-factors-spec = tie.close (tie.spec returns (λ c κs. search needs) (λ c κs. search needs) returns-2)

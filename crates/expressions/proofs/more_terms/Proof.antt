@@ -1,5 +1,5 @@
 -- `expressions::more_terms` meets its contract: the tests are those of `moreTerms`. Assumes nothing.
-use mathlib.Core.Path.{sym, _∙_}
+use mathlib.Core.Path.{sym}
 use borrow.Author.Needs.{needs}
 use borrow.Author.Tests.{eq-eqb, ne-eqb}
 use Rattle.expressions.specs.Tests.{moreTerms}
@@ -12,11 +12,7 @@ returns c = rw (ne-eqb (c .before .before .args .q .fault) 0 (c .if1 .taken))
 
 returns-2 : tie.Need-returns-2
 unfolding moreTerms
-returns-2 c = rw (eq-eqb (c .before .before .before .before .args .q .fault) 0 (c .before .before .if1 .left), sym (c .before .kind-at .ensures) ∙ c .if2 .taken)
-
-returns-3 : tie.Need-returns-3
-unfolding moreTerms
-returns-3 c = rw (eq-eqb (c .before .before .before .before .args .q .fault) 0 (c .before .before .if1 .left), sym (c .before .kind-at .ensures), ne-eqb (c .before .kind-at .result) 11 (c .if2 .left))
+returns-2 c = rw (eq-eqb (c .before .before .before .before .args .q .fault) 0 (c .before .before .if1 .left), sym (c .before .kind-at .ensures)) (c .is-adding .ensures)
 
 pub more-terms-spec : {M : Type 1} → statement M
-more-terms-spec = tie.close (tie.spec returns (λ c κs. search needs) returns-2 returns-3)
+more-terms-spec = tie.close (tie.spec returns (λ c κs. search needs) (λ c κs. search needs) returns-2)

@@ -59,9 +59,9 @@ same-length c = search needs
 -- src/lib.rt:101:17
 returns-3 : tie.Need-returns-3
 returns-3 c =
-    let h : SFits w32 (c .before .before .before .e2 .given .0 .1 .0) = search needs in
-    branch-at (now (c .before .before .before .before .before .before .before .before .before .before .before .before .before .before .args .lines)) (c .before .before .before .before .before .before .before .before .before .before .before .before .before .before .args .x) (valueAt (now (c .before .before .before .before .before .before .before .before .before .before .before .before .before .before .args .lines)) (now (c .before .before .before .before .before .before .before .before .before .before .before .before .before .before .args .code)) (c .before .before .before .before .before .before .before .before .before .before .before .before .before .before .args .x) (now (c .before .before .before .before .before .before .before .before .before .before .before .before .before .before .args .input-types)) (now (c .before .before .before .before .before .before .before .before .before .before .before .before .before .before .args .variable-types)) (now (c .before .before .before .before .before .before .before .before .before .before .before .before .before .before .args .inputs)) (now (c .before .before .before .before .before .before .before .before .before .before .before .before .before .before .args .variables))) (now (c .before .before .before .before .before .before .before .before .before .before .before .before .before .before .args .outputs)) (now (c .before .before .before .before .before .before .before .before .before .before .before .before .before .before .args .variables)) _ _ _ _ _
-    (c .before .before .before .before .before .before .before .before .before .kind .ensures) (c .before .if3 .taken) (c .before .before .before .before .before .value .ensures) (c .before .before .before .e2 .given .1) (rw (toZ-ofZ h) at (c .branch .ensures))
+    let h : SFits w32 (c .before .before .before .before .e2 .given .0 .0 .value) = search needs in
+    branch-at (now (c .before .before .before .before .before .before .before .before .before .before .before .before .before .before .before .args .lines)) (c .before .before .before .before .before .before .before .before .before .before .before .before .before .before .before .args .x) (valueAt (now (c .before .before .before .before .before .before .before .before .before .before .before .before .before .before .before .args .lines)) (now (c .before .before .before .before .before .before .before .before .before .before .before .before .before .before .before .args .code)) (c .before .before .before .before .before .before .before .before .before .before .before .before .before .before .before .args .x) (now (c .before .before .before .before .before .before .before .before .before .before .before .before .before .before .before .args .input-types)) (now (c .before .before .before .before .before .before .before .before .before .before .before .before .before .before .before .args .variable-types)) (now (c .before .before .before .before .before .before .before .before .before .before .before .before .before .before .before .args .inputs)) (now (c .before .before .before .before .before .before .before .before .before .before .before .before .before .before .before .args .variables))) (now (c .before .before .before .before .before .before .before .before .before .before .before .before .before .before .before .args .outputs)) (now (c .before .before .before .before .before .before .before .before .before .before .before .before .before .before .before .args .variables)) _ _ (c .before .before .before .before .e2 .given .0 .0 .kind) (c .before .before .before .before .e2 .given .0 .0 .value) _
+    (c .before .before .before .before .before .before .before .before .before .before .kind .ensures) (c .before .if3 .taken) (c .before .before .before .before .before .before .value .ensures) (c .before .before .before .before .e2 .given .1) (rw (toZ-ofZ h) at (c .branch .ensures))
 
 -- src/lib.rt:103:21
 target-requires : tie.Need-target-requires
@@ -104,9 +104,9 @@ same-length-4 c = search needs
 -- src/lib.rt:75:1
 returns-5 : tie.Need-returns-5
 returns-5 c =
-    let h : SFits w32 (c .before .before .before .before .before .before .before .before .before .before .e2 .given .0 .1 .0) = search needs in
-    store-at (now (c .before .before .before .before .before .before .before .before .before .before .before .before .before .before .before .before .before .before .before .before .before .args .lines)) (c .before .before .before .before .before .before .before .before .before .before .before .before .before .before .before .before .before .before .before .before .before .args .x) (valueAt (now (c .before .before .before .before .before .before .before .before .before .before .before .before .before .before .before .before .before .before .before .before .before .args .lines)) (now (c .before .before .before .before .before .before .before .before .before .before .before .before .before .before .before .before .before .before .before .before .before .args .code)) (c .before .before .before .before .before .before .before .before .before .before .before .before .before .before .before .before .before .before .before .before .before .args .x) (now (c .before .before .before .before .before .before .before .before .before .before .before .before .before .before .before .before .before .before .before .before .before .args .input-types)) (now (c .before .before .before .before .before .before .before .before .before .before .before .before .before .before .before .before .before .before .before .before .before .args .variable-types)) (now (c .before .before .before .before .before .before .before .before .before .before .before .before .before .before .before .before .before .before .before .before .before .args .inputs)) (now (c .before .before .before .before .before .before .before .before .before .before .before .before .before .before .before .before .before .before .before .before .before .args .variables))) (now (c .before .before .before .before .before .before .before .before .before .before .before .before .before .before .before .before .before .before .before .before .before .args .outputs)) (now (c .before .before .before .before .before .before .before .before .before .before .before .before .before .before .before .before .before .before .before .before .before .args .variables)) _ _ _ _ _ _ _ _
-    (c .before .before .before .before .before .before .before .before .before .before .before .before .before .before .before .before .kind .ensures) (c .before .before .before .before .before .before .before .before .before .before .before .before .before .before .before .if1 .left) (c .before .before .before .before .before .before .before .before .before .before .before .before .before .before .if2 .left) (c .before .before .before .before .before .before .before .before .if3 .left) (c .before .before .before .before .before .before .before .before .before .before .before .before .value .ensures) (c .before .before .before .before .before .before .before .before .before .before .e2 .given .1)
+    let h : SFits w32 (c .before .before .before .before .before .before .before .before .before .before .before .e2 .given .0 .0 .value) = search needs in
+    store-at (now (c .before .before .before .before .before .before .before .before .before .before .before .before .before .before .before .before .before .before .before .before .before .before .args .lines)) (c .before .before .before .before .before .before .before .before .before .before .before .before .before .before .before .before .before .before .before .before .before .before .args .x) (valueAt (now (c .before .before .before .before .before .before .before .before .before .before .before .before .before .before .before .before .before .before .before .before .before .before .args .lines)) (now (c .before .before .before .before .before .before .before .before .before .before .before .before .before .before .before .before .before .before .before .before .before .before .args .code)) (c .before .before .before .before .before .before .before .before .before .before .before .before .before .before .before .before .before .before .before .before .before .before .args .x) (now (c .before .before .before .before .before .before .before .before .before .before .before .before .before .before .before .before .before .before .before .before .before .before .args .input-types)) (now (c .before .before .before .before .before .before .before .before .before .before .before .before .before .before .before .before .before .before .before .before .before .before .args .variable-types)) (now (c .before .before .before .before .before .before .before .before .before .before .before .before .before .before .before .before .before .before .before .before .before .before .args .inputs)) (now (c .before .before .before .before .before .before .before .before .before .before .before .before .before .before .before .before .before .before .before .before .before .before .args .variables))) (now (c .before .before .before .before .before .before .before .before .before .before .before .before .before .before .before .before .before .before .before .before .before .before .args .outputs)) (now (c .before .before .before .before .before .before .before .before .before .before .before .before .before .before .before .before .before .before .before .before .before .before .args .variables)) _ _ _ (c .before .before .before .before .before .before .before .before .before .before .before .e2 .given .0 .0 .kind) (c .before .before .before .before .before .before .before .before .before .before .before .e2 .given .0 .0 .value) _ _ _
+    (c .before .before .before .before .before .before .before .before .before .before .before .before .before .before .before .before .before .kind .ensures) (c .before .before .before .before .before .before .before .before .before .before .before .before .before .before .before .before .if1 .left) (c .before .before .before .before .before .before .before .before .before .before .before .before .before .before .before .if2 .left) (c .before .before .before .before .before .before .before .before .if3 .left) (c .before .before .before .before .before .before .before .before .before .before .before .before .before .value .ensures) (c .before .before .before .before .before .before .before .before .before .before .before .e2 .given .1)
     (c .field2 .ensures .0) (c .before .before .before .before .before .before .before .target .ensures) (rw (toZ-ofZ h) at (c .before .before .before .before .before .store .ensures)) (rw (toZ-ofZ h) at (c .before .before .store2 .ensures))
 
 pub perform-spec : {M : Type 1} → statement M

@@ -1,5 +1,5 @@
 -- `elaborator::items::code_at` meets its contract. Assumes nothing.
-use Rattle.elaborator.proofs.ItemLaws.{code-name, code-number, code-bit, code-sign, code-not, code-other}
+use Rattle.elaborator.proofs.ItemLaws.{code-name, code-number, code-bit, code-other}
 use denote.Ref.{now}
 use borrow.Author.Needs.{needs}
 use Rattle.elaborator.proofs.items.code_at.Statement.{statement}
@@ -27,13 +27,7 @@ returns-3 : tie.Need-returns-3
 returns-3 c = code-bit (now (c .before .args .owners)) (now (c .before .args .decls)) (c .before .args .d) (c .before .args .c) (c .before .args .i) (c .match .keys3)
 
 returns-4 : tie.Need-returns-4
-returns-4 c = code-sign (now (c .before .args .owners)) (now (c .before .args .decls)) (c .before .args .d) (c .before .args .c) (c .before .args .i) (c .match .keys4)
-
-returns-5 : tie.Need-returns-5
-returns-5 c = code-not (now (c .before .args .owners)) (now (c .before .args .decls)) (c .before .args .d) (c .before .args .c) (c .before .args .i) (c .match .keys5)
-
-returns-6 : tie.Need-returns-6
-returns-6 c = code-other (now (c .before .args .owners)) (now (c .before .args .decls)) (c .before .args .d) (c .before .args .c) (c .before .args .i) (c .match .rest .0 .0 .0 .0 .1) (c .match .rest .0 .0 .0 .1) (c .match .rest .0 .0 .1) (c .match .rest .0 .1) (c .match .rest .1)
+returns-4 c = code-other (now (c .before .args .owners)) (now (c .before .args .decls)) (c .before .args .d) (c .before .args .c) (c .before .args .i) (c .match .rest .0 .0 .1) (c .match .rest .0 .1) (c .match .rest .1)
 
 pub code-at-spec : {M : Type 1} → statement M
 code-at-spec =
@@ -46,6 +40,4 @@ code-at-spec =
     returns
     returns-2
     returns-3
-    returns-4
-    returns-5
-    returns-6)
+    returns-4)

@@ -2,9 +2,12 @@
 use lib.IntN.{ℤ}
 use mir.Facts.{toZ-ofZ}
 use Rattle.semantics.specs.Twos.{unsigned32}
-use borrow.Author.Tests.{eq-eqb, ne-eqb, lt-ltb, le-ltb}
+use borrow.Author.Tests.{eq-eqb, ne-eqb}
 use Prim.Native.Nat.{ℕ, _%_}
-use mathlib.Core.Path.{refl, _∙_, ap}
+use mathlib.Core.Bool.{true, false}
+use mathlib.Core.Path.{_≡_, refl, sym, _∙_, ap}
+use lib.Dec.{eqb}
+use Rattle.codes.specs.Operation.{widthOf}
 use Rattle.encoder.specs.Emitted.{opBytes}
 use Rattle.encoder.proofs.EmittedLaws.{put-two}
 use borrow.Author.Needs.{needs}
@@ -20,6 +23,9 @@ same-length c = search needs
 returns : tie.Need-returns
 unfolding opBytes
 returns c = simp (eq-eqb (c .before .before .before .before .before .before .args .code) 1 (c .before .before .before .before .if1 .taken)) (rw (toZ-ofZ (c .before .before .before .before .before .before .fits .arg)) at (c .before .before .put-cell .ensures))
+
+width-requires : tie.Need-width-requires
+width-requires c κs = search needs
 
 put-requires : tie.Need-put-requires
 put-requires c κs = search needs
@@ -41,7 +47,10 @@ same-length-2 c = search needs
 
 returns-2 : tie.Need-returns-2
 unfolding opBytes
-returns-2 c = simp (ne-eqb (c .before .before .before .before .before .before .before .before .before .before .before .before .before .args .code) 1 (c .before .before .before .before .before .before .before .before .before .before .before .if1 .left), lt-ltb (c .before .before .before .before .before .before .before .before .before .before .before .before .before .args .code) 5 (c .before .before .before .before .before .before .before .before .before .before .if2 .taken)) (put-two (c .before .before .before .before .before .before .before .before .before .before .before .before .before .args .image .now) (c .before .before .before .before .before .before .before .before .before .before .before .before .before .args .at) refl (c .before .before .before .byte-of .ensures ∙ ap (λ (w : ℕ). w % 256) (c .before .before .before .before .to-bits .ensures ∙ ap (λ (z : ℤ). unsigned32 z) (toZ-ofZ (c .before .before .before .before .before .before .before .before .before .before .before .before .before .fits .arg)))) (c .before .before .before .before .before .before .before .before .put .ensures) (c .before .before .put2 .ensures))
+returns-2 c =
+    let n = ne-eqb (c .before .before .before .before .before .before .before .before .before .before .before .before .before .before .args .code) 1 (c .before .before .before .before .before .before .before .before .before .before .before .before .if1 .left) in
+    let w : eqb (widthOf (c .before .before .before .before .before .before .before .before .before .before .before .before .before .before .args .code)) 1 ≡ false = ap (λ (w : ℕ). eqb w 1) (sym (c .before .before .before .before .before .before .before .before .before .before .before .width .ensures .0)) ∙ ne-eqb (c .before .before .before .before .before .before .before .before .before .before .before .width .result) 1 (c .before .before .before .before .before .before .before .before .before .before .if2 .taken) in
+    simp (n, w) (put-two (c .before .before .before .before .before .before .before .before .before .before .before .before .before .before .args .image .now) (c .before .before .before .before .before .before .before .before .before .before .before .before .before .before .args .at) refl (c .before .before .before .byte-of .ensures ∙ ap (λ (w : ℕ). w % 256) (c .before .before .before .before .to-bits .ensures ∙ ap (λ (z : ℤ). unsigned32 z) (toZ-ofZ (c .before .before .before .before .before .before .before .before .before .before .before .before .before .before .fits .arg)))) (c .before .before .before .before .before .before .before .before .put .ensures) (c .before .before .put2 .ensures))
 
 put-requires-3 : tie.Need-put-requires-3
 put-requires-3 c κs = search needs
@@ -51,7 +60,10 @@ same-length-3 c = search needs
 
 returns-3 : tie.Need-returns-3
 unfolding opBytes
-returns-3 c = simp (ne-eqb (c .before .before .before .before .before .before .before .args .code) 1 (c .before .before .before .before .before .if1 .left), le-ltb (c .before .before .before .before .before .before .before .args .code) 5 (c .before .before .before .before .if2 .left)) (c .before .before .put3 .ensures)
+returns-3 c =
+    let n = ne-eqb (c .before .before .before .before .before .before .before .before .args .code) 1 (c .before .before .before .before .before .before .if1 .left) in
+    let w : eqb (widthOf (c .before .before .before .before .before .before .before .before .args .code)) 1 ≡ true = ap (λ (w : ℕ). eqb w 1) (sym (c .before .before .before .before .before .width .ensures .0)) ∙ eq-eqb (c .before .before .before .before .before .width .result) 1 (c .before .before .before .before .if2 .left) in
+    simp (n, w) (c .before .before .put3 .ensures)
 
 pub put-op-spec : {M : Type 1} → statement M
 put-op-spec =
@@ -60,6 +72,7 @@ put-op-spec =
     put-cell-requires
     same-length
     returns
+    width-requires
     put-requires
     add-put
     to-bits-requires

@@ -36,11 +36,11 @@ element-copy-out-put-op c = omega arith
 put-op-requires : tie.Need-put-op-requires Inv-loop μ-loop
 put-op-requires c κs = omega arith
 
-op-width-requires : tie.Need-op-width-requires Inv-loop μ-loop
-op-width-requires c κs = search needs
+width-requires : tie.Need-width-requires Inv-loop μ-loop
+width-requires c κs = search needs
 
 add-p : tie.Need-add-p Inv-loop μ-loop
-add-p c = omega (arith, c .op-width .ensures .1)
+add-p c = omega (arith, c .width .ensures .1)
 
 add-i : tie.Need-add-i Inv-loop μ-loop
 add-i c = omega arith
@@ -51,7 +51,7 @@ loop-less c = omega arith
 loop-again : tie.Need-loop-again Inv-loop μ-loop
 loop-again c =
     let h : SFits w32 (getD (c .before .before .before .before .before .before .before .before .before .before .args .args .now) (c .before .before .before .before .before .before .before .before .loop .i) (pos 0)) = search needs in
-    (omega arith, (omega (arith, c .op-width .ensures .1), (search needs, code-again (c .before .before .before .before .before .before .before .before .before .before .args .codes .now) (c .before .before .before .before .before .before .before .before .before .before .args .args .now) (c .before .before .before .before .before .before .before .before .loop .image) (c .before .before .before .before .before .before .before .before .loop .p) (c .before .before .before .before .before .before .before .before .loop .i) (c .before .before .before .before .before .before .before .before .before .before .args .k) (c .before .before .before .before .before .before .before .loop-test .taken) refl (toZ-ofZ h) (c .before .before .before .put-op .ensures) (c .op-width .ensures .0) ∙ c .before .before .before .before .before .before .before .before .loop .inv .1 .1 .1)))
+    (omega arith, (omega (arith, c .width .ensures .1), (search needs, code-again (c .before .before .before .before .before .before .before .before .before .before .args .codes .now) (c .before .before .before .before .before .before .before .before .before .before .args .args .now) (c .before .before .before .before .before .before .before .before .loop .image) (c .before .before .before .before .before .before .before .before .loop .p) (c .before .before .before .before .before .before .before .before .loop .i) (c .before .before .before .before .before .before .before .before .before .before .args .k) (c .before .before .before .before .before .before .before .loop-test .taken) refl (toZ-ofZ h) (c .before .before .before .put-op .ensures) (c .width .ensures .0) ∙ c .before .before .before .before .before .before .before .before .loop .inv .1 .1 .1)))
 
 same-length : tie.Need-same-length Inv-loop μ-loop
 same-length c = search needs
@@ -70,7 +70,7 @@ put-code-spec =
     mul-put-op
     element-copy-out-put-op
     put-op-requires
-    op-width-requires
+    width-requires
     add-p
     add-i
     loop-less

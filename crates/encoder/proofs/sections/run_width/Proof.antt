@@ -20,14 +20,14 @@ bounded-requires c κs = search needs
 loop-holds : tie.Need-loop-holds Inv-loop μ-loop
 loop-holds c = (refl, omega arith)
 
-element-copy-out-op-width : tie.Need-element-copy-out-op-width Inv-loop μ-loop
-element-copy-out-op-width c = omega (arith, c .before .before .bounded .ensures)
+element-copy-out-width : tie.Need-element-copy-out-width Inv-loop μ-loop
+element-copy-out-width c = omega (arith, c .before .before .bounded .ensures)
 
-op-width-requires : tie.Need-op-width-requires Inv-loop μ-loop
-op-width-requires c κs = search needs
+width-requires : tie.Need-width-requires Inv-loop μ-loop
+width-requires c κs = search needs
 
 add-w : tie.Need-add-w Inv-loop μ-loop
-add-w c = omega (arith, c .op-width .ensures .1)
+add-w c = omega (arith, c .width .ensures .1)
 
 add-i : tie.Need-add-i Inv-loop μ-loop
 add-i c = omega arith
@@ -36,7 +36,7 @@ loop-less : tie.Need-loop-less Inv-loop μ-loop
 loop-less c = omega arith
 
 loop-again : tie.Need-loop-again Inv-loop μ-loop
-loop-again c = (width-again (c .before .before .before .before .before .args .codes .now) (c .before .before .before .loop .i) (c .before .before .before .before .bounded .result) (c .before .before .before .loop .w) _ _ (c .before .before .loop-test .taken) (c .op-width .ensures .0) (c .before .before .before .loop .inv .0), omega (arith, c .op-width .ensures .1))
+loop-again c = (width-again (c .before .before .before .before .before .args .codes .now) (c .before .before .before .loop .i) (c .before .before .before .before .bounded .result) (c .before .before .before .loop .w) _ _ (c .before .before .loop-test .taken) (c .width .ensures .0) (c .before .before .before .loop .inv .0), omega (arith, c .width .ensures .1))
 
 returns : tie.Need-returns Inv-loop μ-loop
 returns c = (width-done (c .before .before .before .args .codes .now) (c .before .loop .i) (c .before .before .bounded .result) (c .before .before .before .args .from) (c .before .loop .w) (c .loop-test .left) (c .before .loop .inv .0) ∙ ap (λ s. widthFrom (c .before .before .before .args .codes .now) (c .before .before .before .args .from) (s - c .before .before .before .args .from)) (c .before .before .bounded .ensures), omega (arith, c .before .before .bounded .ensures))
@@ -49,8 +49,8 @@ run-width-spec =
     μ-loop
     bounded-requires
     loop-holds
-    element-copy-out-op-width
-    op-width-requires
+    element-copy-out-width
+    width-requires
     add-w
     add-i
     loop-less

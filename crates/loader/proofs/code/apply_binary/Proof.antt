@@ -7,11 +7,14 @@ use Rattle.loader.proofs.code.apply_binary.Tie as tie
 returns : tie.Need-returns
 returns c = binary-none (c .before .args .k) (c .before .args .depth) (c .before .args .stack .now) (c .if1 .taken) (c .before .pre .1)
 
-element-copy-out-left : tie.Need-element-copy-out-left
-element-copy-out-left c = search needs
+sub-right : tie.Need-sub-right
+sub-right c = search needs
 
-sub-if2 : tie.Need-sub-if2
-sub-if2 c = search needs
+sub-left : tie.Need-sub-left
+sub-left c = search needs
+
+element-copy-out-t : tie.Need-element-copy-out-t
+element-copy-out-t c = search needs
 
 element-copy-out-if2 : tie.Need-element-copy-out-if2
 element-copy-out-if2 c = search needs
@@ -25,27 +28,21 @@ push-requires c κs = search needs
 returns-2 : tie.Need-returns-2
 returns-2 c =
     let args = c .before .before .before .before .before .before .before .args in
-    let if1 = c .before .before .before .before .before .before .if1 in
-    let if2 = c .before .before .before .if2 in
-    let binary-type = c .before .before .binary-type in
-    let push = c .push in
-    binary-some (args .k) (args .depth) (args .stack .now) (if1 .left) (if2 .taken) (binary-type .ensures) (push .ensures)
+    binary-some (args .k) (args .depth) (args .stack .now) (c .before .before .before .before .before .before .if1 .left) (c .before .before .before .if2 .taken) (c .before .before .binary-type .ensures) (c .push .ensures)
 
 returns-3 : tie.Need-returns-3
 returns-3 c =
     let args = c .before .before .before .before .args in
-    let if1 = c .before .before .before .if1 in
-    let if2 = c .if2 in
-    let pre = c .before .before .before .before .pre in
-    binary-differ (args .k) (args .depth) (args .stack .now) (if1 .left) (if2 .left) (pre .1)
+    binary-differ (args .k) (args .depth) (args .stack .now) (c .before .before .before .if1 .left) (c .if2 .left) (c .before .before .before .before .pre .1)
 
 pub apply-binary-spec : {M : Type 1} → statement M
 apply-binary-spec =
     tie.close
     (tie.spec
     returns
-    element-copy-out-left
-    sub-if2
+    sub-right
+    sub-left
+    element-copy-out-t
     element-copy-out-if2
     binary-type-requires
     push-requires

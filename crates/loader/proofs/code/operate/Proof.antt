@@ -1,4 +1,4 @@
--- `loader::code::operate` meets its contract, by the first byte. Assumes nothing.
+-- `loader::code::operate` meets its contract, by how many operands the first byte's operation takes. Assumes nothing.
 use Rattle.loader.specs.Code.{inputTypes, variableTypes}
 use Rattle.loader.proofs.Stack.{step-leaf, step-unary, step-binary}
 use borrow.Author.Needs.{needs}
@@ -8,6 +8,9 @@ use Rattle.loader.proofs.code.operate.Tie as tie
 byte-requires : tie.Need-byte-requires
 byte-requires c κs = search needs
 
+operands-requires : tie.Need-operands-requires
+operands-requires c κs = search needs
+
 leaf-type-requires : tie.Need-leaf-type-requires
 leaf-type-requires c κs = search needs
 
@@ -16,45 +19,34 @@ push-requires c κs = search needs
 
 returns : tie.Need-returns
 returns c =
-    let args = c .before .before .before .before .before .before .before .args in
-    let byte = c .before .before .before .before .byte in
-    let if1 = c .before .before .before .if1 in
-    let leaf-type = c .before .before .leaf-type in
-    let push = c .push in
+    let args = c .before .before .before .before .before .before .before .before .args in
     step-leaf (inputTypes (args .signature .now)) (variableTypes (args .signature .now)) (args .s .now) (args .at) (args .depth) (args .stack .now)
-    (byte .ensures) (if1 .taken) (leaf-type .ensures) (push .ensures)
+    (c .before .before .before .before .before .byte .ensures) (c .before .before .before .before .operands .ensures) (c .before .before .before .if1 .taken) (c .before .before .leaf-type .ensures) (c .push .ensures)
 
 apply-unary-requires : tie.Need-apply-unary-requires
 apply-unary-requires c κs = search needs
 
 returns-2 : tie.Need-returns-2
 returns-2 c =
-    let args = c .before .before .before .before .before .before .before .args in
-    let byte = c .before .before .before .before .byte in
-    let if1 = c .before .before .before .if1 in
-    let if2 = c .before .before .if2 in
-    let apply-unary = c .apply-unary in
+    let args = c .before .before .before .before .before .before .before .before .args in
     step-unary (inputTypes (args .signature .now)) (variableTypes (args .signature .now)) (args .s .now) (args .at) (args .depth) (args .stack .now)
-    (byte .ensures) (if1 .left) (if2 .taken) (apply-unary .ensures)
+    (c .before .before .before .before .before .byte .ensures) (c .before .before .before .before .operands .ensures) (c .before .before .before .if1 .left) (c .before .before .if2 .taken) (c .apply-unary .ensures)
 
 apply-binary-requires : tie.Need-apply-binary-requires
 apply-binary-requires c κs = search needs
 
 returns-3 : tie.Need-returns-3
 returns-3 c =
-    let args = c .before .before .before .before .before .before .before .args in
-    let byte = c .before .before .before .before .byte in
-    let if1 = c .before .before .before .if1 in
-    let if2 = c .before .before .if2 in
-    let apply-binary = c .apply-binary in
+    let args = c .before .before .before .before .before .before .before .before .args in
     step-binary (inputTypes (args .signature .now)) (variableTypes (args .signature .now)) (args .s .now) (args .at) (args .depth) (args .stack .now)
-    (byte .ensures) (if1 .left) (if2 .left) (apply-binary .ensures)
+    (c .before .before .before .before .before .byte .ensures) (c .before .before .before .before .operands .ensures) (c .before .before .before .if1 .left) (c .before .before .if2 .left) (c .apply-binary .ensures)
 
 pub operate-spec : {M : Type 1} → statement M
 operate-spec =
     tie.close
     (tie.spec
     byte-requires
+    operands-requires
     leaf-type-requires
     push-requires
     returns

@@ -3,7 +3,7 @@
 use native.Mathlib.Omega.{arith}
 use borrow.Author.Needs.{needs}
 use mathlib.Core.Path.{ap, _∙_}
-use Rattle.loader.specs.Code.{width}
+use Rattle.codes.specs.Operation.{widthOf}
 use Rattle.loader.proofs.CodeLoop.{Left, left-first, left-again, left-stop, left-spent, left-one, left-other}
 use Rattle.loader.proofs.code.run.Statement.{statement}
 use Rattle.loader.proofs.code.run.Tie as tie
@@ -51,8 +51,8 @@ returns-2 c =
 byte-requires : tie.Need-byte-requires Inv-loop μ-loop
 byte-requires c κs = search needs
 
-width-of-requires : tie.Need-width-of-requires Inv-loop μ-loop
-width-of-requires c κs = search needs
+width-requires : tie.Need-width-requires Inv-loop μ-loop
+width-requires c κs = search needs
 
 add-at : tie.Need-add-at Inv-loop μ-loop
 add-at c = search needs
@@ -72,10 +72,10 @@ loop-again c =
     let if1 = c .before .before .before .before .before .if1 in
     let operate = c .before .before .before .operate in
     let if2 = c .before .before .if2 in
-    let width-of = c .width-of in
+    let width = c .width in
     let byte = c .before .byte in
     left-again (args .signature .now) (args .s .now) (shared-slice-known2 .given) (loop .at) (loop .depth) (loop .left) (loop .inv) (loop-test .taken)
-    (if1 .left) (operate .ensures) (if2 .left) (width-of .ensures .0 ∙ ap width (byte .ensures))
+    (if1 .left) (operate .ensures) (if2 .left) (width .ensures .0 ∙ ap widthOf (byte .ensures))
 
 element-copy-out-result : tie.Need-element-copy-out-result Inv-loop μ-loop
 element-copy-out-result c = search needs
@@ -107,7 +107,7 @@ run-spec =
     operate-requires
     returns-2
     byte-requires
-    width-of-requires
+    width-requires
     add-at
     sub-left
     loop-less

@@ -1,5 +1,6 @@
 -- `loader::lines::leaves` meets its contract, by its test. Assumes nothing.
-use borrow.Author.Tests.{lt-ltb, le-ltb}
+use borrow.Author.Tests.{eq-eqb, ne-eqb}
+use Rattle.codes.specs.Types.{NONE}
 use Rattle.loader.specs.Lines.{leavesType}
 use borrow.Author.Needs.{needs}
 use Rattle.loader.proofs.lines.leaves.Statement.{statement}
@@ -10,11 +11,11 @@ code-type-requires c κs = search needs
 
 returns : tie.Need-returns
 unfolding leavesType
-returns c = rw (← (c .before .code-type .ensures), lt-ltb (c .before .code-type .result) 3 (c .if1 .taken))
+returns c = rw (← (c .before .code-type .ensures), eq-eqb (c .before .code-type .result) NONE (c .if1 .taken))
 
 returns-2 : tie.Need-returns-2
 unfolding leavesType
-returns-2 c = rw (← (c .before .code-type .ensures), le-ltb (c .before .code-type .result) 3 (c .if1 .left))
+returns-2 c = rw (← (c .before .code-type .ensures), ne-eqb (c .before .code-type .result) NONE (c .if1 .left))
 
 pub leaves-spec : {M : Type 1} → statement M
 leaves-spec = tie.close (tie.spec code-type-requires returns returns-2)

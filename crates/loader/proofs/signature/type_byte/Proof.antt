@@ -1,24 +1,27 @@
 -- `loader::signature::type_byte` meets its contract, by its tests. Assumes nothing.
+use mathlib.Core.Path.{_∙_, ap}
 use borrow.Author.Tests.{lt-ltb, le-ltb}
 use lib.ListN.{length, getD}
-use Rattle.loader.proofs.SignatureLaws.{type-below}
+use Rattle.codes.specs.Types.{isTypeByte}
+use Rattle.loader.proofs.SignatureLaws.{type-there}
 use borrow.Author.Needs.{needs}
 use Rattle.loader.proofs.signature.type_byte.Statement.{statement}
 use Rattle.loader.proofs.signature.type_byte.Tie as tie
 
-count-requires : tie.Need-count-requires
-count-requires c κs = search needs
+byte-requires : tie.Need-byte-requires
+byte-requires c κs = search needs
+
+is-type-byte-requires : tie.Need-is-type-byte-requires
+is-type-byte-requires c κs = search needs
 
 returns : tie.Need-returns
 returns c =
-    let args = c .before .before .before .args in
-    let if1 = c .before .if1 in
-    let count = c .count in
+    let args = c .before .before .before .before .args in
     let s = (args .s .now) in
-    rw (lt-ltb (args .at) (length s) (if1 .taken), (count .ensures .0)) (type-below (getD s (args .at) 0))
+    rw (lt-ltb (args .at) (length s) (c .before .before .if1 .taken)) (c .is-type-byte .ensures ∙ ap isTypeByte (c .before .byte .ensures) ∙ type-there (getD s (args .at) 0))
 
 returns-2 : tie.Need-returns-2
 returns-2 c = let s = (c .before .before .args .s .now) in rw (le-ltb (c .before .before .args .at) (length s) (c .if1 .left))
 
 pub type-byte-spec : {M : Type 1} → statement M
-type-byte-spec = tie.close (tie.spec count-requires returns returns-2)
+type-byte-spec = tie.close (tie.spec byte-requires is-type-byte-requires returns returns-2)

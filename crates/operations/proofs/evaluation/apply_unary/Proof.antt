@@ -5,7 +5,7 @@ use lib.IntN.{pos}
 use mir.Syntax.{w32}
 use mir.Val.{SFits}
 use mir.Facts.{toZ-ofZ}
-use Rattle.operations.specs.Machine.{unaryFor, unaryOf}
+use Rattle.operators.specs.Operators.{unaryOn}
 use Rattle.operations.specs.Stack.{stackOf}
 use Rattle.operations.proofs.StackLaws.{stopped, unary-short, unary-more, put}
 use borrow.Author.Needs.{needs}
@@ -13,7 +13,7 @@ use Rattle.operations.proofs.evaluation.apply_unary.Statement.{statemen
 use Rattle.operations.proofs.evaluation.apply_unary.Tie as tie
 
 returns : tie.Need-returns
-returns c = stopped (c .before .args .stack .now) (c .before .args .depth) 13 (c .before .pre) (unary-short (c .before .args .stack .now) (c .before .args .depth) (c .before .args .op) (c .if1 .taken))
+returns c = stopped (c .before .args .stack .now) (c .before .args .depth) 13 (c .before .pre) (unary-short (c .before .args .stack .now) (c .before .args .depth) (c .before .args .op) (c .before .args .t) (c .if1 .taken))
 
 mul-unary : tie.Need-mul-unary
 mul-unary c = search needs
@@ -32,8 +32,8 @@ returns-2 c =
     let a = c .before .before .before .before .before .args .stack .now in
     let i = c .before .before .before .before .before .args .depth - 1 in
     let fit : SFits w32 (getD a i (pos 0)) = search needs in
-    put (unaryOf (unaryFor (c .before .before .before .before .before .args .op)) (getD a i (pos 0))) (c .before .before .unary .result) (stackOf a i)
-    (unary-more a (c .before .before .before .before .before .args .depth) (c .before .before .before .before .before .args .op) (search needs))
+    put (unaryOn (c .before .before .before .before .before .args .op) (c .before .before .before .before .before .args .t) (getD a i (pos 0))) (c .before .before .unary .result) (stackOf a i)
+    (unary-more a (c .before .before .before .before .before .args .depth) (c .before .before .before .before .before .args .op) (c .before .before .before .before .before .args .t) (search needs))
     (rw (toZ-ofZ fit) at (c .before .before .unary .ensures)) (c .keep .ensures)
 
 pub apply-unary-spec : {M : Type 1} → statement M

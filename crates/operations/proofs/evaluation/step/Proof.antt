@@ -1,11 +1,12 @@
 -- `operations::evaluation::step` meets its contract: the tests of the code are those of the definition. Assumes nothing.
-use mathlib.Core.Path.{_≡_}
+use mathlib.Core.Path.{_≡_, sym, _∙_}
 use lib.ListN.{getD}
 use lib.IntN.{pos}
 use mir.Syntax.{w32}
 use mir.Val.{SFits}
 use mir.Facts.{toZ-ofZ}
 use Rattle.semantics.specs.Twos.{unsigned32}
+use Rattle.operations.specs.Machine.{kindOf}
 use Rattle.operations.specs.Stack.{stackOf}
 use Rattle.operations.proofs.StackLaws.{saying, step-literal, step-input, step-variable, step-unary, step-binary}
 use borrow.Author.Needs.{needs}
@@ -49,23 +50,34 @@ returns-3 c =
     saying (step-variable (s .inputs .now) (s .variables .now) (s .op) (s .arg) (stackOf (s .stack .now) (s .depth)) (c .before .before .before .if3 .taken))
     (rw e at (rw (toZ-ofZ fit) at (c .push3 .ensures)))
 
+operands-requires : tie.Need-operands-requires
+operands-requires c κs = search needs
+
+kind-requires : tie.Need-kind-requires
+kind-requires c κs = search needs
+
 apply-unary-requires : tie.Need-apply-unary-requires
 apply-unary-requires c κs = search needs
 
 returns-4 : tie.Need-returns-4
 returns-4 c =
-    let s = c .before .before .before .before .before .before .args in
-    saying (step-unary (s .inputs .now) (s .variables .now) (s .op) (s .arg) (stackOf (s .stack .now) (s .depth)) (c .before .before .before .before .before .if1 .left) (c .before .before .before .before .if2 .left) (c .before .before .before .if3 .left) (c .before .before .if4 .taken))
-    (c .apply-unary .ensures)
+    let s = c .before .before .before .before .before .before .before .before .args in
+    let k : c .before .kind .result ≡ kindOf (s .arg) = rw (toZ-ofZ (c .before .before .before .before .before .before .before .before .fits .arg)) at (c .before .kind .ensures) in
+    saying (step-unary (s .inputs .now) (s .variables .now) (s .op) (s .arg) (stackOf (s .stack .now) (s .depth)) (c .before .before .before .before .before .before .before .if1 .left) (c .before .before .before .before .before .before .if2 .left) (c .before .before .before .before .before .if3 .left) (sym (c .before .before .before .before .operands .ensures) ∙ c .before .before .before .if4 .taken))
+    (rw k at (c .apply-unary .ensures))
+
+kind-requires-2 : tie.Need-kind-requires-2
+kind-requires-2 c κs = search needs
 
 apply-binary-requires : tie.Need-apply-binary-requires
 apply-binary-requires c κs = search needs
 
 returns-5 : tie.Need-returns-5
 returns-5 c =
-    let s = c .before .before .before .before .before .before .args in
-    saying (step-binary (s .inputs .now) (s .variables .now) (s .op) (s .arg) (stackOf (s .stack .now) (s .depth)) (c .before .before .before .before .before .if1 .left) (c .before .before .before .before .if2 .left) (c .before .before .before .if3 .left) (c .before .before .if4 .left))
-    (c .apply-binary .ensures)
+    let s = c .before .before .before .before .before .before .before .before .args in
+    let k : c .before .kind2 .result ≡ kindOf (s .arg) = rw (toZ-ofZ (c .before .before .before .before .before .before .before .before .fits .arg)) at (c .before .kind2 .ensures) in
+    saying (step-binary (s .inputs .now) (s .variables .now) (s .op) (s .arg) (stackOf (s .stack .now) (s .depth)) (c .before .before .before .before .before .before .before .if1 .left) (c .before .before .before .before .before .before .if2 .left) (c .before .before .before .before .before .if3 .left) (λ z. c .before .before .before .if4 .left (c .before .before .before .before .operands .ensures ∙ z)))
+    (rw k at (c .apply-binary .ensures))
 
 pub step-spec : {M : Type 1} → statement M
 step-spec =
@@ -79,7 +91,10 @@ step-spec =
     named-requires-2
     push-requires-3
     returns-3
+    operands-requires
+    kind-requires
     apply-unary-requires
     returns-4
+    kind-requires-2
     apply-binary-requires
     returns-5)

@@ -9,35 +9,26 @@ use borrow.Author.Needs.{needs}
 use Rattle.scanner.proofs.pieces.word_at.Statement.{statement}
 use Rattle.scanner.proofs.pieces.word_at.Tie as tie
 
-word-end-requires : tie.Need-word-end-requires
-word-end-requires c κs = search needs
-
-well-made-requires : tie.Need-well-made-requires
-well-made-requires c κs = let w = run-within inWord (c .before .before .args .text .now) (c .before .before .args .at) (c .before .before .pre .1) in
-    let e = c .word-end .ensures in (c .before .before .pre .0, omega arith, omega arith)
+part-word-end : tie.Need-part-word-end
+part-word-end c = let w = run-within inWord (c .before .before .args .text .now) (c .before .before .args .at) (c .before .before .pre .1) in
+    let e = c .word-end .ensures in omega arith
 
 returns : tie.Need-returns
-returns c = word-bad _ _ _ (c .before .before .word-end .ensures) (flag (c .before .well-made .ensures) (not-true _ (c .if1 .taken)))
-
-sub-word-kind : tie.Need-sub-word-kind
-sub-word-kind c = let e = c .before .before .word-end .ensures in omega arith
-
-word-kind-requires : tie.Need-word-kind-requires
-word-kind-requires c κs = let w = run-within inWord (c .before .before .before .before .args .text .now)
-    (c .before .before .before .before .args .at) (c .before .before .before .before .pre .1) in let e = c .before .before .word-end .ensures in
-    omega arith
+returns c = word-bad _ _ _ (c .before .before .before .word-end .ensures) (flag (c .before .well-made .ensures) (not-true _ (c .if1 .taken)))
 
 returns-2 : tie.Need-returns-2
-returns-2 c = word-good _ _ _ (c .before .before .before .word-end .ensures) _
+returns-2 c = word-good _ _ _ (c .before .before .before .before .word-end .ensures) _
     (flag (c .before .before .well-made .ensures) (not-false _ (c .before .if1 .left))) (c .word-kind .ensures)
 
 pub word-at-spec : {M : Type 1} → statement M
 word-at-spec =
     tie.close
     (tie.spec
-    word-end-requires
-    well-made-requires
+    (λ c κs. search needs)
+    (λ c. let e = c .word-end .ensures in omega arith)
+    (λ c. search needs)
+    part-word-end
+    (λ c κs. search needs)
     returns
-    sub-word-kind
-    word-kind-requires
+    (λ c κs. search needs)
     returns-2)

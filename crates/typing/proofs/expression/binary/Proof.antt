@@ -13,6 +13,9 @@ returns c =
 sub-j : tie.Need-sub-j
 sub-j c = search needs
 
+sub-i : tie.Need-sub-i
+sub-i c = search needs
+
 element-copy-out-t : tie.Need-element-copy-out-t
 element-copy-out-t c = search needs
 
@@ -50,6 +53,7 @@ binary-spec =
     (tie.spec
     returns
     sub-j
+    sub-i
     element-copy-out-t
     element-copy-out-u
     binary-requires

@@ -19,57 +19,60 @@ element-copy-out-wide-index c = search needs
 wide-index-requires : tie.Need-wide-index-requires
 wide-index-requires c κs = search needs
 
+operands-requires : tie.Need-operands-requires
+operands-requires c κs = search needs
+
 operand-type-requires : tie.Need-operand-type-requires
 operand-type-requires c κs = search needs
 
 push-requires : tie.Need-push-requires
-push-requires c κs = c .before .before .before .before .before .before .pre .0
+push-requires c κs = c .before .before .before .before .before .before .before .pre .0
 
 returns : tie.Need-returns
 returns c =
-    let s = c .before .before .before .before .before .before .before .args in
+    let s = c .before .before .before .before .before .before .before .before .args in
     let i = getD (s .indices .now) (s .m) 0 in
     let t = nameCode (s .owners .now) (s .decls .now) (s .d) i in
     let p = numberIn (s .places .now) (s .n) i in
-    let wide-index = c .before .before .before .before .wide-index in
+    let wide-index = c .before .before .before .before .before .wide-index in
     let operand-type = c .before .before .operand-type in
     let if1 = c .before .before .before .if1 in
-    step-operand (getD (s .codes .now) (s .m) 0) t p (operand-type .result) (stackOf (s .stack .now) (s .depth)) (s .lowest) (if1 .taken) (rw (wide-index .ensures)
+    step-operand (getD (s .codes .now) (s .m) 0) t p (operand-type .result) (c .before .before .before .before .operands .result) (stackOf (s .stack .now) (s .depth)) (s .lowest) (c .before .before .before .before .operands .ensures) (if1 .taken) (rw (wide-index .ensures)
     at (operand-type .ensures)) (c .push .ensures)
 
 place-at-requires : tie.Need-place-at-requires
 place-at-requires c κs = search needs
 
 unary-requires : tie.Need-unary-requires
-unary-requires c κs = c .before .before .before .before .before .before .before .pre .0
+unary-requires c κs = c .before .before .before .before .before .before .before .before .pre .0
 
 returns-2 : tie.Need-returns-2
 returns-2 c =
-    let s = c .before .before .before .before .before .before .before .before .args in
+    let s = c .before .before .before .before .before .before .before .before .before .args in
     let i = getD (s .indices .now) (s .m) 0 in
     let t = nameCode (s .owners .now) (s .decls .now) (s .d) i in
     let p = numberIn (s .places .now) (s .n) i in
-    let wide-index = c .before .before .before .before .before .wide-index in
+    let wide-index = c .before .before .before .before .before .before .wide-index in
     let if1 = c .before .before .before .before .if1 in
     let place-at = c .before .before .before .place-at in
     let if2 = c .before .before .if2 in
-    step-unary (getD (s .codes .now) (s .m) 0) t p (place-at .result) (stackOf (s .stack .now) (s .depth)) (s .lowest) (if1 .left) (if2 .taken)
+    step-unary (getD (s .codes .now) (s .m) 0) t p (place-at .result) (c .before .before .before .before .before .operands .result) (stackOf (s .stack .now) (s .depth)) (s .lowest) (c .before .before .before .before .before .operands .ensures) (if1 .left) (if2 .taken)
     (rw (wide-index .ensures) at (place-at .ensures)) (c .unary .ensures)
 
 binary-requires : tie.Need-binary-requires
-binary-requires c κs = c .before .before .before .before .before .before .before .pre .0
+binary-requires c κs = c .before .before .before .before .before .before .before .before .pre .0
 
 returns-3 : tie.Need-returns-3
 returns-3 c =
-    let s = c .before .before .before .before .before .before .before .before .args in
+    let s = c .before .before .before .before .before .before .before .before .before .args in
     let i = getD (s .indices .now) (s .m) 0 in
     let t = nameCode (s .owners .now) (s .decls .now) (s .d) i in
     let p = numberIn (s .places .now) (s .n) i in
-    let wide-index = c .before .before .before .before .before .wide-index in
+    let wide-index = c .before .before .before .before .before .before .wide-index in
     let if1 = c .before .before .before .before .if1 in
     let place-at = c .before .before .before .place-at in
     let if2 = c .before .before .if2 in
-    step-binary (getD (s .codes .now) (s .m) 0) t p (place-at .result) (stackOf (s .stack .now) (s .depth)) (s .lowest) (if1 .left) (if2 .left)
+    step-binary (getD (s .codes .now) (s .m) 0) t p (place-at .result) (c .before .before .before .before .before .operands .result) (stackOf (s .stack .now) (s .depth)) (s .lowest) (c .before .before .before .before .before .operands .ensures) (if1 .left) (if2 .left)
     (rw (wide-index .ensures) at (place-at .ensures)) (c .binary .ensures)
 
 pub item-spec : {M : Type 1} → statement M
@@ -80,6 +83,7 @@ item-spec =
     mul-wide-index
     element-copy-out-wide-index
     wide-index-requires
+    operands-requires
     operand-type-requires
     push-requires
     returns

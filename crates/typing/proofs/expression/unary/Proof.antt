@@ -13,8 +13,8 @@ returns c =
 element-copy-out-t : tie.Need-element-copy-out-t
 element-copy-out-t c = search needs
 
-unary-requires : tie.Need-unary-requires
-unary-requires c κs = search needs
+unary-type-requires : tie.Need-unary-type-requires
+unary-type-requires c κs = search needs
 
 right-one-requires : tie.Need-right-one-requires
 right-one-requires c κs = search needs
@@ -33,7 +33,7 @@ returns-2 c =
     let s = c .before .before .before .before .before .before .args in
     let asked = c .before .before .before .before .before .before .pre in
     let if1 = c .before .before .before .before .before .if1 in
-    let unary = c .before .before .before .unary in
+    let unary = c .before .before .before .unary-type in
     let right-one = c .before .before .right-one in
     unary-some (s .stack .now) (s .depth) (s .c) (s .place) (s .lowest) (unary .result) (c .lower .result) (asked) (if1 .left) (unary .ensures)
     (c .lower .ensures ∙ rw (c .before .offence .ensures, right-one .ensures))
@@ -44,7 +44,7 @@ unary-spec =
     (tie.spec
     returns
     element-copy-out-t
-    unary-requires
+    unary-type-requires
     right-one-requires
     offence-requires
     element-write-stack

@@ -1,0 +1,4 @@
+pub mod Finite
+pub mod TokenLaws
+pub mod OperationLaws
+pub mod TypeLaws

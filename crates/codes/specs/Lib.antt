@@ -1,0 +1,9 @@
+pub mod Token
+pub mod Item
+pub mod Operation
+pub mod Types
+pub mod Statement
+pub mod Declaration
+pub mod Image
+pub mod Limit
+pub mod Refusal

@@ -1,0 +1,65 @@
+-- Operations before the types of operands are told: the same rows, and in an operator's place its code. Assumes nothing.
+use mathlib.Core.Path.{_≡_, refl, sym, _∙_, ap}
+use mathlib.Core.List.{List, [], _∷_, _++_, map, map-append}
+use Prim.Native.Nat.{ℕ, _+_}
+use lib.ListN.{length, length-map}
+use lib.IntN.{pos}
+use Rattle.design.specs.Expression.{Leaf, int, bit, input, variable, Unary, sign, invert, Binary, plus, minus, equal, unequal, less, at-most, greater, at-least, and, or, xor, times, divide, modulo, remainder}
+use Rattle.codes.specs.Operation.{unaryCode, binaryCode, countOr, operandsOf}
+use Rattle.ir.specs.Operations.{Op, op, leafOp, withType, bareOp}
+use Rattle.ir.specs.Entries.{Entry, entry, entryOps, bareEntry}
+use Rattle.ir.specs.Arrays.{Row, rowsOf}
+
+-- HOW MANY OPERANDS
+
+pub unary-operands : (o : Unary) → operandsOf (unaryCode o) ≡ 1
+unfolding operandsOf countOr
+unary-operands sign = refl
+unary-operands invert = refl
+
+pub binary-operands : (o : Binary) → operandsOf (binaryCode o) ≡ 2
+unfolding operandsOf countOr
+binary-operands plus = refl
+binary-operands minus = refl
+binary-operands equal = refl
+binary-operands unequal = refl
+binary-operands less = refl
+binary-operands at-most = refl
+binary-operands greater = refl
+binary-operands at-least = refl
+binary-operands and = refl
+binary-operands or = refl
+binary-operands xor = refl
+binary-operands times = refl
+binary-operands divide = refl
+binary-operands modulo = refl
+binary-operands remainder = refl
+
+-- so a leaf's operation keeps its argument, and an operator's has the type
+pub leaf-with : (t : ℕ) (l : Leaf) → withType t (leafOp l) ≡ leafOp l
+unfolding withType operandsOf countOr
+leaf-with t (int z) = refl
+leaf-with t (bit b) = refl
+leaf-with t (input k) = refl
+leaf-with t (variable k) = refl
+
+pub unary-with : (t : ℕ) (o : Unary) (z : _) → withType t (op (unaryCode o) z) ≡ op (unaryCode o) (pos t)
+unfolding withType
+unary-with t o z = rw (unary-operands o)
+
+pub binary-with : (t : ℕ) (o : Binary) (z : _) → withType t (op (binaryCode o) z) ≡ op (binaryCode o) (pos t)
+unfolding withType
+binary-with t o z = rw (binary-operands o)
+
+-- STATEMENTS
+
+pub bare-ops : (es : List Entry) → entryOps (map bareEntry es) ≡ map bareOp (entryOps es)
+unfolding entryOps
+bare-ops [] = refl
+bare-ops (e ∷ es) = rw (bare-ops es) (sym (map-append bareOp (e .ops) (entryOps es)))
+
+-- rows say how many operations there are, and not which
+pub bare-rows : (s m : ℕ) (es : List Entry) → rowsOf s m (map bareEntry es) ≡ rowsOf s m es
+unfolding rowsOf
+bare-rows s m [] = refl
+bare-rows s m (e ∷ es) = rw (length-map (e .ops) bareOp, bare-rows (s + 1) (m + length (e .ops)) es)

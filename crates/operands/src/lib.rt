@@ -1,0 +1,100 @@
+// The type of every operator's operands, told behind the elaborator. An operation stands behind its operands, so that what ends just before an operator is its
+// only or its right operand, and both operands have one type: one number, the type of what ends here, is enough.
+ghost use mathlib.Core.Path.{_≡_};
+ghost use Prim.Native.Nat.{min};
+ghost use lib.IntN.{pos};
+ghost use Rattle.codes.specs.Limit.{TEXT};
+ghost use Rattle.semantics.specs.Twos.{unsigned32};
+ghost use Rattle.ir.specs.Operations.{op as operation, argWith};
+ghost use Rattle.operands.specs.Told.{tagAt, leafTag, tagAfter, Tells};
+use codes::limit;
+use codes::operation;
+use codes::types;
+
+// The type of a name, by its index.
+fn name_type(named: &[u8; limit::VARIABLES], arg: i32) -> u8
+    ensures { λ r. ⌜ r ≡ tagAt (now (named .entry)) (unsigned32 arg) ⌝ }
+{
+    let k = signed::to_bits(arg) as usize;
+    if k < limit::VARIABLES {
+        return named[k];
+    }
+    types::NONE
+}
+
+// The type of a literal or a name.
+fn leaf_type(
+    op: u8,
+    arg: i32,
+    inputs: &[u8; limit::VARIABLES],
+    variables: &[u8; limit::VARIABLES],
+) -> u8
+    ensures { λ r. ⌜ r ≡ leafTag (now (inputs .entry)) (now (variables .entry)) op arg ⌝ }
+{
+    match op {
+        operation::INTEGER => types::INTEGER,
+        operation::STD_LOGIC => types::STD_LOGIC,
+        operation::INPUT => name_type(inputs, arg),
+        operation::VARIABLE => name_type(variables, arg),
+        _ => types::NONE,
+    }
+}
+
+// The type of what ends at an operation, where t is the type of what ends before it.
+fn type_after(
+    op: u8,
+    arg: i32,
+    inputs: &[u8; limit::VARIABLES],
+    variables: &[u8; limit::VARIABLES],
+    t: u8,
+) -> u8
+    ensures { λ r. ⌜ r ≡ tagAfter (now (inputs .entry)) (now (variables .entry)) (operation op arg) t ⌝ }
+{
+    match operation::operands(op) {
+        0 => leaf_type(op, arg, inputs, variables),
+        1 => types::unary_type(op, t),
+        _ => types::binary_type(op, t),
+    }
+}
+
+// The argument of an operation: an operator's is the type of its operands, any other's stays.
+fn arg_with(op: u8, arg: i32, t: u8) -> i32
+    ensures { λ r. ⌜ r ≡ argWith op arg t ⌝ }
+{
+    if operation::operands(op) == 0 {
+        return arg;
+    }
+    signed::from_bits(t as u32)
+}
+
+// As many operations as the arrays have room for.
+fn at_most(k: usize) -> usize
+    ensures { λ r. ⌜ r ≡ min k TEXT ⌝ }
+{
+    if k < limit::TEXT {
+        return k;
+    }
+    limit::TEXT
+}
+
+// Writes the type of its operands into the argument of every operator. Before the first operation no operand ends.
+pub fn tell(
+    ops: &[u8; limit::TEXT],
+    k: usize,
+    inputs: &[u8; limit::VARIABLES],
+    variables: &[u8; limit::VARIABLES],
+    args: &mut [i32; limit::TEXT],
+)
+    ensures { λ _. ⌜ Tells (now (ops .entry)) k (now (inputs .entry)) (now (variables .entry)) (now (args .entry)) (now (args .exit)) ⌝ }
+{
+    let n = at_most(k);
+    let mut t = types::NONE;
+    let mut j = 0;
+    while j < n {
+        let op = ops[j];
+        let arg = args[j];
+        args[j] = arg_with(op, arg, t);
+        t = type_after(op, arg, inputs, variables, t);
+        j += 1;
+    }
+}

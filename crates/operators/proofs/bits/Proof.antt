@@ -1,0 +1,60 @@
+-- `operators::bits` meets its contract: std_logics are compared or are truth values. Assumes nothing.
+use mathlib.Core.Path.{ap, _∙_}
+use mathlib.Core.Bool.{Bool, not}
+use mir.Facts.{toZ-ofZ}
+use Rattle.design.specs.Types.{std-logic, plain}
+use Rattle.design.specs.Expression.{equal, unequal, equalityType, binaryType}
+use Rattle.semantics.specs.Evaluation.{bitOf, binaryResult, applyBinary}
+use Rattle.signed.specs.declared.Checked.the-variants.{Value}
+use Rattle.operators.proofs.Laws.{binary-arm, bits-other}
+use borrow.Author.Needs.{needs}
+use Rattle.operators.proofs.bits.Statement.{statement}
+use Rattle.operators.proofs.bits.Tie as tie
+
+equal-requires : tie.Need-equal-requires
+equal-requires c κs = search needs
+
+logic-requires : tie.Need-logic-requires
+logic-requires c κs = search needs
+
+equal-requires-2 : tie.Need-equal-requires-2
+equal-requires-2 c κs = search needs
+
+logic-requires-2 : tie.Need-logic-requires-2
+logic-requires-2 c κs = search needs
+
+logical-requires : tie.Need-logical-requires
+logical-requires c κs = search needs
+
+returns : tie.Need-returns
+unfolding binaryType equalityType applyBinary binaryResult
+returns c =
+    let s = c .before .before .before in
+    binary-arm equal (plain std-logic) (s .args .op) (s .args .x) (s .args .y) (c .before .before .match .keys1)
+    (c .logic .ensures ∙ ap (λ (b : Bool). Value (bitOf b)) (simp (toZ-ofZ (s .fits .x), toZ-ofZ (s .fits .y)) at (c .before .equal .ensures)))
+
+returns-2 : tie.Need-returns-2
+unfolding binaryType equalityType applyBinary binaryResult
+returns-2 c =
+    let s = c .before .before .before in
+    binary-arm unequal (plain std-logic) (s .args .op) (s .args .x) (s .args .y) (c .before .before .match .keys2)
+    (c .logic2 .ensures ∙ ap (λ (b : Bool). Value (bitOf (not b))) (simp (toZ-ofZ (s .fits .x), toZ-ofZ (s .fits .y)) at (c .before .equal2 .ensures)))
+
+returns-3 : tie.Need-returns-3
+returns-3 c =
+    let s = c .before .before in
+    (simp (toZ-ofZ (s .fits .x), toZ-ofZ (s .fits .y)) at (c .logical .ensures))
+    ∙ bits-other (s .args .op) (s .args .x) (s .args .y) (c .before .match .rest .0 .1) (c .before .match .rest .1)
+
+pub bits-spec : {M : Type 1} → statement M
+bits-spec =
+    tie.close
+    (tie.spec
+    equal-requires
+    logic-requires
+    equal-requires-2
+    logic-requires-2
+    logical-requires
+    returns
+    returns-2
+    returns-3)

@@ -1,0 +1,22 @@
+-- `operators::one_integer` meets its contract: the sign is the one operator. Assumes nothing.
+use mir.Facts.{toZ-ofZ}
+use Rattle.design.specs.Types.{integer, plain}
+use Rattle.design.specs.Expression.{sign, sumType, unaryType}
+use Rattle.semantics.specs.Evaluation.{unaryResult, applyUnary}
+use Rattle.operators.proofs.Laws.{unary-arm, integer-other}
+use borrow.Author.Needs.{needs}
+use Rattle.operators.proofs.one_integer.Statement.{statement}
+use Rattle.operators.proofs.one_integer.Tie as tie
+
+negate-requires : tie.Need-negate-requires
+negate-requires c κs = search needs
+
+returns : tie.Need-returns
+unfolding unaryType sumType applyUnary unaryResult
+returns c = let s = c .before .before in unary-arm sign (plain integer) (s .args .op) (s .args .x) (c .before .match .keys1) (rw (toZ-ofZ (s .fits .x)) at (c .negate .ensures))
+
+returns-2 : tie.Need-returns-2
+returns-2 c = integer-other (c .before .args .op) (c .before .args .x) (c .match .rest .1)
+
+pub one-integer-spec : {M : Type 1} → statement M
+one-integer-spec = tie.close (tie.spec negate-requires returns returns-2)

@@ -1,0 +1,69 @@
+-- `operators::scaled` meets its contract: each code has its operator. Assumes nothing.
+use mir.Facts.{toZ-ofZ}
+use Rattle.design.specs.Types.{integer, plain}
+use Rattle.design.specs.Expression.{times, divide, modulo, remainder, sumType, binaryType}
+use Rattle.semantics.specs.Evaluation.{binaryResult, applyBinary}
+use Rattle.operators.proofs.Laws.{binary-arm, scaled-other}
+use borrow.Author.Needs.{needs}
+use Rattle.operators.proofs.scaled.Statement.{statement}
+use Rattle.operators.proofs.scaled.Tie as tie
+
+multiply-requires : tie.Need-multiply-requires
+multiply-requires c κs = search needs
+
+divide-requires : tie.Need-divide-requires
+divide-requires c κs = search needs
+
+modulus-requires : tie.Need-modulus-requires
+modulus-requires c κs = search needs
+
+remainder-requires : tie.Need-remainder-requires
+remainder-requires c κs = search needs
+
+returns : tie.Need-returns
+unfolding binaryType sumType applyBinary binaryResult
+returns c =
+    let s = c .before .before in
+    binary-arm times (plain integer) (s .args .op) (s .args .x) (s .args .y) (c .before .match .keys1)
+    (simp (toZ-ofZ (s .fits .x), toZ-ofZ (s .fits .y)) at (c .multiply .ensures))
+
+returns-2 : tie.Need-returns-2
+unfolding binaryType sumType applyBinary binaryResult
+returns-2 c =
+    let s = c .before .before in
+    binary-arm divide (plain integer) (s .args .op) (s .args .x) (s .args .y) (c .before .match .keys2)
+    (simp (toZ-ofZ (s .fits .x), toZ-ofZ (s .fits .y)) at (c .divide .ensures))
+
+returns-3 : tie.Need-returns-3
+unfolding binaryType sumType applyBinary binaryResult
+returns-3 c =
+    let s = c .before .before in
+    binary-arm modulo (plain integer) (s .args .op) (s .args .x) (s .args .y) (c .before .match .keys3)
+    (simp (toZ-ofZ (s .fits .x), toZ-ofZ (s .fits .y)) at (c .modulus .ensures))
+
+returns-4 : tie.Need-returns-4
+unfolding binaryType sumType applyBinary binaryResult
+returns-4 c =
+    let s = c .before .before in
+    binary-arm remainder (plain integer) (s .args .op) (s .args .x) (s .args .y) (c .before .match .keys4)
+    (simp (toZ-ofZ (s .fits .x), toZ-ofZ (s .fits .y)) at (c .remainder .ensures))
+
+returns-5 : tie.Need-returns-5
+returns-5 c =
+    let s = c .before in
+    let n = c .match .rest in
+    scaled-other (s .args .op) (s .args .x) (s .args .y) (s .pre) (n .0 .0 .0 .1) (n .0 .0 .1) (n .0 .1) (n .1)
+
+pub scaled-spec : {M : Type 1} → statement M
+scaled-spec =
+    tie.close
+    (tie.spec
+    multiply-requires
+    divide-requires
+    modulus-requires
+    remainder-requires
+    returns
+    returns-2
+    returns-3
+    returns-4
+    returns-5)

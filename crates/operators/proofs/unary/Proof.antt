@@ -1,0 +1,47 @@
+-- `operators::unary` meets its contract: each number of a type has its function. Assumes nothing.
+use mathlib.Core.Path.{_∙_}
+use mir.Facts.{toZ-ofZ}
+use Rattle.design.specs.Types.{std-logic, integer, plain, boolean}
+use Rattle.operators.proofs.Laws.{unary-tag, unary-no-tag, one-bit}
+use borrow.Author.Needs.{needs}
+use Rattle.operators.proofs.unary.Statement.{statement}
+use Rattle.operators.proofs.unary.Tie as tie
+
+one-logical-requires : tie.Need-one-logical-requires
+one-logical-requires c κs = search needs
+
+one-integer-requires : tie.Need-one-integer-requires
+one-integer-requires c κs = search needs
+
+one-logical-requires-2 : tie.Need-one-logical-requires-2
+one-logical-requires-2 c κs = search needs
+
+returns : tie.Need-returns
+returns c =
+    let s = c .before .before in
+    unary-tag (plain std-logic) (s .args .op) (s .args .t) (s .args .x) (c .before .match .keys1) ((rw (toZ-ofZ (s .fits .x)) at (c .one-logical .ensures)) ∙ one-bit (s .args .op) (s .args .x))
+
+returns-2 : tie.Need-returns-2
+returns-2 c =
+    let s = c .before .before in
+    unary-tag (plain integer) (s .args .op) (s .args .t) (s .args .x) (c .before .match .keys2) (rw (toZ-ofZ (s .fits .x)) at (c .one-integer .ensures))
+
+returns-3 : tie.Need-returns-3
+returns-3 c =
+    let s = c .before .before in
+    unary-tag boolean (s .args .op) (s .args .t) (s .args .x) (c .before .match .keys3) (rw (toZ-ofZ (s .fits .x)) at (c .one-logical2 .ensures))
+
+returns-4 : tie.Need-returns-4
+returns-4 c = let s = c .before .args in unary-no-tag (s .op) (s .t) (s .x) (c .match .rest .0 .0 .1) (c .match .rest .0 .1) (c .match .rest .1)
+
+pub unary-spec : {M : Type 1} → statement M
+unary-spec =
+    tie.close
+    (tie.spec
+    one-logical-requires
+    one-integer-requires
+    one-logical-requires-2
+    returns
+    returns-2
+    returns-3
+    returns-4)

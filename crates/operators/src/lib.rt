@@ -1,0 +1,156 @@
+// The operators of document 01 by number, type by type: the one table, for the image's evaluator and for the direct run. An operator that is added gets a
+// line here, in the function of each type that it takes; a type that is added gets a function and a line in `unary` and `binary`.
+ghost use mathlib.Core.Path.{_≡_};
+ghost use mathlib.Core.Option.{some};
+ghost use mathlib.Core.Bool.{_&&_, _||_};
+ghost use Prim.Native.Nat.{_≤_};
+ghost use Rattle.design.specs.Types.{std-logic, integer, plain, boolean};
+ghost use Rattle.semantics.specs.Evaluation.{bitOf, differ};
+ghost use Rattle.codes.specs.Operation.{PLUS, AND, unaryFor, binaryFor};
+ghost use Rattle.signed.specs.Signed.{checkedOf};
+ghost use Rattle.signed.specs.declared.Checked.the-variants.{Value};
+ghost use Rattle.operators.specs.Operators.{unaryBy, binaryBy, unaryOn, binaryOn, Results};
+use codes::operation;
+use codes::refusal;
+use codes::types;
+use signed::Checked;
+
+// A truth value as a number.
+fn logic(b: bool) -> Checked
+    ensures { λ r. ⌜ r ≡ Value (bitOf b) ⌝ }
+{
+    Checked::Value(signed::from_bool(b))
+}
+
+// a and b.
+fn both(a: bool, b: bool) -> bool
+    ensures { λ r. ⌜ r ≡ (a && b) ⌝ }
+{
+    if a { b } else { false }
+}
+
+// a or b.
+fn either(a: bool, b: bool) -> bool
+    ensures { λ r. ⌜ r ≡ (a || b) ⌝ }
+{
+    if a { true } else { b }
+}
+
+// a xor b.
+fn differs(a: bool, b: bool) -> bool
+    ensures { λ r. ⌜ r ≡ differ a b ⌝ }
+{
+    if a { !b } else { b }
+}
+
+// Two integers, by * / mod rem; no other operator of integers comes here.
+fn scaled(op: u8, x: i32, y: i32) -> Checked
+    requires { ⌜ (PLUS ≤ op → AND ≤ op) ⌝ }
+    ensures { λ r. ⌜ r ≡ checkedOf (binaryBy (binaryFor op) (some (plain integer)) x y) ⌝ }
+{
+    match op {
+        operation::TIMES => signed::multiply(x, y),
+        operation::DIVIDE => signed::divide(x, y),
+        operation::MOD => signed::modulus(x, y),
+        operation::REM => signed::remainder(x, y),
+        _ => Checked::Refused(refusal::BAD_LINE),
+    }
+}
+
+// Two integers. * / mod rem come last, in one arm, so that no other operator pays for them.
+fn integers(op: u8, x: i32, y: i32) -> Checked
+    ensures { λ r. ⌜ r ≡ checkedOf (binaryBy (binaryFor op) (some (plain integer)) x y) ⌝ }
+{
+    match op {
+        operation::PLUS | operation::MINUS => signed::sum(x, op == operation::MINUS, y),
+        operation::EQ => logic(signed::equal(x, y)),
+        operation::NE => logic(!signed::equal(x, y)),
+        operation::LT => logic(signed::less(x, y)),
+        operation::LE => logic(signed::at_most(x, y)),
+        operation::GT => logic(signed::less(y, x)),
+        operation::GE => logic(signed::at_most(y, x)),
+        _ => scaled(op, x, y),
+    }
+}
+
+// Two numbers that stand for true and false.
+fn logical(op: u8, x: i32, y: i32) -> Checked
+    ensures { λ r. ⌜ r ≡ checkedOf (binaryBy (binaryFor op) (some boolean) x y) ⌝ }
+{
+    match op {
+        operation::AND => logic(both(signed::is_one(x), signed::is_one(y))),
+        operation::OR => logic(either(signed::is_one(x), signed::is_one(y))),
+        operation::XOR => logic(differs(signed::is_one(x), signed::is_one(y))),
+        _ => Checked::Refused(refusal::BAD_LINE),
+    }
+}
+
+// Two std_logics.
+fn bits(op: u8, x: i32, y: i32) -> Checked
+    ensures { λ r. ⌜ r ≡ checkedOf (binaryBy (binaryFor op) (some (plain std-logic)) x y) ⌝ }
+{
+    match op {
+        operation::EQ => logic(signed::equal(x, y)),
+        operation::NE => logic(!signed::equal(x, y)),
+        _ => logical(op, x, y),
+    }
+}
+
+// An operator of two operands, the left one first, both of the type t.
+pub fn binary(op: u8, t: u8, x: i32, y: i32) -> Checked
+    ensures { λ r. ⌜ r ≡ checkedOf (binaryOn op t x y) ⌝ }
+{
+    match t {
+        types::STD_LOGIC => bits(op, x, y),
+        types::INTEGER => integers(op, x, y),
+        types::BOOLEAN => logical(op, x, y),
+        _ => Checked::Refused(refusal::BAD_LINE),
+    }
+}
+
+// An integer.
+fn one_integer(op: u8, x: i32) -> Checked
+    ensures { λ r. ⌜ r ≡ checkedOf (unaryBy (unaryFor op) (some (plain integer)) x) ⌝ }
+{
+    match op {
+        operation::SIGN => signed::negate(x),
+        _ => Checked::Refused(refusal::BAD_LINE),
+    }
+}
+
+// A number that stands for true or false.
+fn one_logical(op: u8, x: i32) -> Checked
+    ensures { λ r. ⌜ r ≡ checkedOf (unaryBy (unaryFor op) (some boolean) x) ⌝ }
+{
+    match op {
+        operation::NOT => logic(!signed::is_one(x)),
+        _ => Checked::Refused(refusal::BAD_LINE),
+    }
+}
+
+// An operator of one operand of the type t.
+pub fn unary(op: u8, t: u8, x: i32) -> Checked
+    ensures { λ r. ⌜ r ≡ checkedOf (unaryOn op t x) ⌝ }
+{
+    match t {
+        types::STD_LOGIC => one_logical(op, x),
+        types::INTEGER => one_integer(op, x),
+        types::BOOLEAN => one_logical(op, x),
+        _ => Checked::Refused(refusal::BAD_LINE),
+    }
+}
+
+// The type of an operator's result, for operands of a type t that it takes: the comparisons give a boolean, every other operator what it takes.
+pub fn result(op: u8, t: u8) -> u8
+    ensures { λ r. ⌜ Results op t r ⌝ }
+{
+    match op {
+        operation::EQ
+        | operation::NE
+        | operation::LT
+        | operation::LE
+        | operation::GT
+        | operation::GE => types::BOOLEAN,
+        _ => t,
+    }
+}
