@@ -5,7 +5,6 @@ ghost use Prim.Native.Nat.{ℕ, _+_, _<_, _≤_};
 ghost use Rattle.grammar.specs.Grammar.{primary as primaryPart, factor as factorPart, term as termPart, simple as simplePart, relation as relationPart, expression as expressionPart};
 ghost use mathlib.Core.Bool.{true};
 ghost use Rattle.codes.specs.Token.{oneOf, operands, adding, multiplying, logical, LP};
-ghost use Rattle.codes.specs.Operation.{operationOf};
 ghost use Rattle.cursor.specs.Reading.{Asks};
 ghost use Rattle.cursor.specs.Tokens.{kindIn};
 ghost use Rattle.expressions.specs.Postfix.{postfix};
@@ -21,6 +20,18 @@ use cursor::expect;
 use cursor::item;
 use cursor::kind_at;
 use cursor::refused;
+
+// The same place, made anew. A place that is handed on as it came is kept in memory from the start, and the most common way, that of a leaf, would pay for it.
+fn again(q: Pos) -> Pos
+    ensures { λ r. ⌜ r ≡ q ⌝ }
+{
+    Pos {
+        fault: q.fault,
+        at: q.at,
+        items: q.items,
+        n: q.n,
+    }
+}
 
 // Writes an item behind the others, unless the cursor has refused.
 fn put(
@@ -45,20 +56,6 @@ fn put(
         items: q.items,
         n: n + 1,
     }
-}
-
-// Writes the item of an operator with two operands, by the kind of its token.
-fn put_operator(
-    codes: &mut [u8; limit::TEXT],
-    tokens: &mut [u16; limit::TEXT],
-    q: Pos,
-    kind: u8,
-    at: usize,
-) -> Pos
-    requires { ⌜ (q .fault ≡ 0 → q .n < 16384) × (at < 65536) ⌝ }
-    ensures { λ r. ⌜ Put q (operationOf kind) at (arrays (now (codes .entry)) (now (tokens .entry))) r (arrays (now (codes .exit)) (now (tokens .exit))) ⌝ }
-{
-    put(codes, tokens, q, operation::operation_of(kind), at)
 }
 
 // The code of a leaf's item, by the kind of its token: '0' and '1' have one code.
@@ -165,7 +162,7 @@ fn factor(
         return leaf(kinds, long, n, q, codes, tokens);
     }
     if kind != token::NOT {
-        return primary(kinds, long, n, q, parens, codes, tokens);
+        return primary(kinds, long, n, again(q), parens, codes, tokens);
     }
     let a = item(long, q);
     let b = primary(kinds, long, n, a, parens, codes, tokens);
@@ -186,10 +183,10 @@ fn scaled(
     ensures { λ r. ⌜ OneTurn productTail (now (kinds .entry)) (now (long .entry)) n q parens (arrays (now (codes .entry)) (now (tokens .entry))) r (arrays (now (codes .exit)) (now (tokens .exit))) ⌝ }
 {
     let at = q.at;
-    let kind = kind_at(kinds, n, at);
+    let code = operation::operation_of(kind_at(kinds, n, at));
     let a = item(long, q);
     let b = factor(kinds, long, n, a, parens, codes, tokens);
-    put_operator(codes, tokens, b, kind, at)
+    put(codes, tokens, b, code, at)
 }
 
 // A product: the first factor, and further factors.
@@ -248,10 +245,10 @@ fn term(
     ensures { λ r. ⌜ OneTurn sum (now (kinds .entry)) (now (long .entry)) n q parens (arrays (now (codes .entry)) (now (tokens .entry))) r (arrays (now (codes .exit)) (now (tokens .exit))) ⌝ }
 {
     let at = q.at;
-    let kind = kind_at(kinds, n, at);
+    let code = operation::operation_of(kind_at(kinds, n, at));
     let a = item(long, q);
     let b = product(kinds, long, n, a, parens, codes, tokens);
-    put_operator(codes, tokens, b, kind, at)
+    put(codes, tokens, b, code, at)
 }
 
 // A sum: the first term, and further terms.
@@ -291,9 +288,10 @@ fn relation(
     let at = a.at;
     let kind = kind_at(kinds, n, at);
     if token::is_relational(kind) {
+        let code = operation::operation_of(kind);
         let b = item(long, a);
         let c = simple(kinds, long, n, b, parens, codes, tokens);
-        return put_operator(codes, tokens, c, kind, at);
+        return put(codes, tokens, c, code, at);
     }
     a
 }
@@ -312,10 +310,10 @@ fn joined(
     ensures { λ r. ⌜ ((t : Tail) → operatorOf t (kindIn (now (kinds .entry)) n (q .at)) → OneTurn t (now (kinds .entry)) (now (long .entry)) n q parens (arrays (now (codes .entry)) (now (tokens .entry))) r (arrays (now (codes .exit)) (now (tokens .exit)))) ⌝ }
 {
     let at = q.at;
-    let kind = kind_at(kinds, n, at);
+    let code = operation::operation_of(kind_at(kinds, n, at));
     let a = item(long, q);
     let b = relation(kinds, long, n, a, parens, codes, tokens);
-    put_operator(codes, tokens, b, kind, at)
+    put(codes, tokens, b, code, at)
 }
 
 // An expression: a relation, or a chain of them joined by `and` alone, `or` alone or `xor` alone.

@@ -65,7 +65,8 @@ use Rattle.expressions.proofs.leaf.Reads as leaf-reads
 use Rattle.expressions.proofs.more_factors.Reads as more-factors-reads
 use Rattle.expressions.proofs.more_terms.Reads as more-terms-reads
 use Rattle.expressions.proofs.put.Reads as put-reads
-use Rattle.expressions.proofs.put_operator.Reads as put-operator-reads
+use Rattle.codes.proofs.operation.operation_of.Reads as operation-of-reads
+use Rattle.expressions.proofs.again.Reads as again-reads
 use Rattle.expressions.proofs.+expression+factor+joined+parenthesised+primary+product+relation+scaled+signed+simple+term.{statement}
 use Rattle.expressions.proofs.+expression+factor+joined+parenthesised+primary+product+relation+scaled+signed+simple+term.Tie.{close}
 
@@ -172,10 +173,10 @@ abbrev expression-calls : ℕ → expression-lts.Claims
 expression-calls t = (relation-below t, relation.Post, kind-at-reads.Asked, kind-at-reads.Learnt, is-logical-reads.Asked, is-logical-reads.Learnt, joins-reads.Asked, joins-reads.Learnt, joined-below t, joined.Post)
 
 abbrev factor-calls : ℕ → factor-lts.Claims
-factor-calls t = (kind-at-reads.Asked, kind-at-reads.Learnt, is-operand-reads.Asked, is-operand-reads.Learnt, leaf-reads.Asked, leaf-reads.Learnt, primary-below t, primary.Post, item-reads.Asked, item-reads.Learnt, put-reads.Asked, put-reads.Learnt)
+factor-calls t = (kind-at-reads.Asked, kind-at-reads.Learnt, is-operand-reads.Asked, is-operand-reads.Learnt, leaf-reads.Asked, leaf-reads.Learnt, again-reads.Asked, again-reads.Learnt, primary-below t, primary.Post, item-reads.Asked, item-reads.Learnt, put-reads.Asked, put-reads.Learnt)
 
 abbrev joined-calls : ℕ → joined-lts.Claims
-joined-calls t = (kind-at-reads.Asked, kind-at-reads.Learnt, item-reads.Asked, item-reads.Learnt, relation-below t, relation.Post, put-operator-reads.Asked, put-operator-reads.Learnt)
+joined-calls t = (kind-at-reads.Asked, kind-at-reads.Learnt, operation-of-reads.Asked, operation-of-reads.Learnt, item-reads.Asked, item-reads.Learnt, relation-below t, relation.Post, put-reads.Asked, put-reads.Learnt)
 
 abbrev parenthesised-calls : ℕ → parenthesised-lts.Claims
 parenthesised-calls t = (refused-reads.Asked, refused-reads.Learnt, expression-below t, expression.Post, expect-reads.Asked, expect-reads.Learnt)
@@ -187,10 +188,10 @@ abbrev product-calls : ℕ → product-lts.Claims
 product-calls t = (factor-below t, factor.Post, more-factors-reads.Asked, more-factors-reads.Learnt, scaled-below t, scaled.Post)
 
 abbrev relation-calls : ℕ → relation-lts.Claims
-relation-calls t = (simple-below t, simple.Post, kind-at-reads.Asked, kind-at-reads.Learnt, is-relational-reads.Asked, is-relational-reads.Learnt, item-reads.Asked, item-reads.Learnt, put-operator-reads.Asked, put-operator-reads.Learnt)
+relation-calls t = (simple-below t, simple.Post, kind-at-reads.Asked, kind-at-reads.Learnt, is-relational-reads.Asked, is-relational-reads.Learnt, operation-of-reads.Asked, operation-of-reads.Learnt, item-reads.Asked, item-reads.Learnt, put-reads.Asked, put-reads.Learnt)
 
 abbrev scaled-calls : ℕ → scaled-lts.Claims
-scaled-calls t = (kind-at-reads.Asked, kind-at-reads.Learnt, item-reads.Asked, item-reads.Learnt, factor-below t, factor.Post, put-operator-reads.Asked, put-operator-reads.Learnt)
+scaled-calls t = (kind-at-reads.Asked, kind-at-reads.Learnt, operation-of-reads.Asked, operation-of-reads.Learnt, item-reads.Asked, item-reads.Learnt, factor-below t, factor.Post, put-reads.Asked, put-reads.Learnt)
 
 abbrev signed-calls : ℕ → signed-lts.Claims
 signed-calls t = (kind-at-reads.Asked, kind-at-reads.Learnt, product-below t, product.Post, item-reads.Asked, item-reads.Learnt, put-reads.Asked, put-reads.Learnt)
@@ -199,7 +200,7 @@ abbrev simple-calls : ℕ → simple-lts.Claims
 simple-calls t = (signed-below t, signed.Post, more-terms-reads.Asked, more-terms-reads.Learnt, term-below t, term.Post)
 
 abbrev term-calls : ℕ → term-lts.Claims
-term-calls t = (kind-at-reads.Asked, kind-at-reads.Learnt, item-reads.Asked, item-reads.Learnt, product-below t, product.Post, put-operator-reads.Asked, put-operator-reads.Learnt)
+term-calls t = (kind-at-reads.Asked, kind-at-reads.Learnt, operation-of-reads.Asked, operation-of-reads.Learnt, item-reads.Asked, item-reads.Learnt, product-below t, product.Post, put-reads.Asked, put-reads.Learnt)
 
 abbrev expression-Inv-loop : expression-lts.InvT-loop
 expression-Inv-loop kinds long n parens codes₀ tokens₀ a₀ first kind codes tokens a = Chained kind kinds long n a₀ parens (arrays codes₀ tokens₀) a (arrays codes tokens)
@@ -243,8 +244,11 @@ factor-leaf-requires t c κs = (c .before .before .before .before .before .pre .
 factor-returns : (t : ℕ) → factor-lts.Need-returns (factor-calls t) (factor-at t) factor.Post
 factor-returns t c = factor-plain (operand-not _ (subst (λ (k : ℕ). oneOf k operands ≡ true) (c .before .before .before .before .before .kind-at .ensures) (sym (c .before .before .before .before .is-operand .ensures) ∙ c .before .before .before .if1 .taken))) (c .leaf .ensures (c .before .before .before .before .before .before .args .parens) (c .before .before .before .before .before .before .pre .1 .0))
 
+factor-primary-requires : (t : ℕ) → factor-lts.Need-primary-requires (factor-calls t) (factor-at t) factor.Post
+factor-primary-requires t c κs = rw (c .before .before .again .ensures) (let p = c .before .before .before .before .before .before .before .pre in omega arith)
+
 factor-returns-2 : (t : ℕ) → factor-lts.Need-returns-2 (factor-calls t) (factor-at t) factor.Post
-factor-returns-2 t c = factor-plain (λ z. c .before .before .before .if2 .taken (c .before .before .before .before .before .before .kind-at .ensures ∙ z)) (c .primary .ensures)
+factor-returns-2 t c = factor-plain (λ z. c .before .before .before .before .if2 .taken (c .before .before .before .before .before .before .before .kind-at .ensures ∙ z)) (rw (c .before .before .before .again .ensures) at (c .primary .ensures))
 
 factor-item-requires : (t : ℕ) → factor-lts.Need-item-requires (factor-calls t) (factor-at t) factor.Post
 factor-item-requires t c κs = let s = c .before .before .before .before .args in let i = (kind-inside (s .kinds .now) (s .n) (s .q .at) 22 (sym (c .before .before .before .kind-at .ensures) ∙ c .if2 .left) (lit< tt)) in omega arith
@@ -259,16 +263,16 @@ factor-returns-3 : (t : ℕ) → factor-lts.Need-returns-3 (factor-calls t) (fac
 factor-returns-3 t c = let e = sym (c .before .before .before .before .before .before .before .before .before .before .kind-at .ensures) ∙ c .before .before .before .before .before .before .before .if2 .left in factor-not e (behind-over primaryPart postfix 22 (lit< tt) (c .before .before .before .before .before .before .before .before .before .before .before .pre .1 .1) (c .before .before .before .before .before .before .before .before .before .before .before .pre .1 .0) e (c .before .before .before .before .before .before .item .ensures) (c .before .before .before .primary2 .ensures) (c .put .ensures))
 
 joined-item-requires : (t : ℕ) → joined-lts.Need-item-requires (joined-calls t) (joined-at t) joined.Post
-joined-item-requires t c κs = let s = c .before .args in let w = c .before .pre .1 .2 in let i = (kind-inside (s .kinds .now) (s .n) (s .q .at) (kindIn (s .kinds .now) (s .n) (s .q .at)) refl (logical-kind _ w)) in omega arith
+joined-item-requires t c κs = let s = c .before .before .args in let w = c .before .before .pre .1 .2 in let i = (kind-inside (s .kinds .now) (s .n) (s .q .at) (kindIn (s .kinds .now) (s .n) (s .q .at)) refl (logical-kind _ w)) in omega arith
 
 joined-relation-requires : (t : ℕ) → joined-lts.Need-relation-requires (joined-calls t) (joined-at t) joined.Post
-joined-relation-requires t c κs = let s = c .before .before .before .before .args in let w = c .before .before .before .before .pre .1 .2 in let i = (kind-inside (s .kinds .now) (s .n) (s .q .at) (kindIn (s .kinds .now) (s .n) (s .q .at)) refl (logical-kind _ w)) in let a = operand-asks (s .n) (s .q) (c .before .before .item .result) (s .q) (s .q) (flagIn (s .long .now) (s .q .at)) (c .before .before .before .before .pre .1 .1) i (c .before .before .item .ensures) in let m = first-moves (s .n) (s .q) (c .before .before .item .result) (s .q) (s .q) (flagIn (s .long .now) (s .q .at)) (c .before .before .before .before .pre .1 .1) i (c .before .before .item .ensures) in omega arith
+joined-relation-requires t c κs = let s = c .before .before .before .before .before .args in let w = c .before .before .before .before .before .pre .1 .2 in let i = (kind-inside (s .kinds .now) (s .n) (s .q .at) (kindIn (s .kinds .now) (s .n) (s .q .at)) refl (logical-kind _ w)) in let a = operand-asks (s .n) (s .q) (c .before .before .item .result) (s .q) (s .q) (flagIn (s .long .now) (s .q .at)) (c .before .before .before .before .before .pre .1 .1) i (c .before .before .item .ensures) in let m = first-moves (s .n) (s .q) (c .before .before .item .result) (s .q) (s .q) (flagIn (s .long .now) (s .q .at)) (c .before .before .before .before .before .pre .1 .1) i (c .before .before .item .ensures) in omega arith
 
-joined-put-operator-requires : (t : ℕ) → joined-lts.Need-put-operator-requires (joined-calls t) (joined-at t) joined.Post
-joined-put-operator-requires t c κs = let s = c .before .before .before .before .before .before .before .args in let w = c .before .before .before .before .before .before .before .pre .1 .2 in let i = (kind-inside (s .kinds .now) (s .n) (s .q .at) (kindIn (s .kinds .now) (s .n) (s .q .at)) refl (logical-kind _ w)) in (put-room (s .n) (s .q) (c .before .before .before .before .before .item .result) (c .before .before .relation .result) (s .q) (flagIn (s .long .now) (s .q .at)) (c .before .before .before .before .before .before .before .pre .1 .1) i (c .before .before .before .before .before .item .ensures) (c .before .before .relation .ensures .moves), omega arith)
+joined-put-requires : (t : ℕ) → joined-lts.Need-put-requires (joined-calls t) (joined-at t) joined.Post
+joined-put-requires t c κs = let s = c .before .before .before .before .before .before .before .before .args in let w = c .before .before .before .before .before .before .before .before .pre .1 .2 in let i = (kind-inside (s .kinds .now) (s .n) (s .q .at) (kindIn (s .kinds .now) (s .n) (s .q .at)) refl (logical-kind _ w)) in (put-room (s .n) (s .q) (c .before .before .before .before .before .item .result) (c .before .before .relation .result) (s .q) (flagIn (s .long .now) (s .q .at)) (c .before .before .before .before .before .before .before .before .pre .1 .1) i (c .before .before .before .before .before .item .ensures) (c .before .before .relation .ensures .moves), omega arith)
 
 joined-returns : (t : ℕ) → joined-lts.Need-returns (joined-calls t) (joined-at t) joined.Post
-joined-returns t c = let s = c .before .before .before .before .before .before .before .before .args in let w = c .before .before .before .before .before .before .before .before .pre .1 .2 in let e = sym (c .before .before .before .before .before .before .before .kind-at .ensures) in let u = subst (λ (k : ℕ). oneOf k logical ≡ true) e w in λ t op. joined-turn (c .before .before .before .before .before .before .before .kind-at .result) e refl u t (subst (operatorOf t) e op) (behind-over relationPart postfix (c .before .before .before .before .before .before .before .kind-at .result) (logical-kind _ u) (c .before .before .before .before .before .before .before .before .pre .1 .1) (c .before .before .before .before .before .before .before .before .pre .1 .0) e (c .before .before .before .before .before .before .item .ensures) (c .before .before .before .relation .ensures) (c .put-operator .ensures))
+joined-returns t c = let s = c .before .before .before .before .before .before .before .before .before .args in let w = c .before .before .before .before .before .before .before .before .before .pre .1 .2 in let e = sym (c .before .before .before .before .before .before .before .before .kind-at .ensures) in let u = subst (λ (k : ℕ). oneOf k logical ≡ true) e w in λ t op. joined-turn (c .before .before .before .before .before .before .before .before .kind-at .result) e (c .before .before .before .before .before .before .before .operation-of .ensures) u t (subst (operatorOf t) e op) (behind-over relationPart postfix (c .before .before .before .before .before .before .before .before .kind-at .result) (logical-kind _ u) (c .before .before .before .before .before .before .before .before .before .pre .1 .1) (c .before .before .before .before .before .before .before .before .before .pre .1 .0) e (c .before .before .before .before .before .before .item .ensures) (c .before .before .before .relation .ensures) (c .put .ensures))
 
 parenthesised-returns : (t : ℕ) → parenthesised-lts.Need-returns (parenthesised-calls t) (parenthesised-at t) parenthesised.Post
 parenthesised-returns t c = rw (c .refused .ensures) (parens-full (c .before .before .pre .1 .1) (c .before .before .pre .1 .0) (c .before .before .pre .1 .2) _ (c .before .if1 .taken) (c .before .before .pre .1 .3))
@@ -319,31 +323,31 @@ product-returns : (t : ℕ) → product-lts.Need-returns (product-calls t) (prod
 product-returns t c = product-read (c .before .before .before .factor .ensures) (c .before .before .loop .inv) (sym (c .before .more-factors .ensures) ∙ c .if1 .left)
 
 relation-returns : (t : ℕ) → relation-lts.Need-returns (relation-calls t) (relation-at t) relation.Post
-relation-returns t c = let s = c .before .before .before .before .before .before .before .before .before .before .before .before .before .args in let e = sym (c .before .before .before .before .before .before .before .before .before .kind-at .ensures) in relation-compared (c .before .before .before .before .before .before .before .before .before .kind-at .result) (c .before .before .before .before .before .before .before .before .before .before .simple .ensures) (sym (c .before .before .before .before .before .before .before .before .is-relational .ensures) ∙ c .before .before .before .before .before .before .before .if1 .taken) e refl (behind-over simplePart postfix (c .before .before .before .before .before .before .before .before .before .kind-at .result) (relational-kind _ (sym (c .before .before .before .before .before .before .before .before .is-relational .ensures) ∙ c .before .before .before .before .before .before .before .if1 .taken)) (asks-after (c .before .before .before .before .before .before .before .before .before .before .before .before .before .pre .1 .1) (c .before .before .before .before .before .before .before .before .before .before .simple .ensures .moves)) (c .before .before .before .before .before .before .before .before .before .before .before .before .before .pre .1 .0) e (c .before .before .before .before .before .before .item .ensures) (c .before .before .before .simple2 .ensures) (c .put-operator .ensures))
+relation-returns t c = let s = c .before .before .before .before .before .before .before .before .before .before .before .before .before .before .args in let e = sym (c .before .before .before .before .before .before .before .before .before .before .kind-at .ensures) in relation-compared (c .before .before .before .before .before .before .before .before .before .before .kind-at .result) (c .before .before .before .before .before .before .before .before .before .before .before .simple .ensures) (sym (c .before .before .before .before .before .before .before .before .before .is-relational .ensures) ∙ c .before .before .before .before .before .before .before .before .if1 .taken) e (c .before .before .before .before .before .before .before .operation-of .ensures) (behind-over simplePart postfix (c .before .before .before .before .before .before .before .before .before .before .kind-at .result) (relational-kind _ (sym (c .before .before .before .before .before .before .before .before .before .is-relational .ensures) ∙ c .before .before .before .before .before .before .before .before .if1 .taken)) (asks-after (c .before .before .before .before .before .before .before .before .before .before .before .before .before .before .pre .1 .1) (c .before .before .before .before .before .before .before .before .before .before .before .simple .ensures .moves)) (c .before .before .before .before .before .before .before .before .before .before .before .before .before .before .pre .1 .0) e (c .before .before .before .before .before .before .item .ensures) (c .before .before .before .simple2 .ensures) (c .put .ensures))
 
 relation-returns-2 : (t : ℕ) → relation-lts.Need-returns-2 (relation-calls t) (relation-at t) relation.Post
 relation-returns-2 t c = relation-plain (c .before .before .before .simple .ensures) (subst (λ (k : ℕ). oneOf k relational ≡ false) (c .before .before .kind-at .ensures) (sym (c .before .is-relational .ensures) ∙ c .if1 .left))
 
 relation-item-requires : (t : ℕ) → relation-lts.Need-item-requires (relation-calls t) (relation-at t) relation.Post
-relation-item-requires t c κs = let s = c .before .before .before .before .before .before .args in let i = (kind-inside (s .kinds .now) (s .n) (c .before .before .before .simple .result .at) (c .before .before .kind-at .result) (sym (c .before .before .kind-at .ensures)) (relational-kind _ (sym (c .before .is-relational .ensures) ∙ c .if1 .taken))) in omega arith
+relation-item-requires t c κs = let s = c .before .before .before .before .before .before .before .args in let i = (kind-inside (s .kinds .now) (s .n) (c .before .before .before .before .simple .result .at) (c .before .before .before .kind-at .result) (sym (c .before .before .before .kind-at .ensures)) (relational-kind _ (sym (c .before .before .is-relational .ensures) ∙ c .before .if1 .taken))) in omega arith
 
 relation-simple-requires-2 : (t : ℕ) → relation-lts.Need-simple-requires-2 (relation-calls t) (relation-at t) relation.Post
-relation-simple-requires-2 t c κs = let s = c .before .before .before .before .before .before .before .before .before .args in let i = (kind-inside (s .kinds .now) (s .n) (c .before .before .before .before .before .before .simple .result .at) (c .before .before .before .before .before .kind-at .result) (sym (c .before .before .before .before .before .kind-at .ensures)) (relational-kind _ (sym (c .before .before .before .before .is-relational .ensures) ∙ c .before .before .before .if1 .taken))) in let a = operand-asks (s .n) (c .before .before .before .before .before .before .simple .result) (c .before .before .item .result) (s .q) (s .q) (flagIn (s .long .now) (c .before .before .before .before .before .before .simple .result .at)) (asks-after (c .before .before .before .before .before .before .before .before .before .pre .1 .1) (c .before .before .before .before .before .before .simple .ensures .moves)) i (c .before .before .item .ensures) in let m = first-moves (s .n) (c .before .before .before .before .before .before .simple .result) (c .before .before .item .result) (s .q) (s .q) (flagIn (s .long .now) (c .before .before .before .before .before .before .simple .result .at)) (asks-after (c .before .before .before .before .before .before .before .before .before .pre .1 .1) (c .before .before .before .before .before .before .simple .ensures .moves)) i (c .before .before .item .ensures) in let o = c .before .before .before .before .before .before .simple .ensures .moves in omega arith
+relation-simple-requires-2 t c κs = let s = c .before .before .before .before .before .before .before .before .before .before .args in let i = (kind-inside (s .kinds .now) (s .n) (c .before .before .before .before .before .before .before .simple .result .at) (c .before .before .before .before .before .before .kind-at .result) (sym (c .before .before .before .before .before .before .kind-at .ensures)) (relational-kind _ (sym (c .before .before .before .before .before .is-relational .ensures) ∙ c .before .before .before .before .if1 .taken))) in let a = operand-asks (s .n) (c .before .before .before .before .before .before .before .simple .result) (c .before .before .item .result) (s .q) (s .q) (flagIn (s .long .now) (c .before .before .before .before .before .before .before .simple .result .at)) (asks-after (c .before .before .before .before .before .before .before .before .before .before .pre .1 .1) (c .before .before .before .before .before .before .before .simple .ensures .moves)) i (c .before .before .item .ensures) in let m = first-moves (s .n) (c .before .before .before .before .before .before .before .simple .result) (c .before .before .item .result) (s .q) (s .q) (flagIn (s .long .now) (c .before .before .before .before .before .before .before .simple .result .at)) (asks-after (c .before .before .before .before .before .before .before .before .before .before .pre .1 .1) (c .before .before .before .before .before .before .before .simple .ensures .moves)) i (c .before .before .item .ensures) in let o = c .before .before .before .before .before .before .before .simple .ensures .moves in omega arith
 
-relation-put-operator-requires : (t : ℕ) → relation-lts.Need-put-operator-requires (relation-calls t) (relation-at t) relation.Post
-relation-put-operator-requires t c κs = let s = c .before .before .before .before .before .before .before .before .before .before .before .before .args in let h = c .before .before .before .before .before .before .before .before .before .before .before .before .pre .1 .1 in let o = c .before .before .before .before .before .before .before .before .before .simple .ensures .moves in let i = (kind-inside (s .kinds .now) (s .n) (c .before .before .before .before .before .before .before .before .before .simple .result .at) (c .before .before .before .before .before .before .before .before .kind-at .result) (sym (c .before .before .before .before .before .before .before .before .kind-at .ensures)) (relational-kind _ (sym (c .before .before .before .before .before .before .before .is-relational .ensures) ∙ c .before .before .before .before .before .before .if1 .taken))) in (put-room (s .n) (c .before .before .before .before .before .before .before .before .before .simple .result) (c .before .before .before .before .before .item .result) (c .before .before .simple2 .result) (s .q) (flagIn (s .long .now) (c .before .before .before .before .before .before .before .before .before .simple .result .at)) (asks-after (c .before .before .before .before .before .before .before .before .before .before .before .before .pre .1 .1) (c .before .before .before .before .before .before .before .before .before .simple .ensures .moves)) i (c .before .before .before .before .before .item .ensures) (c .before .before .simple2 .ensures .moves), omega arith)
+relation-put-requires : (t : ℕ) → relation-lts.Need-put-requires (relation-calls t) (relation-at t) relation.Post
+relation-put-requires t c κs = let s = c .before .before .before .before .before .before .before .before .before .before .before .before .before .args in let h = c .before .before .before .before .before .before .before .before .before .before .before .before .before .pre .1 .1 in let o = c .before .before .before .before .before .before .before .before .before .before .simple .ensures .moves in let i = (kind-inside (s .kinds .now) (s .n) (c .before .before .before .before .before .before .before .before .before .before .simple .result .at) (c .before .before .before .before .before .before .before .before .before .kind-at .result) (sym (c .before .before .before .before .before .before .before .before .before .kind-at .ensures)) (relational-kind _ (sym (c .before .before .before .before .before .before .before .before .is-relational .ensures) ∙ c .before .before .before .before .before .before .before .if1 .taken))) in (put-room (s .n) (c .before .before .before .before .before .before .before .before .before .before .simple .result) (c .before .before .before .before .before .item .result) (c .before .before .simple2 .result) (s .q) (flagIn (s .long .now) (c .before .before .before .before .before .before .before .before .before .before .simple .result .at)) (asks-after (c .before .before .before .before .before .before .before .before .before .before .before .before .before .pre .1 .1) (c .before .before .before .before .before .before .before .before .before .before .simple .ensures .moves)) i (c .before .before .before .before .before .item .ensures) (c .before .before .simple2 .ensures .moves), omega arith)
 
 scaled-item-requires : (t : ℕ) → scaled-lts.Need-item-requires (scaled-calls t) (scaled-at t) scaled.Post
-scaled-item-requires t c κs = let s = c .before .args in let w = c .before .pre .1 .2 in let i = (kind-inside (s .kinds .now) (s .n) (s .q .at) (kindIn (s .kinds .now) (s .n) (s .q .at)) refl (multiplying-kind _ w)) in omega arith
+scaled-item-requires t c κs = let s = c .before .before .args in let w = c .before .before .pre .1 .2 in let i = (kind-inside (s .kinds .now) (s .n) (s .q .at) (kindIn (s .kinds .now) (s .n) (s .q .at)) refl (multiplying-kind _ w)) in omega arith
 
 scaled-factor-requires : (t : ℕ) → scaled-lts.Need-factor-requires (scaled-calls t) (scaled-at t) scaled.Post
-scaled-factor-requires t c κs = let s = c .before .before .before .before .args in let w = c .before .before .before .before .pre .1 .2 in let i = (kind-inside (s .kinds .now) (s .n) (s .q .at) (kindIn (s .kinds .now) (s .n) (s .q .at)) refl (multiplying-kind _ w)) in let a = operand-asks (s .n) (s .q) (c .before .before .item .result) (s .q) (s .q) (flagIn (s .long .now) (s .q .at)) (c .before .before .before .before .pre .1 .1) i (c .before .before .item .ensures) in let m = first-moves (s .n) (s .q) (c .before .before .item .result) (s .q) (s .q) (flagIn (s .long .now) (s .q .at)) (c .before .before .before .before .pre .1 .1) i (c .before .before .item .ensures) in omega arith
+scaled-factor-requires t c κs = let s = c .before .before .before .before .before .args in let w = c .before .before .before .before .before .pre .1 .2 in let i = (kind-inside (s .kinds .now) (s .n) (s .q .at) (kindIn (s .kinds .now) (s .n) (s .q .at)) refl (multiplying-kind _ w)) in let a = operand-asks (s .n) (s .q) (c .before .before .item .result) (s .q) (s .q) (flagIn (s .long .now) (s .q .at)) (c .before .before .before .before .before .pre .1 .1) i (c .before .before .item .ensures) in let m = first-moves (s .n) (s .q) (c .before .before .item .result) (s .q) (s .q) (flagIn (s .long .now) (s .q .at)) (c .before .before .before .before .before .pre .1 .1) i (c .before .before .item .ensures) in omega arith
 
-scaled-put-operator-requires : (t : ℕ) → scaled-lts.Need-put-operator-requires (scaled-calls t) (scaled-at t) scaled.Post
-scaled-put-operator-requires t c κs = let s = c .before .before .before .before .before .before .before .args in let w = c .before .before .before .before .before .before .before .pre .1 .2 in let i = (kind-inside (s .kinds .now) (s .n) (s .q .at) (kindIn (s .kinds .now) (s .n) (s .q .at)) refl (multiplying-kind _ w)) in (put-room (s .n) (s .q) (c .before .before .before .before .before .item .result) (c .before .before .factor .result) (s .q) (flagIn (s .long .now) (s .q .at)) (c .before .before .before .before .before .before .before .pre .1 .1) i (c .before .before .before .before .before .item .ensures) (c .before .before .factor .ensures .moves), omega arith)
+scaled-put-requires : (t : ℕ) → scaled-lts.Need-put-requires (scaled-calls t) (scaled-at t) scaled.Post
+scaled-put-requires t c κs = let s = c .before .before .before .before .before .before .before .before .args in let w = c .before .before .before .before .before .before .before .before .pre .1 .2 in let i = (kind-inside (s .kinds .now) (s .n) (s .q .at) (kindIn (s .kinds .now) (s .n) (s .q .at)) refl (multiplying-kind _ w)) in (put-room (s .n) (s .q) (c .before .before .before .before .before .item .result) (c .before .before .factor .result) (s .q) (flagIn (s .long .now) (s .q .at)) (c .before .before .before .before .before .before .before .before .pre .1 .1) i (c .before .before .before .before .before .item .ensures) (c .before .before .factor .ensures .moves), omega arith)
 
 scaled-returns : (t : ℕ) → scaled-lts.Need-returns (scaled-calls t) (scaled-at t) scaled.Post
-scaled-returns t c = let s = c .before .before .before .before .before .before .before .before .args in let w = c .before .before .before .before .before .before .before .before .pre .1 .2 in let e = sym (c .before .before .before .before .before .before .before .kind-at .ensures) in let u = subst (λ (k : ℕ). oneOf k multiplying ≡ true) e w in list-turn (c .before .before .before .before .before .before .before .kind-at .result) e refl productTail u (behind-over factorPart postfix (c .before .before .before .before .before .before .before .kind-at .result) (multiplying-kind _ u) (c .before .before .before .before .before .before .before .before .pre .1 .1) (c .before .before .before .before .before .before .before .before .pre .1 .0) e (c .before .before .before .before .before .before .item .ensures) (c .before .before .before .factor .ensures) (c .put-operator .ensures))
+scaled-returns t c = let s = c .before .before .before .before .before .before .before .before .before .args in let w = c .before .before .before .before .before .before .before .before .before .pre .1 .2 in let e = sym (c .before .before .before .before .before .before .before .before .kind-at .ensures) in let u = subst (λ (k : ℕ). oneOf k multiplying ≡ true) e w in list-turn (c .before .before .before .before .before .before .before .before .kind-at .result) e (c .before .before .before .before .before .before .before .operation-of .ensures) productTail u (behind-over factorPart postfix (c .before .before .before .before .before .before .before .before .kind-at .result) (multiplying-kind _ u) (c .before .before .before .before .before .before .before .before .before .pre .1 .1) (c .before .before .before .before .before .before .before .before .before .pre .1 .0) e (c .before .before .before .before .before .before .item .ensures) (c .before .before .before .factor .ensures) (c .put .ensures))
 
 signed-returns : (t : ℕ) → signed-lts.Need-returns (signed-calls t) (signed-at t) signed.Post
 signed-returns t c = signed-plain (λ z. c .before .before .before .if1 .taken (c .before .before .before .before .kind-at .ensures ∙ z)) (c .product .ensures)
@@ -376,28 +380,28 @@ simple-returns : (t : ℕ) → simple-lts.Need-returns (simple-calls t) (simple-
 simple-returns t c = sum-read (c .before .before .before .signed .ensures) (c .before .before .loop .inv) (sym (c .before .more-terms .ensures) ∙ c .if1 .left)
 
 term-item-requires : (t : ℕ) → term-lts.Need-item-requires (term-calls t) (term-at t) term.Post
-term-item-requires t c κs = let s = c .before .args in let w = c .before .pre .1 .2 in let i = (kind-inside (s .kinds .now) (s .n) (s .q .at) (kindIn (s .kinds .now) (s .n) (s .q .at)) refl (adding-kind _ w)) in omega arith
+term-item-requires t c κs = let s = c .before .before .args in let w = c .before .before .pre .1 .2 in let i = (kind-inside (s .kinds .now) (s .n) (s .q .at) (kindIn (s .kinds .now) (s .n) (s .q .at)) refl (adding-kind _ w)) in omega arith
 
 term-product-requires : (t : ℕ) → term-lts.Need-product-requires (term-calls t) (term-at t) term.Post
-term-product-requires t c κs = let s = c .before .before .before .before .args in let w = c .before .before .before .before .pre .1 .2 in let i = (kind-inside (s .kinds .now) (s .n) (s .q .at) (kindIn (s .kinds .now) (s .n) (s .q .at)) refl (adding-kind _ w)) in let a = operand-asks (s .n) (s .q) (c .before .before .item .result) (s .q) (s .q) (flagIn (s .long .now) (s .q .at)) (c .before .before .before .before .pre .1 .1) i (c .before .before .item .ensures) in let m = first-moves (s .n) (s .q) (c .before .before .item .result) (s .q) (s .q) (flagIn (s .long .now) (s .q .at)) (c .before .before .before .before .pre .1 .1) i (c .before .before .item .ensures) in omega arith
+term-product-requires t c κs = let s = c .before .before .before .before .before .args in let w = c .before .before .before .before .before .pre .1 .2 in let i = (kind-inside (s .kinds .now) (s .n) (s .q .at) (kindIn (s .kinds .now) (s .n) (s .q .at)) refl (adding-kind _ w)) in let a = operand-asks (s .n) (s .q) (c .before .before .item .result) (s .q) (s .q) (flagIn (s .long .now) (s .q .at)) (c .before .before .before .before .before .pre .1 .1) i (c .before .before .item .ensures) in let m = first-moves (s .n) (s .q) (c .before .before .item .result) (s .q) (s .q) (flagIn (s .long .now) (s .q .at)) (c .before .before .before .before .before .pre .1 .1) i (c .before .before .item .ensures) in omega arith
 
-term-put-operator-requires : (t : ℕ) → term-lts.Need-put-operator-requires (term-calls t) (term-at t) term.Post
-term-put-operator-requires t c κs = let s = c .before .before .before .before .before .before .before .args in let w = c .before .before .before .before .before .before .before .pre .1 .2 in let i = (kind-inside (s .kinds .now) (s .n) (s .q .at) (kindIn (s .kinds .now) (s .n) (s .q .at)) refl (adding-kind _ w)) in (put-room (s .n) (s .q) (c .before .before .before .before .before .item .result) (c .before .before .product .result) (s .q) (flagIn (s .long .now) (s .q .at)) (c .before .before .before .before .before .before .before .pre .1 .1) i (c .before .before .before .before .before .item .ensures) (c .before .before .product .ensures .moves), omega arith)
+term-put-requires : (t : ℕ) → term-lts.Need-put-requires (term-calls t) (term-at t) term.Post
+term-put-requires t c κs = let s = c .before .before .before .before .before .before .before .before .args in let w = c .before .before .before .before .before .before .before .before .pre .1 .2 in let i = (kind-inside (s .kinds .now) (s .n) (s .q .at) (kindIn (s .kinds .now) (s .n) (s .q .at)) refl (adding-kind _ w)) in (put-room (s .n) (s .q) (c .before .before .before .before .before .item .result) (c .before .before .product .result) (s .q) (flagIn (s .long .now) (s .q .at)) (c .before .before .before .before .before .before .before .before .pre .1 .1) i (c .before .before .before .before .before .item .ensures) (c .before .before .product .ensures .moves), omega arith)
 
 term-returns : (t : ℕ) → term-lts.Need-returns (term-calls t) (term-at t) term.Post
-term-returns t c = let s = c .before .before .before .before .before .before .before .before .args in let w = c .before .before .before .before .before .before .before .before .pre .1 .2 in let e = sym (c .before .before .before .before .before .before .before .kind-at .ensures) in let u = subst (λ (k : ℕ). oneOf k adding ≡ true) e w in list-turn (c .before .before .before .before .before .before .before .kind-at .result) e refl sum u (behind-over termPart postfix (c .before .before .before .before .before .before .before .kind-at .result) (adding-kind _ u) (c .before .before .before .before .before .before .before .before .pre .1 .1) (c .before .before .before .before .before .before .before .before .pre .1 .0) e (c .before .before .before .before .before .before .item .ensures) (c .before .before .before .product .ensures) (c .put-operator .ensures))
+term-returns t c = let s = c .before .before .before .before .before .before .before .before .before .args in let w = c .before .before .before .before .before .before .before .before .before .pre .1 .2 in let e = sym (c .before .before .before .before .before .before .before .before .kind-at .ensures) in let u = subst (λ (k : ℕ). oneOf k adding ≡ true) e w in list-turn (c .before .before .before .before .before .before .before .before .kind-at .result) e (c .before .before .before .before .before .before .before .operation-of .ensures) sum u (behind-over termPart postfix (c .before .before .before .before .before .before .before .before .kind-at .result) (adding-kind _ u) (c .before .before .before .before .before .before .before .before .before .pre .1 .1) (c .before .before .before .before .before .before .before .before .before .pre .1 .0) e (c .before .before .before .before .before .before .item .ensures) (c .before .before .before .product .ensures) (c .put .ensures))
 
 pub +expression+factor+joined+parenthesised+primary+product+relation+scaled+signed+simple+term-spec : {M : Type 1} → statement M
 +expression+factor+joined+parenthesised+primary+product+relation+scaled+signed+simple+term-spec =
     close μ-expression μ-factor μ-joined μ-parenthesised μ-primary μ-product μ-relation μ-scaled μ-signed μ-simple μ-term
     (λ t. expression-lts.spec (expression-calls t) (expression-at t) expression.Post expression-Inv-loop expression-μ-loop (λ c κs. omega arith) (λ c κs. omega arith) (λ c κs. search needs) (expression-returns t) (expression-loop-holds t) (λ c κs. omega arith) (expression-joined-requires t) (expression-loop-less t) (expression-loop-again t) (expression-returns-2 t))
-    (λ t. factor-lts.spec (factor-calls t) (factor-at t) factor.Post (λ c κs. omega arith) (λ c κs. search needs) (factor-leaf-requires t) (factor-returns t) (λ c κs. omega arith) (factor-returns-2 t) (factor-item-requires t) (factor-primary-requires-2 t) (factor-put-requires t) (factor-returns-3 t))
-    (λ t. joined-lts.spec (joined-calls t) (joined-at t) joined.Post (λ c κs. omega arith) (joined-item-requires t) (joined-relation-requires t) (joined-put-operator-requires t) (joined-returns t))
+    (λ t. factor-lts.spec (factor-calls t) (factor-at t) factor.Post (λ c κs. omega arith) (λ c κs. search needs) (factor-leaf-requires t) (factor-returns t) (λ c κs. search needs) (factor-primary-requires t) (factor-returns-2 t) (factor-item-requires t) (factor-primary-requires-2 t) (factor-put-requires t) (factor-returns-3 t))
+    (λ t. joined-lts.spec (joined-calls t) (joined-at t) joined.Post (λ c κs. omega arith) (λ c κs. search needs) (joined-item-requires t) (joined-relation-requires t) (joined-put-requires t) (joined-returns t))
     (λ t. parenthesised-lts.spec (parenthesised-calls t) (parenthesised-at t) parenthesised.Post (λ c κs. search needs) (parenthesised-returns t) (parenthesised-add-expression t) (λ c. omega arith) (parenthesised-expression-requires t) (parenthesised-expect-requires t) (parenthesised-returns-2 t))
     (λ t. primary-lts.spec (primary-calls t) (primary-at t) primary.Post (primary-returns t) (λ c κs. omega arith) (primary-parenthesised-requires t) (primary-returns-2 t) (λ c κs. search needs) (primary-leaf-requires t) (primary-returns-3 t) (λ c κs. search needs) (primary-returns-4 t))
     (λ t. product-lts.spec (product-calls t) (product-at t) product.Post product-Inv-loop product-μ-loop (λ c κs. omega arith) (product-loop-holds t) (λ c κs. omega arith) (product-scaled-requires t) (product-loop-less t) (product-loop-again t) (product-returns t))
-    (λ t. relation-lts.spec (relation-calls t) (relation-at t) relation.Post (λ c κs. omega arith) (λ c κs. omega arith) (λ c κs. search needs) (relation-item-requires t) (relation-simple-requires-2 t) (relation-put-operator-requires t) (relation-returns t) (relation-returns-2 t))
-    (λ t. scaled-lts.spec (scaled-calls t) (scaled-at t) scaled.Post (λ c κs. omega arith) (scaled-item-requires t) (scaled-factor-requires t) (scaled-put-operator-requires t) (scaled-returns t))
+    (λ t. relation-lts.spec (relation-calls t) (relation-at t) relation.Post (λ c κs. omega arith) (λ c κs. omega arith) (λ c κs. search needs) (λ c κs. search needs) (relation-item-requires t) (relation-simple-requires-2 t) (relation-put-requires t) (relation-returns t) (relation-returns-2 t))
+    (λ t. scaled-lts.spec (scaled-calls t) (scaled-at t) scaled.Post (λ c κs. omega arith) (λ c κs. search needs) (scaled-item-requires t) (scaled-factor-requires t) (scaled-put-requires t) (scaled-returns t))
     (λ t. signed-lts.spec (signed-calls t) (signed-at t) signed.Post (λ c κs. omega arith) (λ c κs. omega arith) (signed-returns t) (signed-item-requires t) (signed-product-requires-2 t) (signed-put-requires t) (signed-returns-2 t))
     (λ t. simple-lts.spec (simple-calls t) (simple-at t) simple.Post simple-Inv-loop simple-μ-loop (λ c κs. omega arith) (simple-loop-holds t) (λ c κs. omega arith) (simple-term-requires t) (simple-loop-less t) (simple-loop-again t) (simple-returns t))
-    (λ t. term-lts.spec (term-calls t) (term-at t) term.Post (λ c κs. omega arith) (term-item-requires t) (term-product-requires t) (term-put-operator-requires t) (term-returns t))
+    (λ t. term-lts.spec (term-calls t) (term-at t) term.Post (λ c κs. omega arith) (λ c κs. search needs) (term-item-requires t) (term-product-requires t) (term-put-requires t) (term-returns t))
