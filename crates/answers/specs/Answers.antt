@@ -99,7 +99,7 @@ freshTold (NotStarted r) = refusedBy r
 
 -- a cycle: "the number of lines performed, the wait it ends on included"
 abbrev pub cycleTold : Cycled → Told ℕ
-cycleTold (Performed n) = done n
+cycleTold (Performed c) = done (c .lines)
 cycleTold (NotPerformed r) = refusedBy r
 
 -- many rows in one call: taken, or turned back as a whole

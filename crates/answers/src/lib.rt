@@ -63,9 +63,14 @@ pub enum Started {
     NotStarted(Refusal),
 }
 
-// A cycle, of an image or of a text: the number of lines performed, the wait it ends on included.
+// What a performed cycle counted: the lines, the wait it ends on included.
+pub struct Counts {
+    pub lines: usize,
+}
+
+// A cycle, of an image or of a text: performed, with what it counted; or turned back.
 pub enum Cycled {
-    Performed(usize),
+    Performed(Counts),
     NotPerformed(Refusal),
 }
 

@@ -70,7 +70,7 @@ pub fn cycled(c: Cycled) -> [u32; record::ANSWER]
     ensures { λ a. ⌜ a ≡ cycledNumbers c ⌝ }
 {
     match c {
-        Cycled::Performed(n) => done(n),
+        Cycled::Performed(counts) => done(counts.lines),
         Cycled::NotPerformed(r) => refused(r),
     }
 }

@@ -50,7 +50,7 @@ fn lines_of(c: Cycled) -> usize
     ensures { λ r. ⌜ r ≡ linesOf c ⌝ }
 {
     match c {
-        Cycled::Performed(n) => n,
+        Cycled::Performed(counts) => counts.lines,
         Cycled::NotPerformed(_) => 0,
     }
 }

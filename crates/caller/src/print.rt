@@ -55,7 +55,7 @@ pub(crate) fn started(answer: Started) {
 
 pub(crate) fn cycled(answer: Cycled) {
     match answer {
-        Cycled::Performed(n) => number(n),
+        Cycled::Performed(counts) => number(counts.lines),
         Cycled::NotPerformed(r) => refusal(r),
     }
 }

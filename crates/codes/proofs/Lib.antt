@@ -2,3 +2,4 @@ pub mod Finite
 pub mod TokenLaws
 pub mod OperationLaws
 pub mod TypeLaws
+pub mod StackLaws

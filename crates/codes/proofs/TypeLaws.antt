@@ -8,19 +8,20 @@ use native.Mathlib.Omega.{arith}
 use lib.Dec.{eqb}
 use borrow.Author.Tests.{eqb-true, ne-eqb}
 use Rattle.design.specs.Types.{Ty, std-logic, integer, ExprTy, plain, boolean, sameTy, sameType, typeByte}
-use Rattle.design.specs.Expression.{Unary, Binary, unaryType, binaryType}
-use Rattle.codes.specs.Operation.{unaryFor, binaryFor, countOr, operandsOf}
-use Rattle.codes.specs.Types.{NONE, tagOf, tagOr, typeOfTag, declaredType, unaryOf, binaryOf, typeAfter, unaryTypeFor, binaryTypeFor}
+use Rattle.design.specs.Expression.{Unary, sign, invert, Binary, plus, minus, equal, unequal, less, at-most, greater, at-least, and, or, xor, times, divide, modulo, remainder, sumType, orderType, equalityType, logicalType, unaryType, binaryType}
+use Rattle.codes.specs.Token.{oneOf}
+use Rattle.codes.specs.Operation.{SIGN, NOT, unaryCode, binaryCode, unaryFor, binaryFor}
+use Rattle.codes.specs.Types.{BOOLEAN, NONE, comparing, resultFor, tagOf, tagOr, typeOfTag, declaredType, unaryOf, binaryOf, typeAfter, unaryTypeFor, binaryTypeFor}
 use Rattle.codes.proofs.Finite.{all, first, rest, within}
 
 -- Numbers of types.
 
 -- a type is read back from its number
-pub type-of-tag : (t : ExprTy) → typeOfTag (tagOf t) ≡ some t
+pub tag-type : (t : ExprTy) → typeOfTag (tagOf t) ≡ some t
 unfolding typeOfTag
-type-of-tag (plain std-logic) = refl
-type-of-tag (plain integer) = refl
-type-of-tag boolean = refl
+tag-type (plain std-logic) = refl
+tag-type (plain integer) = refl
+tag-type boolean = refl
 
 pub type-of-none : typeOfTag NONE ≡ none
 unfolding typeOfTag
@@ -29,7 +30,7 @@ type-of-none = refl
 -- the number of a type or of none, read back
 pub type-of-or : (o : Option ExprTy) → typeOfTag (tagOr o) ≡ o
 type-of-or none = type-of-none
-type-of-or (some t) = type-of-tag t
+type-of-or (some t) = tag-type t
 
 -- so two that have one number are the same
 pub tag-or-injective : (o p : Option ExprTy) → tagOr o ≡ tagOr p → o ≡ p
@@ -78,22 +79,22 @@ after-none f = ap (λ z. bind z f) type-of-none
 -- by a type's number, what the operator does with the type
 pub after-tag : (f : ExprTy → Option ExprTy) (t : ExprTy) → typeAfter f (tagOf t) ≡ f t
 unfolding bind
-after-tag f t = ap (λ z. bind z f) (type-of-tag t)
+after-tag f t = ap (λ z. bind z f) (tag-type t)
 
 -- the operator that has a code
-pub unary-is : (k : ℕ) (o : Unary) → unaryFor k ≡ some o → (t : ℕ) → unaryTypeFor k t ≡ typeAfter (unaryType o) t
+pub unary-type-is : (k : ℕ) (o : Unary) → unaryFor k ≡ some o → (t : ℕ) → unaryTypeFor k t ≡ typeAfter (unaryType o) t
 unfolding unaryOf bind
-unary-is k o e t = ap (λ z. bind (typeOfTag t) (λ u. bind z (λ p. unaryType p u))) e
+unary-type-is k o e t = ap (λ z. bind (typeOfTag t) (λ u. bind z (λ p. unaryType p u))) e
 
-pub binary-is : (k : ℕ) (o : Binary) → binaryFor k ≡ some o → (t : ℕ) → binaryTypeFor k t ≡ typeAfter (binaryType o) t
+pub binary-type-is : (k : ℕ) (o : Binary) → binaryFor k ≡ some o → (t : ℕ) → binaryTypeFor k t ≡ typeAfter (binaryType o) t
 unfolding binaryOf bind
-binary-is k o e t = ap (λ z. bind (typeOfTag t) (λ u. bind z (λ p. binaryType p u))) e
+binary-type-is k o e t = ap (λ z. bind (typeOfTag t) (λ u. bind z (λ p. binaryType p u))) e
 
 pub unary-tag : (k : ℕ) (o : Unary) → unaryFor k ≡ some o → (t : ExprTy) → unaryTypeFor k (tagOf t) ≡ unaryType o t
-unary-tag k o e t = unary-is k o e (tagOf t) ∙ after-tag (unaryType o) t
+unary-tag k o e t = unary-type-is k o e (tagOf t) ∙ after-tag (unaryType o) t
 
 pub binary-tag : (k : ℕ) (o : Binary) → binaryFor k ≡ some o → (t : ExprTy) → binaryTypeFor k (tagOf t) ≡ binaryType o t
-binary-tag k o e t = binary-is k o e (tagOf t) ∙ after-tag (binaryType o) t
+binary-tag k o e t = binary-type-is k o e (tagOf t) ∙ after-tag (binaryType o) t
 
 -- a code that no operator has: no type
 empty : (o : Option ExprTy) → _≡_ {A = Option ExprTy} (bind o (λ t. none)) none
@@ -101,27 +102,13 @@ unfolding bind
 empty none = refl
 empty (some t) = refl
 
-pub unary-no : (k : ℕ) → unaryFor k ≡ none → (t : ℕ) → unaryTypeFor k t ≡ none
+pub unary-type-no : (k : ℕ) → unaryFor k ≡ none → (t : ℕ) → unaryTypeFor k t ≡ none
 unfolding unaryOf bind
-unary-no k e t = ap (λ z. bind (typeOfTag t) (λ u. bind z (λ p. unaryType p u))) e ∙ empty (typeOfTag t)
+unary-type-no k e t = ap (λ z. bind (typeOfTag t) (λ u. bind z (λ p. unaryType p u))) e ∙ empty (typeOfTag t)
 
-pub binary-no : (k : ℕ) → binaryFor k ≡ none → (t : ℕ) → binaryTypeFor k t ≡ none
+pub binary-type-no : (k : ℕ) → binaryFor k ≡ none → (t : ℕ) → binaryTypeFor k t ≡ none
 unfolding binaryOf bind
-binary-no k e t = ap (λ z. bind (typeOfTag t) (λ u. bind z (λ p. binaryType p u))) e ∙ empty (typeOfTag t)
-
--- How many operands an operator has, by its code.
-
-pub one-operand : (k : ℕ) (o : Unary) → unaryFor k ≡ some o → operandsOf k ≡ 1
-unfolding operandsOf countOr
-one-operand k o e = ap (λ z. countOr z (binaryFor k)) e
-
-pub two-operands : (k : ℕ) (o : Binary) → unaryFor k ≡ none → binaryFor k ≡ some o → operandsOf k ≡ 2
-unfolding operandsOf countOr
-two-operands k o e q = ap (λ z. countOr z (binaryFor k)) e ∙ ap (countOr none) q
-
-pub no-operands : (k : ℕ) → unaryFor k ≡ none → binaryFor k ≡ none → operandsOf k ≡ 0
-unfolding operandsOf countOr
-no-operands k e q = ap (λ z. countOr z (binaryFor k)) e ∙ ap (countOr none) q
+binary-type-no k e t = ap (λ z. bind (typeOfTag t) (λ u. bind z (λ p. binaryType p u))) e ∙ empty (typeOfTag t)
 
 -- A stretch of codes whose operators do the same with types: one computed test.
 
@@ -162,3 +149,64 @@ stretch-none table n j e k h l t = ap tagOr (sym (empty (typeOfTag t))) ∙ stre
 pub either : {A B C : Type 0} → A ⊎ B → (A → C) → (B → C) → C
 either (inl a) f g = f a
 either (inr b) f g = g b
+
+-- The type of a result, where the operator takes its operands.
+
+pub result-boolean : (k t : ℕ) → true ≡ oneOf k comparing → BOOLEAN ≡ resultFor k t
+unfolding resultFor
+result-boolean k t e = rw (← e)
+
+pub result-kept : (k t : ℕ) → false ≡ oneOf k comparing → t ≡ resultFor k t
+unfolding resultFor
+result-kept k t e = rw (← e)
+
+-- it is r, where there is one
+abbrev gives : ℕ → Option ExprTy → Bool
+gives r none = true
+gives r (some u) = eqb r (tagOf u)
+
+-- so for operands of each type
+unfoldable results : ℕ → (ExprTy → Option ExprTy) → Bool
+results k f = at (plain std-logic) && (at (plain integer) && at boolean)
+  where
+    at : ExprTy → Bool
+    at t = gives (resultFor k (tagOf t)) (f t)
+
+result-by : (k : ℕ) (f : ExprTy → Option ExprTy) → results k f ≡ true → (t u : ExprTy) → f t ≡ some u → resultFor k (tagOf t) ≡ tagOf u
+unfolding results
+result-by k f e t u h = eqb-true _ _ (rw h at (by t))
+  where
+    is : ExprTy → Bool
+    is t = gives (resultFor k (tagOf t)) (f t)
+
+    others : (is (plain integer) && is boolean) ≡ true
+    others = rest (is (plain std-logic)) (is (plain integer) && is boolean) e
+
+    by : (t : ExprTy) → gives (resultFor k (tagOf t)) (f t) ≡ true
+    by (plain std-logic) = first (is (plain std-logic)) (is (plain integer) && is boolean) e
+    by (plain integer) = first (is (plain integer)) (is boolean) others
+    by boolean = rest (is (plain integer)) (is boolean) others
+
+-- by the operator
+pub unary-result : (o : Unary) (t u : ExprTy) → unaryType o t ≡ some u → resultFor (unaryCode o) (tagOf t) ≡ tagOf u
+unfolding results resultFor oneOf unaryType sumType logicalType
+unary-result sign = result-by SIGN (unaryType sign) refl
+unary-result invert = result-by NOT (unaryType invert) refl
+
+pub binary-result : (o : Binary) (t u : ExprTy) → binaryType o t ≡ some u → resultFor (binaryCode o) (tagOf t) ≡ tagOf u
+unfolding results resultFor oneOf binaryType sumType orderType equalityType logicalType
+binary-result plus = result-by (binaryCode plus) (binaryType plus) refl
+binary-result minus = result-by (binaryCode minus) (binaryType minus) refl
+binary-result equal = result-by (binaryCode equal) (binaryType equal) refl
+binary-result unequal = result-by (binaryCode unequal) (binaryType unequal) refl
+binary-result less = result-by (binaryCode less) (binaryType less) refl
+binary-result at-most = result-by (binaryCode at-most) (binaryType at-most) refl
+binary-result greater = result-by (binaryCode greater) (binaryType greater) refl
+binary-result at-least = result-by (binaryCode at-least) (binaryType at-least) refl
+binary-result and = result-by (binaryCode and) (binaryType and) refl
+binary-result or = result-by (binaryCode or) (binaryType or) refl
+binary-result xor = result-by (binaryCode xor) (binaryType xor) refl
+binary-result times = result-by (binaryCode times) (binaryType times) refl
+binary-result divide = result-by (binaryCode divide) (binaryType divide) refl
+binary-result modulo = result-by (binaryCode modulo) (binaryType modulo) refl
+binary-result remainder = result-by (binaryCode remainder) (binaryType remainder) refl

@@ -7,3 +7,4 @@ pub mod Declaration
 pub mod Image
 pub mod Limit
 pub mod Refusal
+pub mod Stack

@@ -1,11 +1,13 @@
 -- Types by number: the type byte of an image, which is design's; 254 for boolean, which no name has; 255 for no type. Assumes nothing.
 use mathlib.Core.Bool.{Bool, true, false, cond}
 use mathlib.Core.Option.{Option, none, some, Option·map, bind}
+use mathlib.Core.List.{List, [], _∷_}
 use Prim.Native.Nat.{ℕ}
 use lib.Dec.{eqb}
 use Rattle.design.specs.Types.{Ty, ExprTy, plain, boolean, typeByte, typeOfByte}
 use Rattle.design.specs.Expression.{unaryType, binaryType}
-use Rattle.codes.specs.Operation.{unaryFor, binaryFor}
+use Rattle.codes.specs.Token.{oneOf}
+use Rattle.codes.specs.Operation.{EQ, NE, LT, LE, GT, GE, unaryFor, binaryFor}
 
 abbrev pub BOOLEAN : ℕ
 BOOLEAN = 254
@@ -54,3 +56,11 @@ unaryTypeFor op t = typeAfter (unaryOf op) t
 
 abbrev pub binaryTypeFor : ℕ → ℕ → Option ExprTy
 binaryTypeFor op t = typeAfter (binaryOf op) t
+
+-- the operators that compare
+abbrev pub comparing : List ℕ
+comparing = EQ ∷ NE ∷ LT ∷ LE ∷ GT ∷ GE ∷ []
+
+-- the same where the operator takes its operands: "comparisons give boolean", every other operator what it takes
+unfoldable pub resultFor : ℕ → ℕ → ℕ
+resultFor op t = cond (oneOf op comparing) BOOLEAN t

@@ -2,7 +2,9 @@
 ghost use mathlib.Core.Path.{_≡_};
 ghost use Prim.Native.Nat.{_≤_};
 ghost use Rattle.codes.specs.Operation.{operationOf, operandsOf, widthOf};
+ghost use Rattle.codes.specs.Types.{tagOr, unaryTypeFor, binaryTypeFor, resultFor};
 use crate::token;
+use crate::types;
 
 // Literals and names are pushed.
 pub const INTEGER: u8 = 1;
@@ -83,13 +85,49 @@ pub fn operands(op: u8) -> u8
     }
 }
 
+// The type of the result of an operator of one operand of the type t; no type where there is no such operator or it does not take that type.
+pub fn unary_type(op: u8, t: u8) -> u8
+    ensures { λ r. ⌜ r ≡ tagOr (unaryTypeFor op t) ⌝ }
+{
+    match op {
+        SIGN => types::sum(t),
+        NOT => types::logical(t),
+        _ => types::NONE,
+    }
+}
+
+// The same with two operands, both of the type t.
+pub fn binary_type(op: u8, t: u8) -> u8
+    ensures { λ r. ⌜ r ≡ tagOr (binaryTypeFor op t) ⌝ }
+{
+    match op {
+        PLUS | MINUS | TIMES | DIVIDE | MOD | REM => types::sum(t),
+        EQ | NE => types::equality(t),
+        LT | LE | GT | GE => types::order(t),
+        AND | OR | XOR => types::logical(t),
+        _ => types::NONE,
+    }
+}
+
+// The type of the result of an operator that takes operands of the type t: a comparison gives a boolean, every other operator what it takes.
+pub fn result_type(op: u8, t: u8) -> u8
+    ensures { λ r. ⌜ r ≡ resultFor op t ⌝ }
+{
+    match op {
+        EQ | NE | LT | LE | GT | GE => types::BOOLEAN,
+        _ => t,
+    }
+}
+
 // How many bytes an operation has.
 pub fn width(op: u8) -> usize
     ensures { λ r. ⌜ r ≡ widthOf op ⌝ }
     ensures { λ r. ⌜ r ≤ 5 ⌝ }
 {
+    if op == INTEGER {
+        return 5;
+    }
     match op {
-        INTEGER => 5,
         STD_LOGIC | INPUT | VARIABLE => 2,
         _ => 1,
     }

@@ -1,9 +1,8 @@
-// Types by number: the type byte of an image; boolean, which no name has; and no type. And the type of an operator's result.
+// Types by number: the type byte of an image; boolean, which no name has; and no type. And the four classes of operators by type: what comes of operands of a type.
 ghost use mathlib.Core.Path.{_≡_};
 ghost use Rattle.design.specs.Expression.{sumType, orderType, equalityType, logicalType};
-ghost use Rattle.codes.specs.Types.{isTypeByte, declaredType, tagOr, typeAfter, unaryTypeFor, binaryTypeFor};
+ghost use Rattle.codes.specs.Types.{isTypeByte, declaredType, tagOr, typeAfter};
 use crate::declaration;
-use crate::operation;
 
 pub const STD_LOGIC: u8 = 0;
 
@@ -34,8 +33,8 @@ pub fn declared(number: u16) -> u8
     }
 }
 
-// The sign, + - * / mod rem.
-fn sum(t: u8) -> u8
+// Arithmetic: integers give an integer.
+pub fn sum(t: u8) -> u8
     ensures { λ r. ⌜ r ≡ tagOr (typeAfter sumType t) ⌝ }
 {
     match t {
@@ -44,8 +43,8 @@ fn sum(t: u8) -> u8
     }
 }
 
-// < <= > >=
-fn order(t: u8) -> u8
+// Order: integers give a boolean.
+pub fn order(t: u8) -> u8
     ensures { λ r. ⌜ r ≡ tagOr (typeAfter orderType t) ⌝ }
 {
     match t {
@@ -54,8 +53,8 @@ fn order(t: u8) -> u8
     }
 }
 
-// = and /=
-fn equality(t: u8) -> u8
+// Equality: std_logics and integers give a boolean.
+pub fn equality(t: u8) -> u8
     ensures { λ r. ⌜ r ≡ tagOr (typeAfter equalityType t) ⌝ }
 {
     match t {
@@ -64,42 +63,13 @@ fn equality(t: u8) -> u8
     }
 }
 
-// not, and, or, xor.
-fn logical(t: u8) -> u8
+// Logic: std_logics and booleans give their own type.
+pub fn logical(t: u8) -> u8
     ensures { λ r. ⌜ r ≡ tagOr (typeAfter logicalType t) ⌝ }
 {
     match t {
         STD_LOGIC => STD_LOGIC,
         BOOLEAN => BOOLEAN,
-        _ => NONE,
-    }
-}
-
-// The type of the result of an operator of one operand of the type t; no type where there is no such operator or it does not take that type.
-pub fn unary_type(op: u8, t: u8) -> u8
-    ensures { λ r. ⌜ r ≡ tagOr (unaryTypeFor op t) ⌝ }
-{
-    match op {
-        operation::SIGN => sum(t),
-        operation::NOT => logical(t),
-        _ => NONE,
-    }
-}
-
-// The same with two operands, both of the type t.
-pub fn binary_type(op: u8, t: u8) -> u8
-    ensures { λ r. ⌜ r ≡ tagOr (binaryTypeFor op t) ⌝ }
-{
-    match op {
-        operation::PLUS
-        | operation::MINUS
-        | operation::TIMES
-        | operation::DIVIDE
-        | operation::MOD
-        | operation::REM => sum(t),
-        operation::EQ | operation::NE => equality(t),
-        operation::LT | operation::LE | operation::GT | operation::GE => order(t),
-        operation::AND | operation::OR | operation::XOR => logical(t),
         _ => NONE,
     }
 }

@@ -9,6 +9,7 @@ use mathlib.Core.List.{List, [], append-nil}
 use lib.ListN.{length, drop-of-length-le}
 use lib.IntN.{ℤ}
 use Rattle.answers.specs.declared.State.{State}
+use Rattle.answers.specs.declared.Counts.{Counts}
 use Rattle.answers.specs.declared.Cycled.the-variants.{Performed, NotPerformed}
 use Rattle.answers.specs.declared.Refusal.{Refusal}
 use Rattle.answers.specs.declared.Refusal.the-variants.{BadRow, BadState}
@@ -66,7 +67,7 @@ module _ (s l c : List ℕ) (t : Table) (h : Checked s l c t) (x : State) (i o :
       moved e f g q = rw (e, f, g) q
 
   -- a wait was reached
-  pub reached-moves : (p n : ℕ) (o′ v′ : List ℤ) → went (Reached p n) o′ v′ ≡ ranFor t l c (x .place) i (x .outputs) (x .variables)
+  pub reached-moves : (p : ℕ) (n : Counts) (o′ v′ : List ℤ) → went (Reached p (n .lines)) o′ v′ ≡ ranFor t l c (x .place) i (x .outputs) (x .variables)
       → (p < 65536) × ((a : Advanced) → a ≡ record { state = record { place = p; outputs = o′; variables = v′ }; answer = Performed n } → Moves (rowOf t x i o) a)
   unfolding stateFor
   reached-moves p n o′ v′ e = on (rowOf t x i o) refl (row-outcome t (h .held .good) x i o)
@@ -77,14 +78,14 @@ module _ (s l c : List ℕ) (t : Table) (h : Checked s l c t) (x : State) (i o :
       on r q (state-refused m g) = absurd (g good)
       on r q (operator-refused number y is m g b z) =
           let w : ranFor t l c (x .place) i (x .outputs) (x .variables) .answer ≡ Stopped number y = rw z at state-shows in
-          let f : Reached p n ≡ Stopped number y = ap (λ (u : Went). u .answer) e ∙ w in
+          let f : Reached p (n .lines) ≡ Stopped number y = ap (λ (u : Went). u .answer) e ∙ w in
           absurd (let d : _≡_ {A = ℕ} 0 1 = cc in omega arith)
       on r q (performs p′ τ m g z w y gs lo) =
           let u : ranFor t l c (x .place) i (x .outputs) (x .variables) ≡ record { answer = Reached p′ (length (τ .way)); outputs = pad 16 (τ .memory .outputs); variables = pad 32 (τ .memory .variables) } = rw z at state-shows in
-          let a : went (Reached p n) o′ v′ ≡ record { answer = Reached p′ (length (τ .way)); outputs = pad 16 (τ .memory .outputs); variables = pad 32 (τ .memory .variables) } = e ∙ u in
-          let b : Reached p n ≡ Reached p′ (length (τ .way)) = ap (λ (k : Went). k .answer) a in
+          let a : went (Reached p (n .lines)) o′ v′ ≡ record { answer = Reached p′ (length (τ .way)); outputs = pad 16 (τ .memory .outputs); variables = pad 32 (τ .memory .variables) } = e ∙ u in
+          let b : Reached p (n .lines) ≡ Reached p′ (length (τ .way)) = ap (λ (k : Went). k .answer) a in
           let pe : p ≡ p′ = cc in
-          let ne : n ≡ length (τ .way) = cc in
+          let ne : n .lines ≡ length (τ .way) = cc in
           let oe : o′ ≡ pad 16 (τ .memory .outputs) = ap (λ (k : Went). k .outputs) a in
           let ve : v′ ≡ pad 32 (τ .memory .variables) = ap (λ (k : Went). k .variables) a in
           let lt : p < 65536 = omega (arith, w .inside, h .held .good .few-lines) in (

@@ -16,6 +16,7 @@ ghost use Rattle.cycle.specs.Moves.{rowAfter, Moves};
 ghost use Rattle.semantics.specs.Advances.{cycleAnswer};
 ghost use Rattle.cycle.specs.Ran.{Checked, went, ranFor};
 use answers::Advanced;
+use answers::Counts;
 use answers::Cycled;
 use answers::Refusal;
 use answers::State;
@@ -69,15 +70,15 @@ pub fn follow_from(
     )
 }
 
-// A performed cycle: the wait reached, and the slots. No line of an opened image is that high.
+// A performed cycle: the wait reached, what was counted, and the slots. No line of an opened image is that high.
 fn performed(
     s: State,
     p: u32,
-    n: u32,
+    counts: Counts,
     outputs: [i32; limit::OUTPUTS],
     variables: [i32; limit::VARIABLES],
 ) -> Advanced
-    ensures { λ a. ⌜ (p < 65536 → a ≡ record { state = record { place = p; outputs = outputs; variables = variables }; answer = Performed n }) ⌝ }
+    ensures { λ a. ⌜ (p < 65536 → a ≡ record { state = record { place = p; outputs = outputs; variables = variables }; answer = Performed counts }) ⌝ }
 {
     if LAST < p {
         return refused(s, Refusal::BadState);
@@ -89,7 +90,7 @@ fn performed(
     };
     Advanced {
         state: state,
-        answer: Cycled::Performed(n as usize),
+        answer: Cycled::Performed(counts),
     }
 }
 
@@ -112,7 +113,10 @@ fn run(signature: &[u8], lines: &[u8], code: &[u8], inputs: &[i32], s: State) ->
         &mut variables,
     );
     match f {
-        Followed::Reached(p, n) => performed(s, p, n, outputs, variables),
+        Followed::Reached(p, n) => {
+            let counts = Counts { lines: n as usize };
+            performed(s, p, counts, outputs, variables)
+        }
         Followed::Stopped(q, x) => {
             let at = x as usize;
             refused(s, operator_refusal(q, at))

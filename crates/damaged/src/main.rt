@@ -116,7 +116,7 @@ fn print_row(row: &[i32]) {
 fn print_cycled(answer: Cycled) {
     io::write_all(STDOUT_FILENO, b" cycle");
     match answer {
-        Cycled::Performed(n) => print_number(n),
+        Cycled::Performed(counts) => print_number(counts.lines),
         Cycled::NotPerformed(r) => print_refusal(r),
     }
 }

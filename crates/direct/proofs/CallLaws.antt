@@ -13,6 +13,7 @@ use lib.ListN.{length, getD, take, drop, length-map, length-take}
 use lib.IntN.{ℤ, pos}
 use lib.Dec.{eqb, ltb, leb}
 use Rattle.answers.specs.declared.State.{State}
+use Rattle.answers.specs.declared.Counts.{Counts}
 use Rattle.answers.specs.declared.Cycled.the-variants.{Performed, NotPerformed}
 use Rattle.answers.specs.declared.Refusal.{Refusal}
 use Rattle.answers.specs.declared.Refusal.the-variants.{BadRow, BadState}
@@ -238,7 +239,7 @@ module _ (p : Process) (s : State) (f : fitsText p s ≡ true) where
         let c = w .statements in
         omega arith
 
-    pub reached-advances : (x k : ℕ) (o′ v′ : List ℤ) → Stands Cycle (Reached x k) o′ v′ → length o′ ≡ length (p .outputs) → length v′ ≡ length (p .variables)
+    pub reached-advances : (x : ℕ) (k : Counts) (o′ v′ : List ℤ) → Stands Cycle (Reached x (k .lines)) o′ v′ → length o′ ≡ length (p .outputs) → length v′ ≡ length (p .variables)
         → (a : Advanced) (row : List ℤ) → a ≡ record { state = Made x o′ v′; answer = Performed k } → row ≡ take (length o) (o′ ++ drop (length (p .outputs)) (s .outputs))
         → Advances (cycled p (keptOf p s) (callOf i o)) a row
     unfolding keptOf concluded
@@ -250,7 +251,7 @@ module _ (p : Process) (s : State) (f : fitsText p s ≡ true) where
           row = q ∙ made-row o′ a;
         })
 
-    pub passed-advances : (k : ℕ) (o′ v′ : List ℤ) → Stands Cycle (Passed k) o′ v′ → length o′ ≡ length (p .outputs) → length v′ ≡ length (p .variables)
+    pub passed-advances : (k : Counts) (o′ v′ : List ℤ) → Stands Cycle (Passed (k .lines)) o′ v′ → length o′ ≡ length (p .outputs) → length v′ ≡ length (p .variables)
         → (a : Advanced) (row : List ℤ) → a ≡ record { state = Made 512 o′ v′; answer = Performed k } → row ≡ take (length o) (o′ ++ drop (length (p .outputs)) (s .outputs))
         → Advances (cycled p (keptOf p s) (callOf i o)) a row
     unfolding keptOf concluded
@@ -309,10 +310,10 @@ module _ (p : Process) (s : State) (f : fitsText p s ≡ true) (w : WellFormed p
   variables-count e = e ∙ (part-length (s .variables) m 32 (variables-long p s f) (let h = w .variables in omega arith) ∙ vc)
 
   -- what `performed` makes at the place x
-  abbrev Performs : ℕ → ℕ → Advanced → List ℤ → Type 0
+  abbrev Performs : ℕ → Counts → Advanced → List ℤ → Type 0
   Performs x k a row = x < 65536 → length o ≤ 16 → (a ≡ record { state = Back x; answer = Performed k }) × (row ≡ take (length o) (take 0 (s .outputs) ++ (o′ ++ drop (n - 0) (drop 0 (s .outputs)))))
 
-  pub run-passed : (r : Progress) (k : ℕ) (a : Advanced) (row : List ℤ) → Stands Ran r o′ v′ → r ≡ Passed k → Performs 512 k a row
+  pub run-passed : (r : Progress) (k : Counts) (a : Advanced) (row : List ℤ) → Stands Ran r o′ v′ → r ≡ Passed (k .lines) → Performs 512 k a row
       → length o′ ≡ length (take (n - 0) (drop 0 (s .outputs))) → length v′ ≡ length (take (m - 0) (drop 0 (s .variables))) → Advances (cycled p (keptOf p s) (callOf i o)) a row
   run-passed r k a row t e q x y =
       let u = q (omega arith) few in
@@ -321,11 +322,11 @@ module _ (p : Process) (s : State) (f : fitsText p s ≡ true) (w : WellFormed p
       (u .0 ∙ ap (λ (z : State). record { state = z; answer = Performed k }) (back 512))
       (u .1 ∙ ap (λ (z : List ℤ). take (length o) z) (b ∙ ap (λ (j : ℕ). o′ ++ drop j (s .outputs)) oc))
 
-  pub run-reached : (r : Progress) (z k : ℕ) (a : Advanced) (row : List ℤ) → Stands Ran r o′ v′ → r ≡ Reached z k → Performs z k a row
+  pub run-reached : (r : Progress) (z : ℕ) (k : Counts) (a : Advanced) (row : List ℤ) → Stands Ran r o′ v′ → r ≡ Reached z (k .lines) → Performs z k a row
       → length o′ ≡ length (take (n - 0) (drop 0 (s .outputs))) → length v′ ≡ length (take (m - 0) (drop 0 (s .variables))) → Advances (cycled p (keptOf p s) (callOf i o)) a row
   run-reached r z k a row t e q x y =
       let t′ = rw (ran, e) at t in
-      let u = q (reached-small p s f w i o room z k o′ v′ t′) few in
+      let u = q (reached-small p s f w i o room z (k .lines) o′ v′ t′) few in
       let b = part-back (s .outputs) o′ n in
       reached-advances p s f w i o room z k o′ v′ t′ (outputs-count x) (variables-count y) a row
       (u .0 ∙ ap (λ (y : State). record { state = y; answer = Performed k }) (back z))

@@ -18,6 +18,7 @@ use crate::RowCheck;
 use crate::checks::row_check;
 use crate::checks::state_check;
 use answers::Advanced;
+use answers::Counts;
 use answers::Cycled;
 use answers::Refusal;
 use answers::State;
@@ -44,17 +45,17 @@ fn write_row(outputs: &[i32; limit::OUTPUTS], row: &mut [i32])
     }
 }
 
-// A performed cycle: the place, the slots, the output row. The two tests hold for no accepted text.
+// A performed cycle: the place, what was counted, the slots, the output row. The two tests hold for no accepted text.
 fn performed(
     s: State,
     p: usize,
-    n: usize,
+    counts: Counts,
     outputs: [i32; limit::OUTPUTS],
     variables: [i32; limit::VARIABLES],
     row: &mut [i32],
 ) -> Advanced
     ensures { λ a. ⌜ (p < 65536 → length (now (row .entry)) ≤ 16
-        → (a ≡ record { state = record { place = p; outputs = outputs; variables = variables }; answer = Performed n }) × (now (row .exit) ≡ take (length (now (row .entry))) outputs)) ⌝ }
+        → (a ≡ record { state = record { place = p; outputs = outputs; variables = variables }; answer = Performed counts }) × (now (row .exit) ≡ take (length (now (row .entry))) outputs)) ⌝ }
 {
     if limit::OUTPUTS < row.len() {
         return refused(s, Refusal::BadState);
@@ -70,7 +71,7 @@ fn performed(
     };
     Advanced {
         state: state,
-        answer: Cycled::Performed(n),
+        answer: Cycled::Performed(counts),
     }
 }
 
@@ -109,8 +110,14 @@ fn run(
         &mut variables[0..variable_count],
     );
     match r {
-        Progress::Passed(n) => performed(s, limit::BEGINNING, n, outputs, variables, row),
-        Progress::Reached(p, n) => performed(s, p, n, outputs, variables, row),
+        Progress::Passed(n) => {
+            let counts = Counts { lines: n };
+            performed(s, limit::BEGINNING, counts, outputs, variables, row)
+        }
+        Progress::Reached(p, n) => {
+            let counts = Counts { lines: n };
+            performed(s, p, counts, outputs, variables, row)
+        }
         Progress::Refused(q, x) => refused(s, operator_refusal(q, x)),
     }
 }

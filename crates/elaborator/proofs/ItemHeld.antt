@@ -11,12 +11,12 @@ use lib.ListN.{length, getD}
 use lib.IntN.{pos}
 use borrow.Author.Tests.{lt-ltb, le-leb, ne-eqb}
 use Rattle.grammar.specs.Token.{Token}
-use Rattle.codes.specs.Token.{NAME, NUMBER, ZERO, ONE}
+use Rattle.codes.specs.Token.{oneOf, NAME, NUMBER, ZERO, ONE}
 use Rattle.grammar.specs.Tree.{Mode, input, output-port, variable-mode, Text}
 use Rattle.grammar.specs.Reader.{choose}
 use Rattle.grammar.specs.Limits.{Each}
 use Rattle.grammar.proofs.Each.{each-at}
-use Rattle.language.specs.Bytes.{between}
+use Rattle.language.specs.Bytes.{fixed}
 use Rattle.language.specs.Words.{value}
 use Rattle.language.specs.Lists.{filter}
 use Rattle.language.specs.Declarations.{Decl, scopeFor, declared, find, isInput, isOutput, isVariable, isClock, isData}
@@ -85,7 +85,7 @@ module _ (Δ : List Decl) (c : Option Token) (slots : List ℕ) (S : SlotsIn Δ 
 
 -- '0' and '1' by kind and by value
 bit-op : (text : List ℕ) (x : Token) (k : ℕ) → Valued text x → IsBit x → k ≡ x .kind → op 2 (pos (within (choose (eqb k 4) 1 0))) ≡ op 2 (bitArg (eqb (x .value) 1))
-unfolding tokenValue between
+unfolding tokenValue oneOf fixed
 bit-op text x k w (inl z) e = let h : x .value ≡ 0 = w .value ∙ rw z in rw (e, z, h)
 bit-op text x k w (inr o) e = let h : x .value ≡ 1 = w .value ∙ rw o in rw (e, o, h)
 

@@ -11,7 +11,7 @@ use lib.Seq.{sets-eq, take-all, take-at}
 use lib.IntN.{ℤ, pos}
 use borrow.Author.Tests.{ltb-true, ltb-false, lt-ltb, le-leb}
 use Rattle.grammar.specs.Token.{Token}
-use Rattle.codes.specs.Token.{NUMBER, ZERO, ONE}
+use Rattle.codes.specs.Token.{oneOf, NUMBER, ZERO, ONE}
 use Rattle.grammar.specs.Tree as T
 use Rattle.grammar.specs.Tree.{input, output-port, variable-mode, Init, without, integer-literal, logic-literal, Group, Text}
 use Rattle.grammar.specs.Limits.{Each, initNumbers, groupNumbers, bodyExprs, exprsNumbers, textNumbers, WithinLimits}
@@ -19,7 +19,7 @@ use Rattle.grammar.specs.Reader.{choose}
 use Rattle.grammar.proofs.Each.{each-at, each-join, each-split}
 use Rattle.design.specs.Types.{Ty, std-logic, integer, typeByte}
 use Rattle.design.specs.Process.{sourceTypes, slotTypes, initials, WellFormed}
-use Rattle.language.specs.Bytes.{between}
+use Rattle.language.specs.Bytes.{fixed}
 use Rattle.language.specs.Words.{value}
 use Rattle.language.specs.Lists.{filter}
 use Rattle.language.specs.Declarations.{Decl, declare, spread, groups, declared, clockOf, scopeFor, scopeOf}
@@ -66,7 +66,7 @@ module _ (text : List ℕ) (ts : List Token) (kinds starts sizes : List ℕ) (n 
       rw (a, b, v, le-leb (x .value) 2147483647 m)
 
   bit-value : (k : ℕ) (w : List ℕ) → (k ≡ ZERO) ⊎ (k ≡ ONE) → pos (choose (eqb k 4) 1 0) ≡ bitValue (eqb (tokenValue k w) 1)
-  unfolding tokenValue between bitValue
+  unfolding tokenValue oneOf fixed bitValue
   bit-value k w (inl e) = rw e
   bit-value k w (inr e) = rw e
 

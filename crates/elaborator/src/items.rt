@@ -138,7 +138,7 @@ fn at_most(k: usize) -> usize
     limit::TEXT
 }
 
-// The operations of all items, in their order.
+// The operations of all items, in their order. Both numbers of an operation are found before either is stored: what a name stands for is then read once.
 pub fn operations(
     text: &[u8],
     starts: &[u16; limit::TEXT],
@@ -163,8 +163,10 @@ pub fn operations(
     while j < n {
         let c = codes[j];
         let i = wide(indices[j]);
-        ops[j] = code_at(owners, decls, d, c, i);
-        args[j] = whole(arg_at(text, starts, sizes, kinds, owners, decls, d, slots, c, i));
+        let op = code_at(owners, decls, d, c, i);
+        let arg = arg_at(text, starts, sizes, kinds, owners, decls, d, slots, c, i);
+        ops[j] = op;
+        args[j] = whole(arg);
         j += 1;
     }
 }

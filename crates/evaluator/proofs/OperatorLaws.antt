@@ -15,47 +15,47 @@ use Rattle.design.proofs.Types.{sameType-eq, sameType-refl}
 use Rattle.semantics.specs.Evaluation.{applyUnary, applyBinary}
 use Rattle.semantics.proofs.Basic.{some-injective}
 use Rattle.codes.specs.Operation.{unaryFor, binaryFor, countOr, operandsOf}
-use Rattle.codes.specs.Types.{tagOf, typeOfTag, unaryTypeFor, binaryTypeFor}
-use Rattle.codes.proofs.OperationLaws.{tag-type}
-use Rattle.codes.proofs.TypeLaws.{unary-tag, binary-tag}
+use Rattle.codes.specs.Types.{tagOf, typeOfTag, resultFor}
+use Rattle.codes.proofs.OperationLaws.{unary-is, binary-is}
+use Rattle.codes.proofs.TypeLaws.{tag-type, unary-result, binary-result}
 use Rattle.format.specs.Code.{Operation, applying, withType}
-use Rattle.signed.specs.Signed.{checkedOf}
-use Rattle.operators.specs.Operators.{judged, unaryBy, binaryBy, unaryOn, binaryOn, Results}
+use Rattle.operators.specs.Operators.{judged, unaryBy, binaryBy, unaryOn, binaryOn}
 use Rattle.evaluator.specs.Position.{ROOM, nextOf, fetchAt}
 use Rattle.evaluator.specs.Value.{Cell, machineFor, found, evaluatedOf}
-use Rattle.evaluator.specs.Operators.{valuedOf, unaryOf, binaryOf, unaryNext, binaryNext}
+use Rattle.evaluator.specs.Operators.{unaryOf, binaryOf, unaryNext, binaryNext}
+use Rattle.evaluator.proofs.StackLaws.{valuedOf}
 
 -- a result with its type, or 13 where it has none
-result-told : (w : Option ExprTy) (v : Out ℤ) (r : ℕ) → ((t : ExprTy) → w ≡ some t → r ≡ tagOf t) → valuedOf r (checkedOf (judged w v)) ≡ evaluatedOf (withType w v)
+result-told : (w : Option ExprTy) (v : Out ℤ) (r : ℕ) → ((t : ExprTy) → w ≡ some t → r ≡ tagOf t) → valuedOf r (judged w v) ≡ evaluatedOf (withType w v)
 unfolding withType bind
 result-told none v r f = refl
 result-told (some t) (fine z) r f = ap (λ (k : ℕ). found k z) (f t refl)
 result-told (some t) (fault q) r f = refl
 
 -- an operator of one operand of the type u, whose number is t
-pub unary-told : (k t r : ℕ) (u : ExprTy) (x : ℤ) → t ≡ tagOf u → Results k t r → valuedOf r (checkedOf (unaryOn k t x)) ≡ evaluatedOf (unaryOf (unaryFor k) (u, x))
+pub unary-told : (k t r : ℕ) (u : ExprTy) (x : ℤ) → t ≡ tagOf u → r ≡ resultFor k t → valuedOf r (unaryOn k t x) ≡ evaluatedOf (unaryOf (unaryFor k) (u, x))
 unfolding unaryOn
 unary-told k t r u x e h = rw (e, tag-type u) (go (unaryFor k) refl)
   where
-    typed : (o : Unary) (w : ExprTy) → unaryFor k ≡ some o → unaryType o u ≡ some w → unaryTypeFor k t ≡ some w
-    typed o w p q = ap (λ (z : ℕ). unaryTypeFor k z) e ∙ (unary-tag k o p u ∙ q)
+    typed : (o : Unary) (w : ExprTy) → unaryFor k ≡ some o → unaryType o u ≡ some w → r ≡ tagOf w
+    typed o w p q = h ∙ rw (e, unary-is k o p) (unary-result o u w q)
 
-    go : (b : Option Unary) → unaryFor k ≡ b → valuedOf r (checkedOf (unaryBy b (some u) x)) ≡ evaluatedOf (unaryOf b (u, x))
+    go : (b : Option Unary) → unaryFor k ≡ b → valuedOf r (unaryBy b (some u) x) ≡ evaluatedOf (unaryOf b (u, x))
     go none p = refl
-    go (some o) p = result-told (unaryType o u) (applyUnary o u x) r (λ w q. h .one w (typed o w p q))
+    go (some o) p = result-told (unaryType o u) (applyUnary o u x) r (λ w q. typed o w p q)
 
 -- an operator of two operands of the type u
-pub binary-told : (k t r : ℕ) (u : ExprTy) (x y : ℤ) → t ≡ tagOf u → Results k t r
-    → valuedOf r (checkedOf (binaryOn k t x y)) ≡ evaluatedOf (binaryOf (binaryFor k) (u, x) (u, y))
+pub binary-told : (k t r : ℕ) (u : ExprTy) (x y : ℤ) → t ≡ tagOf u → r ≡ resultFor k t
+    → valuedOf r (binaryOn k t x y) ≡ evaluatedOf (binaryOf (binaryFor k) (u, x) (u, y))
 unfolding binaryOn
 binary-told k t r u x y e h = rw (e, tag-type u) (go (binaryFor k) refl)
   where
-    typed : (o : Binary) (w : ExprTy) → binaryFor k ≡ some o → binaryType o u ≡ some w → binaryTypeFor k t ≡ some w
-    typed o w p q = ap (λ (z : ℕ). binaryTypeFor k z) e ∙ (binary-tag k o p u ∙ q)
+    typed : (o : Binary) (w : ExprTy) → binaryFor k ≡ some o → binaryType o u ≡ some w → r ≡ tagOf w
+    typed o w p q = h ∙ rw (e, binary-is k o p) (binary-result o u w q)
 
-    go : (b : Option Binary) → binaryFor k ≡ b → valuedOf r (checkedOf (binaryBy b (some u) x y)) ≡ evaluatedOf (binaryOf b (u, x) (u, y))
+    go : (b : Option Binary) → binaryFor k ≡ b → valuedOf r (binaryBy b (some u) x y) ≡ evaluatedOf (binaryOf b (u, x) (u, y))
     go none p = refl
-    go (some o) p = rw (sameType-refl u) (result-told (binaryType o u) (applyBinary o u x y) r (λ w q. h .two w (typed o w p q)))
+    go (some o) p = rw (sameType-refl u) (result-told (binaryType o u) (applyBinary o u x y) r (λ w q. typed o w p q))
 
 -- one type for each number
 pub tag-one : (u w : ExprTy) → tagOf u ≡ tagOf w → u ≡ w

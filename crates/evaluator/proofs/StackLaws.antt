@@ -16,13 +16,15 @@ use mir.Facts.{toZ-ofZ}
 use Rattle.design.specs.Types.{ExprTy}
 use Rattle.design.specs.Expression.{Unary, Binary, Out, fine, fault}
 use Rattle.codes.specs.Types.{tagOf}
-use Rattle.codes.proofs.OperationLaws.{tag-type}
+use Rattle.codes.proofs.TypeLaws.{tag-type}
+use Rattle.operators.specs.Operators.{Applied}
 use Rattle.evaluator.specs.Position.{ROOM, Next, go, stop, pushed, pushedWithin, finish}
 use Rattle.evaluator.specs.Value.{Cell, found, evaluatedOf}
 use Rattle.evaluator.specs.Operators.{unaryOf, binaryOf, unaryNext, binaryNext}
 use Rattle.evaluator.specs.Stack.{typeOr, typeOn, cellsOf, Room, Says}
 use Rattle.evaluator.specs.declared.Found.{Found}
-use Rattle.evaluator.specs.declared.Evaluated.the-variants.{Value, Fault}
+use Rattle.evaluator.specs.declared.Evaluated.{Evaluated}
+use Rattle.evaluator.specs.declared.Evaluated.the-variants.{Fault}
 use Rattle.evaluator.specs.declared.Transition.{Transition}
 use Rattle.evaluator.specs.declared.Transition.the-variants.{Go, Stop}
 
@@ -60,10 +62,10 @@ kinds-push t i u h e f k l = go (decLt k i)
     go (yes m) = rw (getD-set-other t i k u 0 (λ q. omega arith)) (f k m)
     go (no m) = let z : k ≡ i = omega arith in rw (z, getD-set-same t i u 0 h) e
 
--- a value put at element i, the number through a local
-put-value : (a : List ℤ) (t : List ℕ) (i : ℕ) (v : ℤ) (u at : ℕ) (w : ExprTy) (z : ℤ) → u ≡ tagOf w → v ≡ z → SFits w32 v → Room a t i → i < ROOM
-    → Says (set a i (toZ w32 (ofZ w32 v))) (set t i u) (Go (i + 1) at) (go at ((w, z) ∷ cellsOf a t i))
-put-value a t i v u at w z p q f m l =
+-- a value put at element i
+put-value : (a : List ℤ) (t : List ℕ) (i : ℕ) (v : ℤ) (u at : ℕ) (w : ExprTy) (z : ℤ) → u ≡ tagOf w → v ≡ z → Room a t i → i < ROOM
+    → Says (set a i v) (set t i u) (Go (i + 1) at) (go at ((w, z) ∷ cellsOf a t i))
+put-value a t i v u at w z p q m l =
     let y : typeOn u ≡ w = ap typeOn p ∙ tag-on w in
     record {
       room =
@@ -73,16 +75,21 @@ put-value a t i v u at w z p q f m l =
             depth = omega arith;
             kinds = kinds-push t i u (omega (arith, m .tags)) (p ∙ sym (ap tagOf y)) (m .kinds);
           };
-      says = rw (toZ-ofZ f, cells-push a t i v u (omega (arith, m .numbers)) (omega (arith, m .tags)), y, q);
+      says = rw (cells-push a t i v u (omega (arith, m .numbers)) (omega (arith, m .tags)), y, q);
     }
 
 -- an answer for an outcome, put on the stack
+put : (a : List ℤ) (t : List ℕ) (i : ℕ) (v : ℤ) (u at : ℕ) (o : Out Cell) → found u v ≡ evaluatedOf o → Room a t i → i < ROOM
+    → Says (set a i v) (set t i u) (Go (i + 1) at) (pushed o at (cellsOf a t i))
+put a t i v u at (fine (w, z)) q m l =
+    let e : _≡_ {A = Found} (record { kind = u; value = v }) (record { kind = tagOf w; value = z }) = cc in
+    put-value a t i v u at w z (ap (λ (r : Found). r .kind) e) (ap (λ (r : Found). r .value) e) m l
+put a t i v u at (fault p) q m l = absurd (let z : _≡_ {A = ℕ} 0 1 = cc in omega arith)
+
+-- the number through a local
 pub kept : (a : List ℤ) (t : List ℕ) (i : ℕ) (v : ℤ) (u at : ℕ) (o : Out Cell) → found u v ≡ evaluatedOf o → SFits w32 v → Room a t i → i < ROOM
     → Says (set a i (toZ w32 (ofZ w32 v))) (set t i u) (Go (i + 1) at) (pushed o at (cellsOf a t i))
-kept a t i v u at (fine (w, z)) q f m l =
-    let e : _≡_ {A = Found} (record { kind = u; value = v }) (record { kind = tagOf w; value = z }) = cc in
-    put-value a t i v u at w z (ap (λ (r : Found). r .kind) e) (ap (λ (r : Found). r .value) e) f m l
-kept a t i v u at (fault p) q f m l = absurd (let z : _≡_ {A = ℕ} 0 1 = cc in omega arith)
+kept a t i v u at o q f m l = rw (toZ-ofZ f) (put a t i v u at o q m l)
 
 -- a stop changes nothing
 pub stopped : (a : List ℤ) (t : List ℕ) (n q : ℕ) {o : Next Cell} → Room a t n → stop q ≡ o → Says a t (Stop q) o
@@ -91,6 +98,26 @@ stopped a t n q m e = record { room = record { numbers = m .numbers; tags = m .t
 pub fault-pushed : (q at : ℕ) (o : Out Cell) (st : List Cell) → Fault q ≡ evaluatedOf o → stop q ≡ pushed o at st
 fault-pushed q at (fine x) st e = absurd (let z : _≡_ {A = ℕ} 0 1 = cc in omega arith)
 fault-pushed q at (fault p) st e = let z : q ≡ p = cc in rw z
+
+-- what an operator gives, as a value of the type with the number t
+abbrev pub valuedOf : ℕ → Out ℤ → Evaluated
+valuedOf t (fine z) = found t z
+valuedOf t (fault q) = Fault q
+
+-- an operator that gives w, applied at element i; with its type's number u that is the outcome o
+pub went : {b : List ℤ} {r : ℕ} {n : Next Cell} (w : Out ℤ) (a : List ℤ) (t : List ℕ) (i u at : ℕ) (o : Out Cell) → n ≡ pushed o at (cellsOf a t i)
+    → valuedOf u w ≡ evaluatedOf o → Applied w a i b r → r ≡ 0 → Room a t i → i < ROOM → Says b (set t i u) (Go (i + 1) at) n
+went w a t i u at o h q p e m l = let v = p .value e in saying h (rw (v .2) (put a t i (v .0) u at o (rw (v .1) at q) m l))
+
+pub halted : {b : List ℤ} {r : ℕ} {n : Next Cell} (w : Out ℤ) (a : List ℤ) (t : List ℕ) (i u at : ℕ) (o : Out Cell) → n ≡ pushed o at (cellsOf a t i)
+    → valuedOf u w ≡ evaluatedOf o → Applied w a i b r → (r ≡ 0 → ⊥) → Room a t i → Says b t (Stop r) n
+halted {r = r} w a t i u at o h q p e m =
+    let v = p .refused e in
+    saying h (rw (v .1) (stopped a t i r m (fault-pushed r at o (cellsOf a t i) (rw (v .0) at q))))
+
+-- arrays of which nothing is in use, whatever they hold
+pub room-empty : {a : List ℤ} {t : List ℕ} → length a ≡ ROOM → length t ≡ ROOM → Room a t 0
+room-empty n t = record { numbers = n; tags = t; depth = omega arith; kinds = λ k l. absurd (omega arith) }
 
 -- with fewer values in use
 pub room-less : {a : List ℤ} {t : List ℕ} (n m : ℕ) → m ≤ n → Room a t n → Room a t m

@@ -10,13 +10,9 @@ use lib.Dec.{leb}
 use Rattle.design.specs.Types.{Ty}
 use Rattle.design.specs.Expression.{Leaf, Unary, Binary, Out, fine, fault, nth, plainly}
 use Rattle.semantics.specs.Evaluation.{values}
-use Rattle.signed.specs.declared.Checked.{Checked}
-use Rattle.signed.specs.declared.Checked.the-variants.{Value, Refused}
 use Rattle.format.specs.Code.{Machine, withType, typed}
 use Rattle.evaluator.specs.Position.{Next, stop, pushed}
-use Rattle.evaluator.specs.Value.{Cell, found}
-use Rattle.evaluator.specs.declared.Evaluated.{Evaluated}
-use Rattle.evaluator.specs.declared.Evaluated.the-variants.{Fault}
+use Rattle.evaluator.specs.Value.{Cell}
 
 -- the typed machine's operators are the same for all inputs and variables
 abbrev pub operators : Machine Cell
@@ -31,11 +27,6 @@ unaryOf (some o) x = operators .ofUnary o x
 abbrev pub binaryOf : Option Binary → Cell → Cell → Out Cell
 binaryOf none x y = fault 13
 binaryOf (some o) x y = operators .ofBinary o x y
-
--- an operator's answer, as a value of the type with the number t
-abbrev pub valuedOf : ℕ → Checked → Evaluated
-valuedOf t (Value z) = found t z
-valuedOf t (Refused q) = Fault q
 
 -- an operator of one operand on the stack; the byte k follows
 abbrev pub unaryNext : Option Unary → ℕ → List Cell → Next Cell

@@ -8,12 +8,11 @@ ghost use Rattle.design.specs.Expression.{Out};
 ghost use Rattle.codes.specs.Operation.{unaryFor, binaryFor};
 ghost use Rattle.evaluator.specs.Position.{ROOM, nextOf, fetchAt, pushed, pushedWithin};
 ghost use Rattle.evaluator.specs.Value.{Cell, machineFor, codeValue, partValue, evaluatedOf};
-ghost use Rattle.evaluator.specs.Operators.{valuedOf, unaryNext, binaryNext};
+ghost use Rattle.evaluator.specs.Operators.{unaryNext, binaryNext};
 ghost use Rattle.evaluator.specs.Stack.{cellsOf, Room, Says};
 use codes::limit;
 use codes::operation;
 use codes::refusal;
-use signed::Checked;
 
 // The value of an expression: the number of its type, and its number.
 pub struct Found {
@@ -75,16 +74,6 @@ fn push(
     keep(stack, tags, depth, e, at)
 }
 
-// An operator's answer as a value of the type t.
-fn valued(t: u8, c: Checked) -> Evaluated
-    ensures { λ r. ⌜ r ≡ valuedOf t c ⌝ }
-{
-    match c {
-        Checked::Value(v) => Evaluated::Value(Found { kind: t, value: v }),
-        Checked::Refused(q) => Evaluated::Fault(q),
-    }
-}
-
 // Applies an operator of one operand.
 fn apply_unary(
     stack: &mut [i32; limit::ITEMS],
@@ -101,9 +90,12 @@ fn apply_unary(
     }
     let i = depth - 1;
     let t = tags[i];
-    let c = operators::unary(op, t, stack[i]);
-    let e = valued(operators::result(op, t), c);
-    keep(stack, tags, i, e, at)
+    let q = operators::apply_unary(stack, i, op, t);
+    if q != 0 {
+        return Transition::Stop(q);
+    }
+    tags[i] = operation::result_type(op, t);
+    Transition::Go(i + 1, at)
 }
 
 // Applies an operator of two operands; the left one lies below the right one.
@@ -126,9 +118,12 @@ fn apply_binary(
     if t != tags[j] {
         return Transition::Stop(refusal::BAD_LINE);
     }
-    let c = operators::binary(op, t, stack[i], stack[j]);
-    let e = valued(operators::result(op, t), c);
-    keep(stack, tags, i, e, at)
+    let q = operators::apply_binary(stack, i, op, t);
+    if q != 0 {
+        return Transition::Stop(q);
+    }
+    tags[i] = operation::result_type(op, t);
+    Transition::Go(i + 1, at)
 }
 
 // Performs the operation at a byte.
@@ -208,6 +203,7 @@ fn run(
     requires { ⌜ Room (now stack) (now tags) 0 ⌝ }
     ensures { λ r. ⌜ r ≡ evaluatedOf
         (codeValue (machineFor (now («input_types» .entry)) (now («variable_types» .entry)) (now (inputs .entry)) (now (variables .entry))) (now (code .entry))) ⌝ }
+    ensures { λ _. ⌜ Room (now (stack .exit)) (now (tags .exit)) 0 ⌝ }
 {
     let mut depth: usize = 0;
     let mut at: usize = 0;
@@ -248,7 +244,7 @@ fn run(
 }
 
 // The value of the code of a line: `size` bytes of the code section from the byte `start` on, over the input row and the variables with their type
-// bytes.
+// bytes. The stack and its tags are lent, whatever they hold: clearing them for every line costs as much as an operation.
 pub fn evaluate(
     code: &[u8],
     start: usize,
@@ -257,9 +253,13 @@ pub fn evaluate(
     input_types: &[u8],
     variables: &[i32],
     variable_types: &[u8],
+    stack: &mut [i32; limit::ITEMS],
+    tags: &mut [u8; limit::ITEMS],
 ) -> Evaluated
+    requires { ⌜ Room (now stack) (now tags) 0 ⌝ }
     ensures { λ r. ⌜ r ≡ evaluatedOf
         (partValue (machineFor (now («input_types» .entry)) (now («variable_types» .entry)) (now (inputs .entry)) (now (variables .entry))) (now (code .entry)) start size) ⌝ }
+    ensures { λ _. ⌜ Room (now (stack .exit)) (now (tags .exit)) 0 ⌝ }
 {
     if code.len() < start {
         return Evaluated::Fault(refusal::BAD_LINE);
@@ -268,15 +268,13 @@ pub fn evaluate(
         return Evaluated::Fault(refusal::BAD_LINE);
     }
     let end = start + size;
-    let mut stack = [0i32; limit::ITEMS];
-    let mut tags = [0u8; limit::ITEMS];
     run(
         &code[start..end],
         inputs,
         input_types,
         variables,
         variable_types,
-        &mut stack,
-        &mut tags,
+        stack,
+        tags,
     )
 }

@@ -1,6 +1,6 @@
 -- The ways through a statement, each with its test; what comes of a statement's effect; and the numbers that a block's rows lie between. Assumes nothing.
 use Prim.Native.Nat.{ℕ, _+_, _≤_, _<_}
-use mathlib.Core.Path.{_≡_, refl, sym, _∙_}
+use mathlib.Core.Path.{_≡_, refl, sym, ap, _∙_}
 use mathlib.Core.Bool.{Bool, true, false, cond, _&&_}
 use mathlib.Core.Option.{Option}
 use mathlib.Core.List.{List, [], _∷_, _++_}
@@ -14,11 +14,12 @@ use Rattle.design.specs.Statement.{Stmt}
 use Rattle.semantics.specs.Evaluation.{isOne}
 use Rattle.semantics.specs.Equations.{start}
 use Rattle.semantics.proofs.Basic.{and-left, and-right, false-true}
-use Rattle.signed.specs.Signed.{checkedOf}
-use Rattle.signed.specs.declared.Checked.{Checked}
-use Rattle.signed.specs.declared.Checked.the-variants.{Value, Refused}
 use Rattle.ir.specs.Entries.{Single}
 use Rattle.ir.specs.Arrays.{Row, rowIn}
+use Rattle.operations.specs.Machine.{found, evaluatedOf}
+use Rattle.operations.specs.declared.Found.{Found}
+use Rattle.operations.specs.declared.Evaluated.{Evaluated}
+use Rattle.operations.specs.declared.Evaluated.the-variants.{Value, Fault}
 use Rattle.execution.specs.Effects.{branchOf, effectOf, effectIn, storedOf, storedIn}
 use Rattle.execution.specs.Holding.{HeldIn, HeldRest, startRest}
 use Rattle.execution.specs.Standing.{run, Stands}
@@ -29,14 +30,14 @@ use Rattle.execution.specs.declared.Progress.the-variants.{Reached, Refu
 use Rattle.execution.proofs.EffectLaws.{Inner, EffectSays, effect-says}
 use Rattle.execution.proofs.BlockLaws.{way-length}
 
--- the outcome that a checked answer tells
-value-told : (E : Out ℤ) (e : Checked) (z : ℤ) → e ≡ checkedOf E → e ≡ Value z → E ≡ fine z
-value-told (fine y) e z p q = let h : Value y ≡ Value z = sym p ∙ q in cc
-value-told (fault x) e z p q = absurd (let h : Refused x ≡ Value z = sym p ∙ q in let n : _≡_ {A = ℕ} 0 1 = cc in omega arith)
+-- the outcome that an evaluation's answer tells
+value-told : (E : Out ℤ) (e : Evaluated) (f : Found) → e ≡ evaluatedOf E → e ≡ Value f → E ≡ fine (f .value)
+value-told (fine y) e f p q = let h : found y ≡ Value f = sym p ∙ q in let z : y ≡ f .value = cc in ap fine z
+value-told (fault x) e f p q = absurd (let h : Fault x ≡ Value f = sym p ∙ q in let n : _≡_ {A = ℕ} 0 1 = cc in omega arith)
 
-fault-told : (E : Out ℤ) (e : Checked) (x : ℕ) → e ≡ checkedOf E → e ≡ Refused x → E ≡ fault x
-fault-told (fine y) e x p q = absurd (let h : Value y ≡ Refused x = sym p ∙ q in let n : _≡_ {A = ℕ} 0 1 = cc in omega arith)
-fault-told (fault y) e x p q = let h : Refused y ≡ Refused x = sym p ∙ q in cc
+fault-told : (E : Out ℤ) (e : Evaluated) (x : ℕ) → e ≡ evaluatedOf E → e ≡ Fault x → E ≡ fault x
+fault-told (fine y) e x p q = absurd (let h : found y ≡ Fault x = sym p ∙ q in let n : _≡_ {A = ℕ} 0 1 = cc in omega arith)
+fault-told (fault y) e x p q = let h : Fault y ≡ Fault x = sym p ∙ q in cc
 
 -- Storing: the row of another kind is as it was; a place that the row has not changes nothing.
 pub other-kind : (k w : ℕ) (l a : List ℤ) → (k ≡ w → ⊥) → l ≡ cond (eqb k w) a l
@@ -71,25 +72,25 @@ module _ (r : Row) (j : ℕ) (E : Out ℤ) (o v : List ℤ) where
       go (fine z) = (refl, (refl, refl))
       go (fault q) = (refl, (refl, refl))
 
-  pub fault-comes : (k q : ℕ) (e : Checked) → k ≡ r .kind → (k ≡ 0 → ⊥) → (k ≡ 4 → ⊥) → e ≡ checkedOf E → e ≡ Refused q → Comes (Refuses q) o v
+  pub fault-comes : (k q : ℕ) (e : Evaluated) → k ≡ r .kind → (k ≡ 0 → ⊥) → (k ≡ 4 → ⊥) → e ≡ evaluatedOf E → e ≡ Fault q → Comes (Refuses q) o v
   fault-comes k q e a h g b d = let z = fault-told E e q b d in rw (z, ← a, ne-eqb k 0 h, ne-eqb k 4 g) (refl, (refl, refl))
 
-  pub branch-comes : (k x n : ℕ) (z : ℤ) (e : Checked) (b : Effect) → k ≡ r .kind → k ≡ 3 → e ≡ checkedOf E → e ≡ Value z → x ≡ r .other → n ≡ r .end
-      → b ≡ branchOf (isOne z) j x n → Comes b o v
+  pub branch-comes : (k x n : ℕ) (z : Found) (e : Evaluated) (b : Effect) → k ≡ r .kind → k ≡ 3 → e ≡ evaluatedOf E → e ≡ Value z → x ≡ r .other → n ≡ r .end
+      → b ≡ branchOf (isOne (z .value)) j x n → Comes b o v
   branch-comes k x n z e b a h c d f g q =
       let y : r .kind ≡ 3 = sym a ∙ h in
       let w = value-told E e z c d in
       rw (y, w, ← f, ← g) (q, (refl, refl))
 
-  pub loop-comes : (k x n : ℕ) (z : ℤ) (e : Checked) (b : Effect) → k ≡ r .kind → k ≡ 5 → e ≡ checkedOf E → e ≡ Value z → x ≡ r .other → n ≡ r .end
-      → b ≡ branchOf (isOne z) j x n → Comes b o v
+  pub loop-comes : (k x n : ℕ) (z : Found) (e : Evaluated) (b : Effect) → k ≡ r .kind → k ≡ 5 → e ≡ evaluatedOf E → e ≡ Value z → x ≡ r .other → n ≡ r .end
+      → b ≡ branchOf (isOne (z .value)) j x n → Comes b o v
   loop-comes k x n z e b a h c d f g q =
       let y : r .kind ≡ 5 = sym a ∙ h in
       let w = value-told E e z c d in
       rw (y, w, ← f, ← g) (q, (refl, refl))
 
-  pub store-comes : (k n : ℕ) (z : ℤ) (e : Checked) (o′ v′ : List ℤ) → k ≡ r .kind → (k ≡ 0 → ⊥) → (k ≡ 4 → ⊥) → (k ≡ 3 → ⊥) → (k ≡ 5 → ⊥) → e ≡ checkedOf E → e ≡ Value z
-      → n ≡ r .target → o′ ≡ cond (eqb k 1) (set o n z) o → v′ ≡ cond (eqb k 2) (set v n z) v → Comes (Performed (j + 1) (j + 1)) o′ v′
+  pub store-comes : (k n : ℕ) (z : Found) (e : Evaluated) (o′ v′ : List ℤ) → k ≡ r .kind → (k ≡ 0 → ⊥) → (k ≡ 4 → ⊥) → (k ≡ 3 → ⊥) → (k ≡ 5 → ⊥) → e ≡ evaluatedOf E → e ≡ Value z
+      → n ≡ r .target → o′ ≡ cond (eqb k 1) (set o n (z .value)) o → v′ ≡ cond (eqb k 2) (set v n (z .value)) v → Comes (Performed (j + 1) (j + 1)) o′ v′
   store-comes k n z e o′ v′ a h g f i b d p s u =
       let w = value-told E e z b d in
       rw (w, ← a, ne-eqb k 0 h, ne-eqb k 4 g, ne-eqb k 3 f, ne-eqb k 5 i, ← p) (refl, (s, u))

@@ -20,8 +20,8 @@ use crate::Effect;
 use crate::Progress;
 use codes::kind;
 use codes::statement as row;
+use operations::Evaluated;
 use operations::evaluation::evaluate;
-use signed::Checked;
 
 // The k-th number of the rows; 0 where there is none.
 pub fn entry(rows: &[u16], k: usize) -> usize
@@ -82,8 +82,9 @@ fn perform(
     let to = entry(rows, row::ROW * at + row::TO);
     let e = evaluate(codes, args, from, to, inputs, variables);
     match e {
-        Checked::Refused(q) => Effect::Refuses(q),
-        Checked::Value(v) => {
+        Evaluated::Fault(q) => Effect::Refuses(q),
+        Evaluated::Value(f) => {
+            let v = f.value;
             if k == kind::IF {
                 return branch(
                     at,

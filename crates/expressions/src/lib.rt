@@ -170,7 +170,7 @@ fn factor(
 }
 
 // A further factor of a product: its operator, *, /, mod or rem, and a factor.
-fn scaled(
+fn multiplied(
     kinds: &[u8; limit::TEXT],
     long: &[u8; limit::TEXT],
     n: usize,
@@ -204,7 +204,7 @@ fn product(
 {
     let mut a = factor(kinds, long, n, q, parens, codes, tokens);
     while more_factors(kinds, n, a) {
-        a = scaled(kinds, long, n, a, parens, codes, tokens);
+        a = multiplied(kinds, long, n, a, parens, codes, tokens);
     }
     a
 }

@@ -3,7 +3,7 @@
 use Prim.Native.Nat.{ℕ}
 use mathlib.Core.List.{List, [], _∷_}
 use Rattle.grammar.specs.Token.{Token}
-use Rattle.codes.specs.Token.{NAME, NUMBER, ZERO, ONE, LP, RP, SEMI, COLON, COMMA, BECOMES, PLUS, MINUS, EQ, NE, LT, LE, GT, GE, AND, OR, XOR, NOT, TIMES, DIVIDE, MOD, REM}
+use Rattle.codes.specs.Token.{NAME, NUMBER, ZERO, ONE, LP, RP, SEMI, COLON, COMMA, BECOMES, MINUS, EQ, LE, AND, OR, XOR, NOT, adding, multiplying, relational}
 use Rattle.codes.specs.Token.{ENTITY, IS, PORT, END, ARCHITECTURE, OF, BEGIN, PROCESS, IN, OUT, VARIABLE, NULL, WAIT, UNTIL, IF, THEN, ELSE, WHILE, LOOP, STD-LOGIC, INTEGER}
 use Rattle.grammar.specs.Tree.{Expr, number, bit, name, sign, negate, binary, parens, Stmt, output, assign, null, wait, if-then, if-else, while, Body, only, andThen, Init, without, integer-literal, logic-literal, minus, Mode, input, output-port, variable-mode, Group, Text}
 
@@ -90,6 +90,11 @@ textProduction =
     λ _ e _ _ _ ps _ _ _ e′ _ _ a _ o _ _ p vs _ b _ _ _ _ a′ _.
     record { entity = e; ports = ps; entityEnd = e′; arch = a; archOf = o; process = p; vars = vs; body = b; archEnd = a′ }
 
+-- a production for each operator of a class (codes/Token)
+abbrev pub forEach : {M : NonTerminal} → List ℕ → (ℕ → Production M) → List (Production M)
+forEach [] f = []
+forEach (k ∷ l) f = f k ∷ forEach l f
+
 -- The productions of each nonterminal. Where document 01 has "perhaps", "optional" or a repetition, a nonterminal of its own has an empty production.
 unfoldable pub productions : (M : NonTerminal) → List (Production M)
 productions text = textProduction ∷ []
@@ -141,26 +146,14 @@ productions ors = ([] ↠ λ a. a) ∷ (tk item OR ∷ nt relation ∷ nt ors �
 productions xors = ([] ↠ λ a. a) ∷ (tk item XOR ∷ nt relation ∷ nt xors ∷ [] ↠ λ x b f a. f (binary x a b)) ∷ []
 -- "then one of = /= < <= > >="
 productions relation = (nt simple ∷ nt compared ∷ [] ↠ λ a f. f a) ∷ []
-productions compared =
-    ([] ↠ λ a. a) ∷
-    (tk item EQ ∷ nt simple ∷ [] ↠ λ x b a. binary x a b) ∷ (tk item NE ∷ nt simple ∷ [] ↠ λ x b a. binary x a b) ∷
-    (tk item LT ∷ nt simple ∷ [] ↠ λ x b a. binary x a b) ∷ (tk item LE ∷ nt simple ∷ [] ↠ λ x b a. binary x a b) ∷
-    (tk item GT ∷ nt simple ∷ [] ↠ λ x b a. binary x a b) ∷ (tk item GE ∷ nt simple ∷ [] ↠ λ x b a. binary x a b) ∷ []
+productions compared = ([] ↠ λ a. a) ∷ forEach relational (λ k. tk item k ∷ nt simple ∷ [] ↠ λ x b a. binary x a b)
 -- "then + -, with at most one - as sign before the first term"; "a sign covers the whole first term"
 productions simple =
     (nt term ∷ nt terms ∷ [] ↠ λ a f. f a) ∷ (tk item MINUS ∷ nt term ∷ nt terms ∷ [] ↠ λ s a f. f (sign s a)) ∷ []
-productions terms =
-    ([] ↠ λ a. a) ∷
-    (tk item PLUS ∷ nt term ∷ nt terms ∷ [] ↠ λ x b f a. f (binary x a b)) ∷
-    (tk item MINUS ∷ nt term ∷ nt terms ∷ [] ↠ λ x b f a. f (binary x a b)) ∷ []
+productions terms = ([] ↠ λ a. a) ∷ forEach adding (λ k. tk item k ∷ nt term ∷ nt terms ∷ [] ↠ λ x b f a. f (binary x a b))
 -- "*, /, mod and rem on integers, binding tighter than +"
 productions term = (nt factor ∷ nt factors ∷ [] ↠ λ a f. f a) ∷ []
-productions factors =
-    ([] ↠ λ a. a) ∷
-    (tk item TIMES ∷ nt factor ∷ nt factors ∷ [] ↠ λ x b f a. f (binary x a b)) ∷
-    (tk item DIVIDE ∷ nt factor ∷ nt factors ∷ [] ↠ λ x b f a. f (binary x a b)) ∷
-    (tk item MOD ∷ nt factor ∷ nt factors ∷ [] ↠ λ x b f a. f (binary x a b)) ∷
-    (tk item REM ∷ nt factor ∷ nt factors ∷ [] ↠ λ x b f a. f (binary x a b)) ∷ []
+productions factors = ([] ↠ λ a. a) ∷ forEach multiplying (λ k. tk item k ∷ nt factor ∷ nt factors ∷ [] ↠ λ x b f a. f (binary x a b))
 -- "not on a primary"
 productions factor = (nt primary ∷ [] ↠ λ a. a) ∷ (tk item NOT ∷ nt primary ∷ [] ↠ λ x a. negate x a) ∷ []
 -- "A primary is a literal, a name or ( e ): a parenthesised expression is again an expression."

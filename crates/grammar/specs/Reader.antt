@@ -6,7 +6,7 @@ use Prim.Native.Nat.{ℕ, zero, suc, _-_}
 use lib.Dec.{eqb}
 use lib.ListN.{length}
 use Rattle.grammar.specs.Token.{Token}
-use Rattle.codes.specs.Token.{NAME, NUMBER, ZERO, ONE, LP, RP, SEMI, COLON, COMMA, BECOMES, PLUS, MINUS, EQ, NE, LT, LE, GT, GE, AND, OR, XOR, NOT, multiplying}
+use Rattle.codes.specs.Token.{NAME, NUMBER, ZERO, ONE, LP, RP, SEMI, COLON, COMMA, BECOMES, MINUS, LE, AND, OR, XOR, NOT, adding, multiplying, relational}
 use Rattle.codes.specs.Token.{ENTITY, END, BEGIN, IN, OUT, VARIABLE, NULL, WAIT, IF, THEN, ELSE, WHILE, LOOP, STD-LOGIC, INTEGER}
 use Rattle.grammar.specs.Grammar.{NonTerminal, text, ports, morePorts, port, names, moreNames, mode, type, init, value, vars, body, more, statement, target, else-part}
 use Rattle.grammar.specs.Grammar.{expression, chain, ands, ors, xors, relation, compared, simple, terms, term, factors, factor, primary, Says, Mark, Sym, tk, nt, Fun, Production, productions, textProduction}
@@ -53,9 +53,6 @@ starts = NAME ∷ NULL ∷ WAIT ∷ IF ∷ WHILE ∷ []
 abbrev primaries : List ℕ
 primaries = NUMBER ∷ ZERO ∷ ONE ∷ NAME ∷ LP ∷ []
 
-abbrev scales : List ℕ
-scales = multiplying
-
 unfoldable pub first : NonTerminal → List ℕ
 first text = ENTITY ∷ []
 first ports = NAME ∷ []
@@ -79,11 +76,11 @@ first ands = AND ∷ []
 first ors = OR ∷ []
 first xors = XOR ∷ []
 first relation = MINUS ∷ NOT ∷ primaries
-first compared = EQ ∷ NE ∷ LT ∷ LE ∷ GT ∷ GE ∷ []
+first compared = relational
 first simple = MINUS ∷ NOT ∷ primaries
-first terms = PLUS ∷ MINUS ∷ []
+first terms = adding
 first term = NOT ∷ primaries
-first factors = scales
+first factors = multiplying
 first factor = NOT ∷ primaries
 first primary = primaries
 
@@ -95,10 +92,10 @@ abbrev afterR : List ℕ
 afterR = AND ∷ OR ∷ XOR ∷ afterE
 
 abbrev afterS : List ℕ
-afterS = EQ ∷ NE ∷ LT ∷ LE ∷ GT ∷ GE ∷ afterR
+afterS = relational ++ afterR
 
 abbrev afterT : List ℕ
-afterT = PLUS ∷ MINUS ∷ afterS
+afterT = adding ++ afterS
 
 unfoldable pub follow : NonTerminal → List ℕ
 follow text = []

@@ -7,7 +7,7 @@ use lib.ListN.{length}
 use lib.IntN.{ℤ}
 use Rattle.answers.specs.declared.State.{State}
 use Rattle.semantics.specs.Equations.{Memory, Run, reached, refused}
-use Rattle.semantics.specs.Faults.{OperatorNumber}
+use Rattle.semantics.specs.Evaluation.{OperatorNumber}
 use Rattle.semantics.specs.InputRow.{Wrong}
 use Rattle.semantics.specs.Values.{Typed as TypedBy}
 use Rattle.format.specs.Walk.{from, tableCycle}

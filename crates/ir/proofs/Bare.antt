@@ -4,38 +4,16 @@ use mathlib.Core.List.{List, [], _∷_, _++_, map, map-append}
 use Prim.Native.Nat.{ℕ, _+_}
 use lib.ListN.{length, length-map}
 use lib.IntN.{pos}
-use Rattle.design.specs.Expression.{Leaf, int, bit, input, variable, Unary, sign, invert, Binary, plus, minus, equal, unequal, less, at-most, greater, at-least, and, or, xor, times, divide, modulo, remainder}
+use Rattle.design.specs.Expression.{Leaf, int, bit, input, variable, Unary, Binary}
 use Rattle.codes.specs.Operation.{unaryCode, binaryCode, countOr, operandsOf}
+use Rattle.codes.proofs.OperationLaws.{unary-operands, binary-operands}
 use Rattle.ir.specs.Operations.{Op, op, leafOp, withType, bareOp}
 use Rattle.ir.specs.Entries.{Entry, entry, entryOps, bareEntry}
 use Rattle.ir.specs.Arrays.{Row, rowsOf}
 
--- HOW MANY OPERANDS
+-- TYPES TOLD
 
-pub unary-operands : (o : Unary) → operandsOf (unaryCode o) ≡ 1
-unfolding operandsOf countOr
-unary-operands sign = refl
-unary-operands invert = refl
-
-pub binary-operands : (o : Binary) → operandsOf (binaryCode o) ≡ 2
-unfolding operandsOf countOr
-binary-operands plus = refl
-binary-operands minus = refl
-binary-operands equal = refl
-binary-operands unequal = refl
-binary-operands less = refl
-binary-operands at-most = refl
-binary-operands greater = refl
-binary-operands at-least = refl
-binary-operands and = refl
-binary-operands or = refl
-binary-operands xor = refl
-binary-operands times = refl
-binary-operands divide = refl
-binary-operands modulo = refl
-binary-operands remainder = refl
-
--- so a leaf's operation keeps its argument, and an operator's has the type
+-- a leaf's operation keeps its argument, and an operator's has the type
 pub leaf-with : (t : ℕ) (l : Leaf) → withType t (leafOp l) ≡ leafOp l
 unfolding withType operandsOf countOr
 leaf-with t (int z) = refl

@@ -5,16 +5,16 @@ use Prim.Native.Nat.{ℕ, _≤_}
 use native.Mathlib.Omega.{arith}
 use lib.ListN.{drop, length-take}
 use Rattle.grammar.specs.Token.{Token}
-use Rattle.codes.specs.Token.{NAME}
+use Rattle.codes.specs.Token.{oneOf, NAME}
 use Rattle.design.specs.Spelling.{nameBytes}
-use Rattle.language.specs.Bytes.{between, lower}
+use Rattle.language.specs.Bytes.{lower, fixed}
 use Rattle.language.specs.Words.{folded}
 use Rattle.language.proofs.NameBytes.{word-bytes}
 use Rattle.scanner.specs.Places.{part}
 use Rattle.lexer.specs.TokenValues.{tokenValue, Valued}
 
 name-value : (w : List ℕ) (k : ℕ) → k ≡ NAME → tokenValue k w ≡ folded 0 w
-unfolding tokenValue between
+unfolding tokenValue oneOf fixed
 name-value w k e = rw e
 
 -- THE LAW: the bytes of a name token's number are its bytes in the text, folded to lower case

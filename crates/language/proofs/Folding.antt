@@ -6,7 +6,7 @@ use mathlib.Core.List.{List, [], _∷_, map, reverseAux, reverse, reverse-revers
 use Prim.Native.Nat.{ℕ, _+_, _*_, _≤_, _<_}
 use native.Mathlib.Omega.{arith}
 use lib.Dec.{eqb, leb, leb→le}
-use Rattle.language.specs.Bytes.{bytes, between, elem, blank, quote, mark, none, byteKind, kindCode, is, inWord, lower}
+use Rattle.language.specs.Bytes.{between, elem, fixed, bytesOf, blank, quote, mark, none, byteKind, kindCode, is, inWord, lower}
 use Rattle.language.specs.Words.{folded}
 use Rattle.language.specs.Lexing.{all}
 use Rattle.language.proofs.Facts.{clash, and-true-both, eqb-eq, is-T}
@@ -22,7 +22,7 @@ word-byte b e = first (between 97 122 b) refl
   where
     fourth : (q : Bool) → eqb b 95 ≡ q → between 97 122 b ≡ false → between 65 90 b ≡ false → between 48 57 b ≡ false → (0 < b) × (b < 123)
     fourth true h l u d = let s = eqb-eq b 95 h in (omega arith, omega arith)
-    fourth false h l u d = others (elem b (32 ∷ 9 ∷ 10 ∷ 13 ∷ [])) (eqb b 39) (elem b (bytes "();:,+-*/=<>")) (rw (l, u, d, h) at e)
+    fourth false h l u d = others (elem b (32 ∷ 9 ∷ 10 ∷ 13 ∷ [])) (eqb b 39) (elem b (bytesOf fixed)) (rw (l, u, d, h) at e)
       where
         others : (x y z : Bool)
             → (eqb 0 (kindCode (cond x blank (cond y quote (cond z mark none)))) || (eqb 1 (kindCode (cond x blank (cond y quote (cond z mark none)))) || eqb 2 (kindCode (cond x blank (cond y quote (cond z mark none)))))) ≡ true

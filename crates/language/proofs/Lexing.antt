@@ -7,10 +7,10 @@ use native.Mathlib.Omega.{arith}
 use lib.Dec.{eqb, leb, leb→le}
 use lib.ListN.{length, length-append}
 use Rattle.codes.specs.Token.{NUMBER}
-use Rattle.language.specs.Bytes.{bytes, ByteKind, letter, digit, underscore, blank, quote, mark, byteKind, isDigit, inWord, notLF}
+use Rattle.language.specs.Bytes.{bytes, ByteKind, letter, digit, underscore, blank, quote, mark, byteKind, isDigit, inWord, notLF, Fixed, fixed}
 use Rattle.language.specs.Bytes as B
 use Rattle.language.specs.Lexer.{run, begins, Start, lexeme, unknown, wordStart, numberStart, fixedStart, startFrom, startOf}
-use Rattle.language.specs.Words.{wellMade, folded, value, reserved, wordKind, Fixed, fixed, peek, isDashes}
+use Rattle.language.specs.Words.{wellMade, folded, value, reserved, wordKind, peek, isDashes}
 use Rattle.language.specs.Lexer as L
 use Rattle.language.specs.Lexing.{Meaning, nothing, all, equal, alone, wordMeaning, fixedMeaning, meaningFrom, meaning, Piece}
 use Rattle.language.specs.Lexing as S

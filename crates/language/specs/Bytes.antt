@@ -1,11 +1,12 @@
--- Bytes of a text and their kinds. Assumes nothing.
+-- Bytes of a text and their kinds; the fixed tokens of document 01. Assumes nothing.
 use mathlib.Core.Bool.{Bool, false, cond, not, _&&_, _||_}
-use mathlib.Core.List.{List, [], _∷_}
+use mathlib.Core.List.{List, [], _∷_, _++_}
 use Prim.Native.Nat.{ℕ, _+_}
 use Prim.Native.Char.{code}
 use Prim.Native.String as S
 use Prim.Native.String.{String}
 use lib.Dec.{eqb, leb}
+use Rattle.codes.specs.Token.{ZERO, ONE, LP, RP, SEMI, COLON, COMMA, BECOMES, PLUS, MINUS, EQ, NE, LT, LE, GT, GE, TIMES, DIVIDE}
 
 -- the bytes of a quoted text; in these files it is ASCII
 unfoldable pub bytes : String → List ℕ
@@ -19,11 +20,35 @@ unfoldable pub elem : ℕ → List ℕ → Bool
 elem b [] = false
 elem b (c ∷ l) = eqb b c || elem b l
 
+-- A fixed token, with its kind and its value.
+pub record Fixed : Type 0 where
+  pub bytes : List ℕ
+  pub kind : ℕ
+  pub value : ℕ
+
+abbrev shown : String → ℕ → Fixed
+shown s k = record { bytes = bytes s; kind = k; value = 0 }
+
+abbrev bit : String → ℕ → ℕ → Fixed
+bit s k v = record { bytes = bytes s; kind = k; value = v }
+
+-- '0', '1' and the marks, "the longest taken first"
+unfoldable pub fixed : List Fixed
+fixed =
+    bit "'0'" ZERO 0 ∷ bit "'1'" ONE 1 ∷
+    shown ":=" BECOMES ∷ shown "/=" NE ∷ shown "<=" LE ∷ shown ">=" GE ∷
+    shown "(" LP ∷ shown ")" RP ∷ shown ";" SEMI ∷ shown ":" COLON ∷ shown "," COMMA ∷ shown "+" PLUS ∷ shown "-" MINUS ∷ shown "=" EQ ∷ shown "<" LT ∷ shown ">" GT ∷ shown "*" TIMES ∷ shown "/" DIVIDE ∷ []
+
+-- the bytes that stand in these
+unfoldable pub bytesOf : List Fixed → List ℕ
+bytesOf [] = []
+bytesOf (f ∷ fs) = f .bytes ++ bytesOf fs
+
 -- The seven kinds of byte. A byte of the kind none stands only in a comment.
 pub data ByteKind : Type 0 where
   letter digit underscore blank quote mark none : ByteKind
 
--- "Blanks are space, tab, LF, CR"; letters are ASCII, of either case; a mark is a byte of a mark that document 01 shows
+-- "Blanks are space, tab, LF, CR"; letters are ASCII, of either case; a mark is any other byte of a fixed token
 unfoldable pub byteKind : ℕ → ByteKind
 byteKind b =
     cond (between 97 122 b || between 65 90 b) letter
@@ -31,7 +56,7 @@ byteKind b =
     (cond (eqb b 95) underscore
     (cond (elem b (32 ∷ 9 ∷ 10 ∷ 13 ∷ [])) blank
     (cond (eqb b 39) quote
-    (cond (elem b (bytes "();:,+-*/=<>")) mark none)))))
+    (cond (elem b (bytesOf fixed)) mark none)))))
 
 abbrev pub kindCode : ByteKind → ℕ
 kindCode letter = 0

@@ -7,8 +7,8 @@ use lib.Dec.{eqb}
 use lib.ListN.{length, take}
 use Rattle.grammar.specs.Token.{Token}
 use Rattle.codes.specs.Token.{NUMBER}
-use Rattle.language.specs.Bytes.{ByteKind, letter, digit, underscore, blank, quote, mark, none, byteKind, isDigit, inWord, notLF}
-use Rattle.language.specs.Words.{wellMade, folded, value, reserved, wordKind, Fixed, fixed, isDashes}
+use Rattle.language.specs.Bytes.{ByteKind, letter, digit, underscore, blank, quote, mark, none, byteKind, isDigit, inWord, notLF, Fixed, fixed}
+use Rattle.language.specs.Words.{wellMade, folded, value, reserved, wordKind, isDashes}
 
 -- the longest run from here
 unfoldable pub run : (ℕ → Bool) → List ℕ → List ℕ

@@ -8,8 +8,8 @@ use lib.Dec.{eqb}
 use lib.ListN.{length}
 use Rattle.grammar.specs.Token.{Token}
 use Rattle.codes.specs.Token.{NUMBER}
-use Rattle.language.specs.Bytes.{ByteKind, letter, digit, underscore, blank, quote, mark, none, byteKind, isDigit, inWord, notLF}
-use Rattle.language.specs.Words.{wellMade, folded, value, reserved, wordKind, Fixed, fixed, isDashes}
+use Rattle.language.specs.Bytes.{ByteKind, letter, digit, underscore, blank, quote, mark, none, byteKind, isDigit, inWord, notLF, Fixed, fixed}
+use Rattle.language.specs.Words.{wellMade, folded, value, reserved, wordKind, isDashes}
 
 -- what a string of bytes is: a gap (a blank, a comment); a token with kind and value; a malformed word; or nothing
 pub data Meaning : Type 0 where

@@ -1,10 +1,10 @@
--- Words, numbers, and the fixed tokens of document 01. Assumes nothing.
+-- Words and numbers of document 01. Assumes nothing.
 use mathlib.Core.Bool.{Bool, cond, not, _&&_}
 use mathlib.Core.List.{List, [], _∷_}
 use Prim.Native.Nat.{ℕ, _+_, _*_, _-_, min}
 use Prim.Native.String.{String}
 use lib.Dec.{eqb}
-use Rattle.codes.specs.Token.{NAME, ZERO, ONE, LP, RP, SEMI, COLON, COMMA, BECOMES, PLUS, MINUS, EQ, NE, LT, LE, GT, GE, AND, OR, XOR, NOT, TIMES, DIVIDE, MOD, REM}
+use Rattle.codes.specs.Token.{NAME, AND, OR, XOR, NOT, MOD, REM}
 use Rattle.codes.specs.Token.{ENTITY, IS, PORT, END, ARCHITECTURE, OF, BEGIN, PROCESS, IN, OUT, VARIABLE, NULL, WAIT, UNTIL, IF, THEN, ELSE, WHILE, LOOP, STD-LOGIC, INTEGER}
 use Rattle.language.specs.Bytes.{bytes, isUnder, lower}
 
@@ -43,24 +43,6 @@ reserved =
 unfoldable pub wordKind : List Word → ℕ → ℕ
 wordKind [] v = NAME
 wordKind (w ∷ ws) v = let r = wordKind ws v in cond (eqb (folded 0 (w .bytes)) v) (w .kind) r
-
-pub record Fixed : Type 0 where
-  pub bytes : List ℕ
-  pub kind : ℕ
-  pub value : ℕ
-
-abbrev mark : String → ℕ → Fixed
-mark s k = record { bytes = bytes s; kind = k; value = 0 }
-
-abbrev bit : String → ℕ → ℕ → Fixed
-bit s k v = record { bytes = bytes s; kind = k; value = v }
-
--- '0', '1' and the marks, "the longest taken first"
-unfoldable pub fixed : List Fixed
-fixed =
-    bit "'0'" ZERO 0 ∷ bit "'1'" ONE 1 ∷
-    mark ":=" BECOMES ∷ mark "/=" NE ∷ mark "<=" LE ∷ mark ">=" GE ∷
-    mark "(" LP ∷ mark ")" RP ∷ mark ";" SEMI ∷ mark ":" COLON ∷ mark "," COMMA ∷ mark "+" PLUS ∷ mark "-" MINUS ∷ mark "=" EQ ∷ mark "<" LT ∷ mark ">" GT ∷ mark "*" TIMES ∷ mark "/" DIVIDE ∷ []
 
 -- the byte after
 unfoldable pub peek : List ℕ → ℕ

@@ -10,10 +10,10 @@ use lib.ListN.{length, take, drop, length-append, length-drop}
 use lib.Seq.{drop-drop, drop-append-seam, take-at}
 use borrow.Author.Tests.{eqb-true, eq-eqb, ne-eqb}
 use Rattle.grammar.specs.Token.{Token}
-use Rattle.codes.specs.Token.{NAME, NUMBER, ONE}
+use Rattle.codes.specs.Token.{oneOf, NAME, NUMBER, ONE}
 use Rattle.grammar.specs.Limits.{Each}
-use Rattle.language.specs.Bytes.{bytes, between, ByteKind, letter, digit, underscore, blank, quote, mark, none, byteKind, is, isDigit, inWord, notLF, lower}
-use Rattle.language.specs.Words.{wellMade, folded, value, Word, reserved, wordKind, Fixed, fixed, isDashes}
+use Rattle.language.specs.Bytes.{bytes, ByteKind, letter, digit, underscore, blank, quote, mark, none, byteKind, is, isDigit, inWord, notLF, lower, Fixed, fixed}
+use Rattle.language.specs.Words.{wellMade, folded, value, Word, reserved, wordKind, isDashes}
 use Rattle.language.specs.Lexing.{Meaning, nothing, all, equal, alone, wordMeaning, fixedMeaning, meaningFrom, meaning, Piece, Lexes}
 use Rattle.language.specs.Lexing as S
 use Rattle.language.proofs.Facts.{clash, not-true, and-true-both}
@@ -85,11 +85,11 @@ apart [] = true
 apart (w ∷ ws) = (not (eqb (w .kind) NUMBER) && not (isFixed (w .kind))) && apart ws
 
 apart-reserved : apart reserved ≡ true
-unfolding apart reserved bytes between
+unfolding apart reserved bytes oneOf fixed
 apart-reserved = refl
 
 word-apart : (ws : List Word) (v : ℕ) → apart ws ≡ true → (eqb (wordKind ws v) NUMBER ≡ false) × (isFixed (wordKind ws v) ≡ false)
-unfolding apart wordKind between
+unfolding apart wordKind oneOf fixed
 word-apart [] v a = (refl, refl)
 word-apart (w ∷ ws) v a =
     let s = and-true-both (not (eqb (w .kind) NUMBER) && not (isFixed (w .kind))) (apart ws) a in
@@ -107,7 +107,7 @@ tabled [] = true
 tabled (f ∷ fs) = (isFixed (f .kind) && eqb (f .value) (cond (eqb (f .kind) ONE) 1 0)) && tabled fs
 
 tabled-fixed : tabled fixed ≡ true
-unfolding tabled fixed bytes between
+unfolding tabled fixed bytes oneOf
 tabled-fixed = refl
 
 fixed-value : (fs : List Fixed) (w : List ℕ) (k v : ℕ) → tabled fs ≡ true → fixedMeaning fs w ≡ Meaning.token k v → (isFixed k ≡ true)
@@ -130,7 +130,7 @@ fixed-value (f ∷ fs) w k v a e =
 
 -- the value of a token, from its kind and its bytes
 pub value-is : (w : List ℕ) (k v : ℕ) → meaning w ≡ Meaning.token k v → v ≡ tokenValue k w
-unfolding tokenValue between
+unfolding tokenValue oneOf fixed
 value-is w k v e = go (token-is w k v e)
   where
     go : Token-is w k v → v ≡ cond (eqb k NUMBER) (value 0 w) (cond (isFixed k) (cond (eqb k ONE) 1 0) (folded 0 w))
@@ -144,7 +144,7 @@ value-is w k v e = go (token-is w k v e)
 
 -- the bytes of a name are those of a word
 pub name-is : (w : List ℕ) (v : ℕ) → meaning w ≡ Meaning.token NAME v → all inWord w ≡ true
-unfolding between
+unfolding oneOf fixed
 name-is w v e = go (token-is w NAME v e)
   where
     go : Token-is w NAME v → all inWord w ≡ true
@@ -186,7 +186,7 @@ pub token-values : (text : List ℕ) (ts : List Token) → Lexes 0 text ts → E
 token-values text ts r = pieces-valued text r refl
 
 name-value : (w : List ℕ) → tokenValue NAME w ≡ folded 0 w
-unfolding tokenValue between
+unfolding tokenValue oneOf fixed
 name-value w = refl
 
 -- two names of a text are the same without regard to case exactly when their values are equal

@@ -1,20 +1,20 @@
 -- What holds of each token of a text: it lies in the text, and its kind and value are those of its bytes. Assumes nothing.
 use mathlib.Core.Path.{_≡_}
-use mathlib.Core.Bool.{Bool, true, cond, _||_}
-use mathlib.Core.List.{List}
+use mathlib.Core.Bool.{Bool, true, cond}
+use mathlib.Core.List.{List, map}
 use Prim.Native.Nat.{ℕ, _+_, _≤_, _<_}
 use lib.Dec.{eqb}
 use lib.ListN.{length}
 use Rattle.grammar.specs.Token.{Token}
-use Rattle.codes.specs.Token.{NAME, NUMBER, ZERO, ONE, GE, TIMES, DIVIDE}
-use Rattle.language.specs.Bytes.{between, inWord}
+use Rattle.codes.specs.Token.{oneOf, NAME, NUMBER, ONE}
+use Rattle.language.specs.Bytes.{fixed, inWord}
 use Rattle.language.specs.Words.{folded, value}
 use Rattle.language.specs.Lexing.{Meaning, all, meaning}
 use Rattle.scanner.specs.Places.{part}
 
--- the kinds of '0', '1' and the marks
+-- the kinds of '0', '1' and the marks: those of the fixed tokens
 abbrev pub isFixed : ℕ → Bool
-isFixed k = between ZERO GE k || between TIMES DIVIDE k
+isFixed k = oneOf k (map (λ f. f .kind) fixed)
 
 -- the value of a token of the kind k that has the bytes w: a number's value, 1 for '1', 0 for '0' and the marks, a word's folded number
 unfoldable pub tokenValue : ℕ → List ℕ → ℕ

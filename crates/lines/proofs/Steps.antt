@@ -23,6 +23,10 @@ when-true o b r f g e h q = rw (sym e ∙ h) q
 pub when-false : {A : Type 0} (o b : Bool) (r f g : A) → o ≡ b → o ≡ false → r ≡ g → r ≡ cond b f g
 when-false o b r f g e h q = rw (sym e ∙ h) q
 
+-- three facts and one more
+pub and-room : {A B C D : Type 0} → A × (B × C) → D → A × (B × (C × D))
+and-room x d = (x .0, (x .1 .0, (x .1 .1, d)))
+
 -- a part of the code section, its start and its size as they were read
 pub part-read : (is vs : List ℕ) (i v : List ℤ) (s : List ℕ) (k k′ n n′ : ℕ) (r : Evaluated) → k ≡ k′ → n ≡ n′
     → r ≡ evaluatedOf (partValue (machineFor is vs i v) s k n) → r ≡ evaluatedOf (partValue (machineFor is vs i v) s k′ n′)

@@ -6,11 +6,13 @@ ghost use lib.ListN.{getD, set};
 ghost use lib.Dec.{eqb};
 ghost use Rattle.codes.specs.Image as M;
 ghost use Rattle.semantics.specs.Evaluation.{isOne};
+ghost use Rattle.evaluator.specs.Stack.{Room};
 ghost use Rattle.format.specs.Words.{word2At};
 ghost use Rattle.lines.specs.Fields.{kindAt, targetAt, offsetAt, sizeAt, nextAt, otherAt};
 ghost use Rattle.lines.specs.Moves.{valueAt, moveAt, storedAt, storedOf};
 ghost use Rattle.lines.specs.Follow.{followAt};
 use codes::image;
+use codes::limit;
 use evaluator::Evaluated;
 
 // The two-byte fields of a line, as bytes behind its beginning.
@@ -85,8 +87,12 @@ fn value(
     input_types: &[u8],
     variables: &[i32],
     variable_types: &[u8],
+    stack: &mut [i32; limit::ITEMS],
+    tags: &mut [u8; limit::ITEMS],
 ) -> Evaluated
+    requires { ⌜ Room (now stack) (now tags) 0 ⌝ }
     ensures { λ r. ⌜ r ≡ valueAt (now (lines .entry)) (now (code .entry)) x (now («input_types» .entry)) (now («variable_types» .entry)) (now (inputs .entry)) (now (variables .entry)) ⌝ }
+    ensures { λ _. ⌜ Room (now (stack .exit)) (now (tags .exit)) 0 ⌝ }
 {
     let start = field(lines, x, CODE) as usize;
     let size = field(lines, x, CODE_SIZE) as usize;
@@ -98,11 +104,13 @@ fn value(
         input_types,
         variables,
         variable_types,
+        stack,
+        tags,
     )
 }
 
-// Performs line x: its value is stored in its target, or decides which line follows.
-pub fn perform(
+// Performs line x: its value is stored in its target, or decides which line follows. The evaluator's stack is lent, whatever it holds.
+fn perform(
     lines: &[u8],
     code: &[u8],
     x: u32,
@@ -111,10 +119,14 @@ pub fn perform(
     variable_types: &[u8],
     outputs: &mut [i32],
     variables: &mut [i32],
+    stack: &mut [i32; limit::ITEMS],
+    tags: &mut [u8; limit::ITEMS],
 ) -> Move
+    requires { ⌜ Room (now stack) (now tags) 0 ⌝ }
     ensures { λ r. ⌜ r ≡ moveAt (now (lines .entry)) x (valueAt (now (lines .entry)) (now (code .entry)) x (now («input_types» .entry)) (now («variable_types» .entry)) (now (inputs .entry)) (now (variables .entry))) ⌝ }
     ensures { λ _. ⌜ now (outputs .exit) ≡ storedAt M.OUTPUT (now (lines .entry)) x (valueAt (now (lines .entry)) (now (code .entry)) x (now («input_types» .entry)) (now («variable_types» .entry)) (now (inputs .entry)) (now (variables .entry))) (now (outputs .entry)) ⌝ }
     ensures { λ _. ⌜ now (variables .exit) ≡ storedAt M.VARIABLE (now (lines .entry)) x (valueAt (now (lines .entry)) (now (code .entry)) x (now («input_types» .entry)) (now («variable_types» .entry)) (now (inputs .entry)) (now (variables .entry))) (now (variables .entry)) ⌝ }
+    ensures { λ _. ⌜ Room (now (stack .exit)) (now (tags .exit)) 0 ⌝ }
 {
     let k = kind(lines, x);
     if k == image::WAIT {
@@ -131,6 +143,8 @@ pub fn perform(
         input_types,
         variables,
         variable_types,
+        stack,
+        tags,
     );
     match e {
         Evaluated::Fault(q) => Move::Refused(q),
@@ -154,24 +168,26 @@ pub enum Followed {
     Spent,
 }
 
-// Follows the lines from a line on, at most `limit` of them.
+// Follows the lines from a line on, at most `most` of them.
 pub fn follow(
     lines: &[u8],
     code: &[u8],
     first: u32,
-    limit: u32,
+    most: u32,
     inputs: &[i32],
     input_types: &[u8],
     variable_types: &[u8],
     outputs: &mut [i32],
     variables: &mut [i32],
 ) -> Followed
-    ensures { λ r. ⌜ r ≡ followAt (now (lines .entry)) (now (code .entry)) (now («input_types» .entry)) (now («variable_types» .entry)) (now (inputs .entry)) limit first 0 (now (outputs .entry)) (now (variables .entry)) .answer ⌝ }
-    ensures { λ _. ⌜ now (outputs .exit) ≡ followAt (now (lines .entry)) (now (code .entry)) (now («input_types» .entry)) (now («variable_types» .entry)) (now (inputs .entry)) limit first 0 (now (outputs .entry)) (now (variables .entry)) .outputs ⌝ }
-    ensures { λ _. ⌜ now (variables .exit) ≡ followAt (now (lines .entry)) (now (code .entry)) (now («input_types» .entry)) (now («variable_types» .entry)) (now (inputs .entry)) limit first 0 (now (outputs .entry)) (now (variables .entry)) .variables ⌝ }
+    ensures { λ r. ⌜ r ≡ followAt (now (lines .entry)) (now (code .entry)) (now («input_types» .entry)) (now («variable_types» .entry)) (now (inputs .entry)) most first 0 (now (outputs .entry)) (now (variables .entry)) .answer ⌝ }
+    ensures { λ _. ⌜ now (outputs .exit) ≡ followAt (now (lines .entry)) (now (code .entry)) (now («input_types» .entry)) (now («variable_types» .entry)) (now (inputs .entry)) most first 0 (now (outputs .entry)) (now (variables .entry)) .outputs ⌝ }
+    ensures { λ _. ⌜ now (variables .exit) ≡ followAt (now (lines .entry)) (now (code .entry)) (now («input_types» .entry)) (now («variable_types» .entry)) (now (inputs .entry)) most first 0 (now (outputs .entry)) (now (variables .entry)) .variables ⌝ }
 {
+    let mut stack = [0i32; limit::ITEMS];
+    let mut tags = [0u8; limit::ITEMS];
     let mut x = first;
-    let mut left = limit;
+    let mut left = most;
     while 0 < left {
         let m = perform(
             lines,
@@ -182,11 +198,13 @@ pub fn follow(
             variable_types,
             outputs,
             variables,
+            &mut stack,
+            &mut tags,
         );
         left -= 1;
         match m {
             Move::Wait => {
-                return Followed::Reached(x, limit - left);
+                return Followed::Reached(x, most - left);
             }
             Move::Next(y) => {
                 x = y;

@@ -16,7 +16,8 @@ use Rattle.design.specs.Expression.{Leaf, int, bit, input, variable, Unary, Bin
 use Rattle.codes.specs.Operation.{INTEGER, STD-LOGIC, INPUT, VARIABLE, unaryFor, binaryFor, countOr, operandsOf, widthOf}
 use Rattle.codes.specs.Types.{NONE, tagOf, tagOr, typeAfter}
 use Rattle.codes.specs.Limit.{ITEMS}
-use Rattle.codes.proofs.TypeLaws.{type-of-tag, tag-there, same-tag, unary-is, binary-is, one-operand, two-operands, no-operands}
+use Rattle.codes.proofs.OperationLaws.{one-operand, two-operands, no-operands}
+use Rattle.codes.proofs.TypeLaws.{tag-type, tag-there, same-tag, unary-type-is, binary-type-is}
 use Rattle.semantics.proofs.Basic.{none-some, fault-fine, some-injective, fine-injective}
 use Rattle.format.specs.Words.{Bytes, word4At, onlyIf}
 use Rattle.semantics.specs.Twos.{signed32}
@@ -119,11 +120,11 @@ module _ (is vs : List Ty) where
   run-tags (push l ∷ ops) st = push-same (leafType is vs l) (leaf l) st ops (λ u. run-tags ops u)
   run-tags (apply1 o ∷ ops) [] = refl
   run-tags (apply1 o ∷ ops) (x ∷ st) =
-      rw (type-of-tag (x .0)) (push-same (unaryType o (x .0)) (unary o (x .0) (x .1)) st ops (λ u. run-tags ops u))
+      rw (tag-type (x .0)) (push-same (unaryType o (x .0)) (unary o (x .0) (x .1)) st ops (λ u. run-tags ops u))
   run-tags (apply2 o ∷ ops) [] = refl
   run-tags (apply2 o ∷ ops) (y ∷ []) = refl
   run-tags (apply2 o ∷ ops) (y ∷ x ∷ st) =
-      rw (type-of-tag (x .0), same-tag (x .0) (y .0))
+      rw (tag-type (x .0), same-tag (x .0) (y .0))
       (two-same (sameType (x .0) (y .0)) (binaryType o (x .0)) (binary o (x .0) (x .1) (y .1)) st ops (λ u. run-tags ops u))
 
   -- an expression has as many items as its code has operations
@@ -273,14 +274,14 @@ module _ (is vs : List Ty) where
   unary-step : (k : ℕ) (o : Unary) → unaryFor k ≡ some o → (st : List ℕ) → applied (apply1 o) st ≡ unaryStep k st
   unfolding unaryStep
   unary-step k o e [] = refl
-  unary-step k o e (x ∷ st) = stacked-pushed (typeAfter (unaryType o) x) st ∙ ap (λ z. pushed (tagOr z) st) (sym (unary-is k o e x))
+  unary-step k o e (x ∷ st) = stacked-pushed (typeAfter (unaryType o) x) st ∙ ap (λ z. pushed (tagOr z) st) (sym (unary-type-is k o e x))
 
   binary-step : (k : ℕ) (o : Binary) → binaryFor k ≡ some o → (st : List ℕ) → applied (apply2 o) st ≡ binaryStep k st
   unfolding binaryStep
   binary-step k o e [] = refl
   binary-step k o e (y ∷ []) = refl
   binary-step k o e (y ∷ x ∷ st) =
-      ap (λ z. cond (eqb x y) z none) (stacked-pushed (typeAfter (binaryType o) x) st ∙ ap (λ z. pushed (tagOr z) st) (sym (binary-is k o e x)))
+      ap (λ z. cond (eqb x y) z none) (stacked-pushed (typeAfter (binaryType o) x) st ∙ ap (λ z. pushed (tagOr z) st) (sym (binary-type-is k o e x)))
 
   -- One operation by place, in the code s whose elements are bytes.
   module _ (s : List ℕ) (b : Bytes s) (f at : ℕ) (st : List ℕ) where

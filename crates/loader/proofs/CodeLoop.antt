@@ -12,7 +12,8 @@ use Rattle.codes.specs.Operation.{widthOf}
 use Rattle.codes.specs.Types.{NONE, tagOr}
 use Rattle.codes.specs.Limit.{ITEMS}
 use Rattle.format.specs.Code.{run}
-use Rattle.loader.specs.Code.{inputTypes, variableTypes, codeType, stepAt, stackOf, Stepped}
+use Rattle.codes.specs.Stack.{stackOf}
+use Rattle.loader.specs.Code.{inputTypes, variableTypes, codeType, stepAt, Stepped}
 use Rattle.loader.proofs.NameTypes.{all-bytes}
 use Rattle.loader.proofs.CodeLaws.{code-tags, onStep, restOf, rest-turn, rest-out, rest-end}
 
@@ -23,7 +24,7 @@ module _ (sig s : List ℕ) where
 
   -- l operations are left, from the place `at` on, with a stack of depth d in the array a
   pub record Left (a : List ℕ) (at d l : ℕ) : Type 0 where
-    pub same : restOf (inputTypes sig) (variableTypes sig) s l at (stackOf a d) ≡ answer
+    pub same : restOf (inputTypes sig) (variableTypes sig) s l at (stackOf 0 a d) ≡ answer
     pub room : d + l ≤ ITEMS
     pub size : length a ≡ ITEMS
 
@@ -33,9 +34,9 @@ module _ (sig s : List ℕ) where
 
   -- the operation at the place `at` on the stack of depth d in the array a
   abbrev step : List ℕ → ℕ → ℕ → Option (List ℕ)
-  step a at d = stepAt (inputTypes sig) (variableTypes sig) s at (getD s at 0) (stackOf a d)
+  step a at d = stepAt (inputTypes sig) (variableTypes sig) s at (getD s at 0) (stackOf 0 a d)
 
-  stepped-some : {o : Option (List ℕ)} {d r : ℕ} {b : List ℕ} → Stepped o d b r → (r ≡ 0 → ⊥) → o ≡ some (stackOf b r)
+  stepped-some : {o : Option (List ℕ)} {d r : ℕ} {b : List ℕ} → Stepped o d b r → (r ≡ 0 → ⊥) → o ≡ some (stackOf 0 b r)
   stepped-some {o} {d} {r} {b} p h = sym (p .same) ∙ rw (ne-eqb r 0 h)
 
   stepped-none : {o : Option (List ℕ)} {d r : ℕ} {b : List ℕ} → Stepped o d b r → r ≡ 0 → o ≡ none
@@ -51,7 +52,7 @@ module _ (sig s : List ℕ) where
       record {
         same =
             rw (z, e)
-            (sym (rest-turn (inputTypes sig) (variableTypes sig) s (all-bytes s f) l at (stackOf a d) h
+            (sym (rest-turn (inputTypes sig) (variableTypes sig) s (all-bytes s f) l at (stackOf 0 a d) h
             ∙ ap (λ o. onStep o (λ u. restOf (inputTypes sig) (variableTypes sig) s l (at + widthOf (getD s at 0)) u)) (stepped-some q m)) ∙ p .same);
         room = omega arith;
         size = q .size;
@@ -61,20 +62,20 @@ module _ (sig s : List ℕ) where
       → Stepped (step a at d) d b r → r ≡ 0 → NONE ≡ answer
   left-stop f at d zero p h n q m = absurd (n refl)
   left-stop f {a} {b} at d (suc l) p h n q m =
-      sym (rest-turn (inputTypes sig) (variableTypes sig) s (all-bytes s f) l at (stackOf a d) h
+      sym (rest-turn (inputTypes sig) (variableTypes sig) s (all-bytes s f) l at (stackOf 0 a d) h
       ∙ ap (λ o. onStep o (λ u. restOf (inputTypes sig) (variableTypes sig) s l (at + widthOf (getD s at 0)) u)) (stepped-none q m)) ∙ p .same
 
   pub left-spent : {a : List ℕ} (at d l : ℕ) → Left a at d l → at < length s → l ≡ 0 → NONE ≡ answer
-  left-spent {a} at d l p h e = sym (rest-out (inputTypes sig) (variableTypes sig) s at (stackOf a d) h) ∙ (rw e at (p .same))
+  left-spent {a} at d l p h e = sym (rest-out (inputTypes sig) (variableTypes sig) s at (stackOf 0 a d) h) ∙ (rw e at (p .same))
 
   pub left-one : {a : List ℕ} (at d l : ℕ) → Left a at d l → length s ≤ at → d ≡ 1 → getD a 0 0 ≡ answer
   unfolding stackOf run
   left-one {a} at d l p h e =
-      sym (ap (λ z. restOf (inputTypes sig) (variableTypes sig) s l at (stackOf a z)) e
-      ∙ rest-end (inputTypes sig) (variableTypes sig) s l at (stackOf a 1) h) ∙ p .same
+      sym (ap (λ z. restOf (inputTypes sig) (variableTypes sig) s l at (stackOf 0 a z)) e
+      ∙ rest-end (inputTypes sig) (variableTypes sig) s l at (stackOf 0 a 1) h) ∙ p .same
 
   pub left-other : {a : List ℕ} (at d l : ℕ) → Left a at d l → length s ≤ at → (d ≡ 1 → ⊥) → NONE ≡ answer
   unfolding stackOf run
-  left-other {a} at zero l p h n = sym (rest-end (inputTypes sig) (variableTypes sig) s l at (stackOf a 0) h) ∙ p .same
+  left-other {a} at zero l p h n = sym (rest-end (inputTypes sig) (variableTypes sig) s l at (stackOf 0 a 0) h) ∙ p .same
   left-other {a} at (suc zero) l p h n = absurd (n refl)
-  left-other {a} at (suc (suc d)) l p h n = sym (rest-end (inputTypes sig) (variableTypes sig) s l at (stackOf a (suc (suc d))) h) ∙ p .same
+  left-other {a} at (suc (suc d)) l p h n = sym (rest-end (inputTypes sig) (variableTypes sig) s l at (stackOf 0 a (suc (suc d))) h) ∙ p .same

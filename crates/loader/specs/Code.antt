@@ -3,10 +3,11 @@
 use mathlib.Core.Bool.{cond}
 use mathlib.Core.Option.{Option, none, some, bind}
 use mathlib.Core.List.{List, [], _∷_}
-use Prim.Native.Nat.{ℕ, zero, suc, _+_, _-_, _≤_}
+use Prim.Native.Nat.{ℕ, _+_, _-_, _≤_}
 use mathlib.Core.Path.{_≡_}
 use lib.ListN.{length, getD}
 use lib.Dec.{ltb, leb, eqb}
+use Rattle.codes.specs.Stack.{stackOf}
 use Rattle.design.specs.Types.{Ty, std-logic, integer, ExprTy, plain}
 use Rattle.design.specs.Expression.{items, nth, plainly}
 use Rattle.codes.specs.Operation.{INTEGER, STD-LOGIC, INPUT, VARIABLE, operandsOf, widthOf}
@@ -73,14 +74,9 @@ unfoldable pub stepAt : List Ty → List Ty → List ℕ → ℕ → ℕ → Lis
 stepAt is vs s at k st =
     cond (eqb (operandsOf k) 0) (pushed (leafTag is vs s at k) st) (cond (eqb (operandsOf k) 1) (unaryStep k st) (binaryStep k st))
 
--- The stack in an array: the first n elements, the last on top.
-unfoldable pub stackOf : List ℕ → ℕ → List ℕ
-stackOf a zero = []
-stackOf a (suc n) = getD a n 0 ∷ stackOf a n
-
 -- the stack of depth r in the array a; the depth 0 stands for no stack
 abbrev pub stackOr : List ℕ → ℕ → Option (List ℕ)
-stackOr a r = cond (eqb r 0) none (some (stackOf a r))
+stackOr a r = cond (eqb r 0) none (some (stackOf 0 a r))
 
 -- what a function answers that leaves the stack o: its depth r, in the array b; d was the depth before
 pub record Stepped (o : Option (List ℕ)) (d : ℕ) (b : List ℕ) (r : ℕ) : Type 0 where

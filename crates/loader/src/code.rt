@@ -8,7 +8,8 @@ ghost use Rattle.format.specs.Signature.{signatureOf};
 ghost use Rattle.loader.specs.Sections.{isSome};
 ghost use Rattle.codes.specs.Limit.{ITEMS};
 ghost use Rattle.codes.specs.Types.{tagOr};
-ghost use Rattle.loader.specs.Code.{tagAt, inputTypes, outputTypes, variableTypes, codeType, bitTag, leafTag, pushed, unaryStep, binaryStep, stepAt, stackOf, Stepped};
+ghost use Rattle.codes.specs.Stack.{stackOf};
+ghost use Rattle.loader.specs.Code.{tagAt, inputTypes, outputTypes, variableTypes, codeType, bitTag, leafTag, pushed, unaryStep, binaryStep, stepAt, Stepped};
 use crate::signature::count;
 use codes::image;
 use codes::limit;
@@ -74,9 +75,11 @@ fn leaf_type(signature: &[u8], s: &[u8], at: usize, k: u8) -> u8
     if s.len() < at + operation::width(k) {
         return types::NONE;
     }
+    if k == operation::INTEGER {
+        return types::INTEGER;
+    }
     let index = count(s, at + 1);
     match k {
-        operation::INTEGER => types::INTEGER,
         operation::STD_LOGIC => bit_type(index),
         operation::INPUT => input_type(signature, index),
         operation::VARIABLE => variable_type(signature, index),
@@ -88,7 +91,7 @@ fn leaf_type(signature: &[u8], s: &[u8], at: usize, k: u8) -> u8
 fn push(stack: &mut [u8; limit::ITEMS], depth: usize, t: u8) -> usize
     requires { ⌜ depth < ITEMS ⌝ }
     requires { ⌜ length (now stack) ≡ ITEMS ⌝ }
-    ensures { λ r. ⌜ Stepped (pushed t (stackOf (now (stack .entry)) depth)) depth (now (stack .exit)) r ⌝ }
+    ensures { λ r. ⌜ Stepped (pushed t (stackOf 0 (now (stack .entry)) depth)) depth (now (stack .exit)) r ⌝ }
 {
     if t == types::NONE {
         return 0;
@@ -101,12 +104,12 @@ fn push(stack: &mut [u8; limit::ITEMS], depth: usize, t: u8) -> usize
 fn apply_unary(stack: &mut [u8; limit::ITEMS], depth: usize, k: u8) -> usize
     requires { ⌜ depth < ITEMS ⌝ }
     requires { ⌜ length (now stack) ≡ ITEMS ⌝ }
-    ensures { λ r. ⌜ Stepped (unaryStep k (stackOf (now (stack .entry)) depth)) depth (now (stack .exit)) r ⌝ }
+    ensures { λ r. ⌜ Stepped (unaryStep k (stackOf 0 (now (stack .entry)) depth)) depth (now (stack .exit)) r ⌝ }
 {
     if depth < 1 {
         return 0;
     }
-    let t = types::unary_type(k, stack[depth - 1]);
+    let t = operation::unary_type(k, stack[depth - 1]);
     push(stack, depth - 1, t)
 }
 
@@ -114,7 +117,7 @@ fn apply_unary(stack: &mut [u8; limit::ITEMS], depth: usize, k: u8) -> usize
 fn apply_binary(stack: &mut [u8; limit::ITEMS], depth: usize, k: u8) -> usize
     requires { ⌜ depth < ITEMS ⌝ }
     requires { ⌜ length (now stack) ≡ ITEMS ⌝ }
-    ensures { λ r. ⌜ Stepped (binaryStep k (stackOf (now (stack .entry)) depth)) depth (now (stack .exit)) r ⌝ }
+    ensures { λ r. ⌜ Stepped (binaryStep k (stackOf 0 (now (stack .entry)) depth)) depth (now (stack .exit)) r ⌝ }
 {
     if depth <= 1 {
         return 0;
@@ -123,7 +126,7 @@ fn apply_binary(stack: &mut [u8; limit::ITEMS], depth: usize, k: u8) -> usize
     let left = right - 1;
     let t = stack[left];
     if t == stack[right] {
-        let r = types::binary_type(k, t);
+        let r = operation::binary_type(k, t);
         return push(stack, left, r);
     }
     0
@@ -141,7 +144,7 @@ fn operate(
     requires { ⌜ at < length (now s) ⌝ }
     requires { ⌜ depth < ITEMS ⌝ }
     requires { ⌜ length (now stack) ≡ ITEMS ⌝ }
-    ensures { λ r. ⌜ Stepped (stepAt (inputTypes (now (signature .entry))) (variableTypes (now (signature .entry))) (now (s .entry)) at (getD (now (s .entry)) at 0) (stackOf (now (stack .entry)) depth)) depth (now (stack .exit)) r ⌝ }
+    ensures { λ r. ⌜ Stepped (stepAt (inputTypes (now (signature .entry))) (variableTypes (now (signature .entry))) (now (s .entry)) at (getD (now (s .entry)) at 0) (stackOf 0 (now (stack .entry)) depth)) depth (now (stack .exit)) r ⌝ }
 {
     let k = words::byte(s, at);
     let operands = operation::operands(k);

@@ -1,23 +1,23 @@
 -- The cases of an operation's argument and type, for their functions' proofs. Assumes nothing.
-use mathlib.Core.Path.{_≡_, refl, sym, _∙_}
-use mathlib.Core.List.{List}
-use Prim.Native.Nat.{ℕ, _≤_, _<_}
+use mathlib.Core.Path.{_≡_, refl, sym, ap, _∙_}
+use mathlib.Core.List.{List, [], _∷_}
+use Prim.Native.Nat.{ℕ, zero, suc, _≤_, _<_}
 use native.Mathlib.Omega.{arith}
-use lib.ListN.{getD}
+use lib.ListN.{getD, set}
 use lib.IntN.{ℤ, pos}
 use borrow.Author.Tests.{eq-eqb, ne-eqb, lt-ltb, le-ltb}
 use Rattle.codes.specs.Limit.{VARIABLES}
 use Rattle.codes.specs.Operation.{operandsOf}
-use Rattle.codes.specs.Types.{NONE, tagOr, unaryTypeFor, binaryTypeFor}
+use Rattle.codes.specs.Types.{NONE, resultFor}
 use Rattle.semantics.specs.Twos.{signed32}
 use Rattle.ir.specs.Operations.{op, argWith}
 use Rattle.operands.specs.Told.{tagAt, leafTag, tagAfter}
 
-pub arg-kept : {n : ℕ} (c t : ℕ) {z : ℤ} → n ≡ operandsOf c → n ≡ 0 → z ≡ argWith c z t
-arg-kept c t e f = let h : operandsOf c ≡ 0 = sym e ∙ f in rw h
-
-pub arg-told : {n : ℕ} (c t : ℕ) (z : ℤ) {r : ℤ} → t < 256 → n ≡ operandsOf c → (n ≡ 0 → ⊥) → r ≡ signed32 t → r ≡ argWith c z t
-arg-told c t z l e f h = rw (ne-eqb (operandsOf c) 0 (λ q. f (e ∙ q))) (h ∙ rw (lt-ltb t 2147483648 (omega arith)))
+-- an element put where it stands
+set-same : (l : List ℤ) (j : ℕ) → l ≡ set l j (getD l j (pos 0))
+set-same [] j = refl
+set-same (x ∷ l) zero = refl
+set-same (x ∷ l) (suc j) = ap (λ (m : List ℤ). x ∷ m) (set-same l j)
 
 pub name-inside : {k : ℕ} (l : List ℕ) (m : ℕ) → k ≡ m → k < VARIABLES → getD l k 0 ≡ tagAt l m
 name-inside {k} l m e h = rw (sym e, lt-ltb k 32 h)
@@ -25,15 +25,15 @@ name-inside {k} l m e h = rw (sym e, lt-ltb k 32 h)
 pub name-past : {k : ℕ} (l : List ℕ) (m : ℕ) → k ≡ m → VARIABLES ≤ k → NONE ≡ tagAt l m
 name-past {k} l m e h = rw (sym e, le-ltb k 32 h)
 
-module _ (is vs : List ℕ) (c t : ℕ) (z : ℤ) {n : ℕ} where
-  pub after-leaf : {r : ℕ} → n ≡ operandsOf c → n ≡ 0 → r ≡ leafTag is vs c z → r ≡ tagAfter is vs (op c z) t
-  unfolding tagAfter
-  after-leaf e f h = let q : operandsOf c ≡ 0 = sym e ∙ f in rw q h
+module _ (is vs : List ℕ) (c t : ℕ) (a : List ℤ) (j : ℕ) where
+  -- what the step answers, and what it leaves
+  abbrev Tells : ℕ → List ℤ → Type 0
+  Tells r b = (r ≡ tagAfter is vs (op c (getD a j (pos 0))) t) × (b ≡ set a j (argWith c (getD a j (pos 0)) t))
 
-  pub after-unary : {r : ℕ} → n ≡ operandsOf c → n ≡ 1 → r ≡ tagOr (unaryTypeFor c t) → r ≡ tagAfter is vs (op c z) t
+  pub told-leaf : {n r : ℕ} → n ≡ operandsOf c → n ≡ 0 → r ≡ leafTag is vs c (getD a j (pos 0)) → Tells r a
   unfolding tagAfter
-  after-unary e f h = let q : operandsOf c ≡ 1 = sym e ∙ f in rw q h
+  told-leaf e f h = let q : operandsOf c ≡ 0 = sym e ∙ f in rw q (h, set-same a j)
 
-  pub after-binary : {r : ℕ} → n ≡ operandsOf c → (n ≡ 0 → ⊥) → (n ≡ 1 → ⊥) → r ≡ tagOr (binaryTypeFor c t) → r ≡ tagAfter is vs (op c z) t
+  pub told-operator : {n r : ℕ} (z : ℤ) → t < 256 → n ≡ operandsOf c → (n ≡ 0 → ⊥) → z ≡ signed32 t → r ≡ resultFor c t → Tells r (set a j z)
   unfolding tagAfter
-  after-binary e f g h = rw (ne-eqb (operandsOf c) 0 (λ q. f (e ∙ q)), ne-eqb (operandsOf c) 1 (λ q. g (e ∙ q))) h
+  told-operator z l e f g h = rw (ne-eqb (operandsOf c) 0 (λ q. f (e ∙ q))) (h, ap (set a j) (g ∙ rw (lt-ltb t 2147483648 (omega arith))))

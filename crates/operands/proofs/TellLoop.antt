@@ -58,7 +58,7 @@ module _ (codes is vs : List ℕ) (n : ℕ) (args₀ : List ℤ) where
 
   module _ (args₁ : List ℤ) (t j : ℕ) where
     -- operation j is told
-    pub telling-again : {c u : ℕ} {z a : ℤ} → j < n → c ≡ getD codes j 0 → z ≡ getD args₁ j (pos 0) → a ≡ argWith c z t → u ≡ tagAfter is vs (op c z) t
+    telling-again : {c u : ℕ} {z a : ℤ} → j < n → c ≡ getD codes j 0 → z ≡ getD args₁ j (pos 0) → a ≡ argWith c z t → u ≡ tagAfter is vs (op c z) t
         → Telling codes is vs n args₀ args₁ t j → Telling codes is vs n args₀ (set args₁ j a) u (j + 1)
     unfolding told withType
     telling-again {c} {u} {z} {a} l hc hz ha hu h =
@@ -81,6 +81,11 @@ module _ (codes is vs : List ℕ) (n : ℕ) (args₀ : List ℤ) where
 
         next : n ≤ length args₀ → opsFrom codes (set args₁ j a) 0 (j + 1) ++ told is vs u (opsFrom codes (set args₁ j a) (j + 1) (n - (j + 1))) ≡ opsFrom codes args₁ 0 j ++ told is vs t (opsFrom codes args₁ j (n - j))
         next m = rw (before m, ops-outside codes args₁ j a (j + 1) (n - (j + 1)) (inl (omega arith)), here) (append-assoc (opsFrom codes args₁ 0 j) (op c a ∷ []) (told is vs u rest))
+
+    -- the step's own words for it
+    pub telling-step : {c u : ℕ} {b : List ℤ} → j < n → c ≡ getD codes j 0 → u ≡ tagAfter is vs (op c (getD args₁ j (pos 0))) t → b ≡ set args₁ j (argWith c (getD args₁ j (pos 0)) t)
+        → Telling codes is vs n args₀ args₁ t j → Telling codes is vs n args₀ b u (j + 1)
+    telling-step l hc hu hb h = rw hb (telling-again l hc refl refl hu h)
 
     -- none is left: all are told
     all-told : n ≤ j → n ≤ length args₀ → Telling codes is vs n args₀ args₁ t j → opsFrom codes args₁ 0 n ≡ told is vs NONE (opsFrom codes args₀ 0 n)

@@ -18,8 +18,8 @@ use Rattle.design.proofs.Postfix.{Steps, lay-law}
 use Rattle.codes.specs.Limit.{VARIABLES}
 use Rattle.codes.specs.Operation.{unaryCode, binaryCode, countOr, operandsOf}
 use Rattle.codes.specs.Types.{NONE, tagOf, tagOr, unaryTypeFor, binaryTypeFor}
-use Rattle.codes.proofs.OperationLaws.{unary-code, binary-code}
-use Rattle.codes.proofs.TypeLaws.{unary-tag, binary-tag}
+use Rattle.codes.proofs.OperationLaws.{unary-code, binary-code, unary-operands, binary-operands}
+use Rattle.codes.proofs.TypeLaws.{unary-result, binary-result}
 use Rattle.semantics.proofs.Basic.{none-some}
 use Rattle.format.proofs.Decoding.{given-some, given2-some}
 use Rattle.format.proofs.Lines.{fits-type}
@@ -28,7 +28,7 @@ use Rattle.ir.specs.Operations.{Op, op, leafOp, ops, withType, bareOp}
 use Rattle.ir.specs.Entries.{entries, entryOps}
 use Rattle.ir.proofs.Held.{entry-ops-append}
 use Rattle.ir.proofs.Laid.{unaryOp, binaryOp, ops-laid}
-use Rattle.ir.proofs.Bare.{unary-operands, binary-operands, leaf-with, unary-with, binary-with}
+use Rattle.ir.proofs.Bare.{leaf-with, unary-with, binary-with}
 use Rattle.operands.specs.Told.{tagAt, leafTag, tagAfter, told}
 
 -- WHATEVER STOOD IN THE PLACE OF THE TYPES
@@ -89,13 +89,15 @@ module _ (is vs : List Ty) (ti tv : List ℕ) (ni : length is ≤ VARIABLES) (nv
   leaf-tag (variable k) t u h = name-tag vs tv k u nv ev h
 
   -- an operator before k, where its operands have the type s
-  unary-told : (o : Unary) (s : ExprTy) (k : List Op) (x : Option ExprTy) (y : Option ExprTy) → x ≡ some s → y ≡ unaryType o s → told ti tv (tagOr y) k ≡ k → told ti tv (tagOr x) (unaryOp o s ∷ k) ≡ unaryOp o s ∷ k
+  unary-told : (o : Unary) (s u : ExprTy) (k : List Op) (x y : Option ExprTy) → x ≡ some s → y ≡ some u → unaryType o s ≡ some u → told ti tv (tagOr y) k ≡ k
+      → told ti tv (tagOr x) (unaryOp o s ∷ k) ≡ unaryOp o s ∷ k
   unfolding told tagAfter
-  unary-told o s k x y e f c = rw (e, unary-with (tagOf s) o (pos (tagOf s)), unary-operands o, unary-tag (unaryCode o) o (unary-code o) s, sym f, c)
+  unary-told o s u k x y e f g c = rw (e, unary-with (tagOf s) o (pos (tagOf s)), unary-operands o, unary-result o s u g, rw f at c)
 
-  binary-told : (o : Binary) (s : ExprTy) (k : List Op) (x : Option ExprTy) (y : Option ExprTy) → x ≡ some s → y ≡ binaryType o s → told ti tv (tagOr y) k ≡ k → told ti tv (tagOr x) (binaryOp o s ∷ k) ≡ binaryOp o s ∷ k
+  binary-told : (o : Binary) (s u : ExprTy) (k : List Op) (x y : Option ExprTy) → x ≡ some s → y ≡ some u → binaryType o s ≡ some u → told ti tv (tagOr y) k ≡ k
+      → told ti tv (tagOr x) (binaryOp o s ∷ k) ≡ binaryOp o s ∷ k
   unfolding told tagAfter
-  binary-told o s k x y e f c = rw (e, binary-with (tagOf s) o (pos (tagOf s)), binary-operands o, binary-tag (binaryCode o) o (binary-code o) s, sym f, c)
+  binary-told o s u k x y e f g c = rw (e, binary-with (tagOf s) o (pos (tagOf s)), binary-operands o, binary-result o s u g, rw f at c)
 
   leaf-told : (l : Leaf) (t : ℕ) (k : List Op) (u : ExprTy) → leafType is vs l ≡ some u → told ti tv (tagOr (leafType is vs l)) k ≡ k → told ti tv t (leafOp l ∷ k) ≡ leafOp l ∷ k
   unfolding told
@@ -107,10 +109,10 @@ module _ (is vs : List Ty) (ti tv : List ℕ) (ni : length is ≤ VARIABLES) (nv
   told-steps =
       record {
         leaf = λ l t k f c. leaf-told l t k (f .0) (f .1) c;
-        unary = λ o s a t k f. let p = given-some (unaryType o) s (f .0) (typeOf is vs a) (f .1) in ((s, p .0), λ c. unary-told o s k (typeOf is vs a) _ (p .0) (f .1 ∙ sym (p .1)) c);
+        unary = λ o s a t k f. let p = given-some (unaryType o) s (f .0) (typeOf is vs a) (f .1) in ((s, p .0), λ c. unary-told o s (f .0) k (typeOf is vs a) _ (p .0) (f .1) (p .1) c);
         binary = λ o s a b t k f.
             let p = given2-some (binaryType o) s (f .0) (typeOf is vs a) (typeOf is vs b) (f .1) in
-            ((s, p .0), (s, p .1), λ c. binary-told o s k (typeOf is vs b) _ (p .1) (f .1 ∙ sym (p .2)) c);
+            ((s, p .0), (s, p .1), λ c. binary-told o s (f .0) k (typeOf is vs b) _ (p .1) (f .1) (p .2) c);
       }
 
   -- operations that stay as they are, whatever type ends before them

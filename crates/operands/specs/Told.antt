@@ -11,7 +11,7 @@ use Rattle.design.specs.Types.{std-logic, integer, typeByte}
 use Rattle.design.specs.Process.{Process, WellFormed, sourceTypes, slotTypes}
 use Rattle.codes.specs.Limit.{TEXT, VARIABLES}
 use Rattle.codes.specs.Operation.{INTEGER, STD-LOGIC, INPUT, VARIABLE, operandsOf}
-use Rattle.codes.specs.Types.{NONE, tagOr, unaryTypeFor, binaryTypeFor}
+use Rattle.codes.specs.Types.{NONE, resultFor}
 use Rattle.semantics.specs.Twos.{unsigned32}
 use Rattle.ir.specs.Operations.{Op, withType, bareOp}
 use Rattle.ir.specs.Entries.{entries, entryOps}
@@ -29,7 +29,7 @@ leafTag is vs c z =
 -- of what ends at an operation, where t is that of what ends before it
 unfoldable pub tagAfter : List ℕ → List ℕ → Op → ℕ → ℕ
 tagAfter is vs o t =
-    cond (eqb (operandsOf (o .code)) 0) (leafTag is vs (o .code) (o .arg)) (cond (eqb (operandsOf (o .code)) 1) (tagOr (unaryTypeFor (o .code) t)) (tagOr (binaryTypeFor (o .code) t)))
+    cond (eqb (operandsOf (o .code)) 0) (leafTag is vs (o .code) (o .arg)) (resultFor (o .code) t)
 
 -- operations with the types of their operands, where t is the number of the type of what ends before the first
 unfoldable pub told : List ℕ → List ℕ → ℕ → List Op → List Op

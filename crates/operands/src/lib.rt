@@ -1,7 +1,8 @@
 // The type of every operator's operands, told behind the elaborator. An operation stands behind its operands, so that what ends just before an operator is its
 // only or its right operand, and both operands have one type: one number, the type of what ends here, is enough.
 ghost use mathlib.Core.Path.{_≡_};
-ghost use Prim.Native.Nat.{min};
+ghost use Prim.Native.Nat.{_<_, min};
+ghost use lib.ListN.{getD, set};
 ghost use lib.IntN.{pos};
 ghost use Rattle.codes.specs.Limit.{TEXT};
 ghost use Rattle.semantics.specs.Twos.{unsigned32};
@@ -40,31 +41,25 @@ fn leaf_type(
     }
 }
 
-// The type of what ends at an operation, where t is the type of what ends before it.
-fn type_after(
+// Tells operation j, where t is the type of what ends before it: an operator gets the type of its operands for its argument, any other operation keeps its own.
+// Answers the type of what ends here.
+fn told(
     op: u8,
-    arg: i32,
     inputs: &[u8; limit::VARIABLES],
     variables: &[u8; limit::VARIABLES],
+    args: &mut [i32; limit::TEXT],
+    j: usize,
     t: u8,
 ) -> u8
-    ensures { λ r. ⌜ r ≡ tagAfter (now (inputs .entry)) (now (variables .entry)) (operation op arg) t ⌝ }
-{
-    match operation::operands(op) {
-        0 => leaf_type(op, arg, inputs, variables),
-        1 => types::unary_type(op, t),
-        _ => types::binary_type(op, t),
-    }
-}
-
-// The argument of an operation: an operator's is the type of its operands, any other's stays.
-fn arg_with(op: u8, arg: i32, t: u8) -> i32
-    ensures { λ r. ⌜ r ≡ argWith op arg t ⌝ }
+    requires { ⌜ j < TEXT ⌝ }
+    ensures { λ r. ⌜ r ≡ tagAfter (now (inputs .entry)) (now (variables .entry)) (operation op (getD (now (args .entry)) j (pos 0))) t ⌝ }
+    ensures { λ _. ⌜ now (args .exit) ≡ set (now (args .entry)) j (argWith op (getD (now (args .entry)) j (pos 0)) t) ⌝ }
 {
     if operation::operands(op) == 0 {
-        return arg;
+        return leaf_type(op, args[j], inputs, variables);
     }
-    signed::from_bits(t as u32)
+    args[j] = signed::from_bits(t as u32);
+    operation::result_type(op, t)
 }
 
 // As many operations as the arrays have room for.
@@ -91,10 +86,7 @@ pub fn tell(
     let mut t = types::NONE;
     let mut j = 0;
     while j < n {
-        let op = ops[j];
-        let arg = args[j];
-        args[j] = arg_with(op, arg, t);
-        t = type_after(op, arg, inputs, variables, t);
+        t = told(ops[j], inputs, variables, args, j, t);
         j += 1;
     }
 }

@@ -12,8 +12,6 @@ use Rattle.design.specs.Types.{Ty, std-logic, integer, ExprTy, plain, boolean}
 use Rattle.design.specs.Expression.{Leaf, int, bit, input, variable, Unary, sign, invert, Binary, plus, minus, equal, unequal, less, at-most, greater, at-least, and, or, xor, times, divide, modulo, remainder, Expr, leaf, unary, binary, items, Out, fine, fault, bind, Algebra, fold, unaryType, binaryType, typeOf}
 use Rattle.design.proofs.Postfix.{stack-law}
 use Rattle.semantics.specs.Evaluation.{leafValue, values, evaluate}
-use Rattle.signed.specs.Signed.{checkedOf}
-use Rattle.signed.specs.declared.Checked.{Checked}
 use Rattle.ir.specs.Operations.{Op, op, leafOp, ops}
 use Rattle.codes.specs.Operation.{SIGN, NOT, unaryCode, binaryCode, countOr, operandsOf}
 use Rattle.codes.specs.Types.{tagOf}
@@ -23,7 +21,8 @@ use Rattle.format.proofs.Coding.{bind-cong}
 use Rattle.format.proofs.Decoding.{given-some, given2-some}
 use Rattle.operators.specs.Operators.{unaryOn, binaryOn}
 use Rattle.operators.proofs.Laws.{unary-taken, binary-taken}
-use Rattle.operations.specs.Machine.{kindOf, pushed, stepOf, runOps, topOf, valueIn, Performable}
+use Rattle.operations.specs.Machine.{kindOf, pushed, stepOf, runOps, topOf, valueIn, evaluatedOf, Performable}
+use Rattle.operations.specs.declared.Evaluated.{Evaluated}
 
 -- NUMBERS
 
@@ -142,7 +141,7 @@ module _ (i v : List ℤ) where
       ∙ (ap (λ (r : Out (List ℤ)). bind r topOf) (run-expr e [] [] (omega (arith, n .short)) n) ∙ one (evaluate e i v)))
 
   -- an answer for what the operations leave is one for the expression's value
-  pub value-told : (codes : List ℕ) (args : List ℤ) (m n : ℕ) (r : Checked) → r ≡ checkedOf (valueIn codes args m n i v) → (e : Expr)
-      → opsFrom codes args m (length (ops e)) ≡ ops e → n ≡ m + length (ops e) → Performable e → r ≡ checkedOf (evaluate e i v)
+  pub value-told : (codes : List ℕ) (args : List ℤ) (m n : ℕ) (r : Evaluated) → r ≡ evaluatedOf (valueIn codes args m n i v) → (e : Expr)
+      → opsFrom codes args m (length (ops e)) ≡ ops e → n ≡ m + length (ops e) → Performable e → r ≡ evaluatedOf (evaluate e i v)
   value-told codes args m n r q e h k l =
-      q ∙ ap (λ (x : Out ℤ). checkedOf x) (ap (λ (y : ℕ). valueIn codes args m y i v) k ∙ value-expr codes args m e h l)
+      q ∙ ap (λ (x : Out ℤ). evaluatedOf x) (ap (λ (y : ℕ). valueIn codes args m y i v) k ∙ value-expr codes args m e h l)

@@ -1,111 +1,99 @@
 -- A stack in an array: one number more, one or two fewer, and what a turn of the evaluator's loop keeps. By induction on the depth. Assumes nothing.
 use Prim.Native.Nat.{ℕ, zero, suc, _+_, _-_, _≤_, _<_}
-use mathlib.Core.Path.{_≡_, refl, sym, ap, _∙_}
-use mathlib.Core.List.{List, _∷_}
-use native.Mathlib.Numerals.{add-one}
+use mathlib.Core.Path.{_≡_, refl, ap, _∙_}
+use mathlib.Core.List.{List}
 use native.Mathlib.Omega.{arith}
 use borrow.Author.Tests.{lt-ltb, le-ltb, ne-eqb}
-use lib.ListN.{length, getD, set, length-set}
-use lib.Seq.{getD-set-same, getD-set-other}
+use lib.ListN.{getD, set, length-set}
 use lib.IntN.{ℤ, pos}
 use mir.Syntax.{w32}
 use mir.Val.{SFits, toZ, ofZ}
 use mir.Facts.{toZ-ofZ}
 use Rattle.design.specs.Expression.{Out, fine, fault, bind}
 use Rattle.semantics.specs.Twos.{unsigned32}
-use Rattle.signed.specs.Signed.{checkedOf}
-use Rattle.signed.specs.declared.Checked.{Checked}
-use Rattle.signed.specs.declared.Checked.the-variants.{Value, Refused}
 use Rattle.ir.specs.Operations.{op}
 use Rattle.ir.specs.Arrays.{opsFrom}
 use Rattle.codes.specs.Operation.{operandsOf}
-use Rattle.operators.specs.Operators.{unaryOn, binaryOn}
-use Rattle.operations.specs.Machine.{kindOf, pushed, pushedWithin, unaryNext, binaryNext, stepOf, runOps, topOf, valueIn}
-use Rattle.operations.specs.Stack.{stackOf, outcomeOf, Room, Says}
+use Rattle.operators.specs.Operators.{unaryOn, binaryOn, Applied}
+use Rattle.codes.specs.Stack.{stackOf}
+use Rattle.codes.proofs.StackLaws.{stack-length, stack-push}
+use Rattle.operations.specs.Machine.{kindOf, pushed, pushedWithin, unaryNext, binaryNext, stepOf, runOps, topOf, valueIn, found, evaluatedOf}
+use Rattle.operations.specs.Stack.{Room, Says}
+use Rattle.operations.specs.declared.Evaluated.{Evaluated}
+use Rattle.operations.specs.declared.Evaluated.the-variants.{Fault}
 use Rattle.operations.specs.declared.Transition.{Transition}
 use Rattle.operations.specs.declared.Transition.the-variants.{Go, Stop}
-
-pub stack-length : (a : List ℤ) (n : ℕ) → length (stackOf a n) ≡ n
-unfolding stackOf
-stack-length a zero = refl
-stack-length a (suc n) = ap suc (stack-length a n)
-
--- what is written above leaves the numbers below
-stack-above : (a : List ℤ) (n : ℕ) (v : ℤ) (m : ℕ) → m ≤ n → stackOf (set a n v) m ≡ stackOf a m
-unfolding stackOf
-stack-above a n v zero h = refl
-stack-above a n v (suc m) h = rw (getD-set-other a n m v (pos 0) (λ q. omega arith), stack-above a n v m (omega arith))
-
-stack-push : (a : List ℤ) (n : ℕ) (v : ℤ) → n < length a → stackOf (set a n v) (n + 1) ≡ v ∷ stackOf a n
-unfolding stackOf
-stack-push a n v h = rw (add-one, stack-above a n v n (omega arith), getD-set-same a n v (pos 0) h)
-
-outcome-checked : (o : Out ℤ) → outcomeOf (checkedOf o) ≡ o
-outcome-checked (fine x) = refl
-outcome-checked (fault q) = refl
 
 -- a transition that says one thing says what equals it
 pub saying : {a : List ℤ} {r : Transition} {m n : Out (List ℤ)} → n ≡ m → Says a r m → Says a r n
 saying e s = rw e s
 
--- an answer for an outcome, put on the stack
-pub put : {a : List ℤ} {r : Transition} {n : Out (List ℤ)} (o : Out ℤ) (e : Checked) (st : List ℤ)
-    → n ≡ pushed o st → e ≡ checkedOf o → Says a r (pushed (outcomeOf e) st) → Says a r n
-put o e st h q s = saying (h ∙ ap (λ (x : Out ℤ). pushed x st) (sym (ap (λ (y : Checked). outcomeOf y) q ∙ outcome-checked o))) s
-
--- an answer put at element i, the number through a local
-pub kept : (a : List ℤ) (i : ℕ) (v : ℤ) (e : Checked) → e ≡ Value v → SFits w32 v → Room a (i + 1)
-    → Says (set a i (toZ w32 (ofZ w32 v))) (Go (i + 1)) (pushed (outcomeOf e) (stackOf a i))
-kept a i v e q f m =
+-- a number put at element i
+put : (a : List ℤ) (i : ℕ) (v : ℤ) → Room a (i + 1) → Says (set a i v) (Go (i + 1)) (pushed (fine v) (stackOf (pos 0) a i))
+put a i v m =
     record {
-      room = record { numbers = length-set a i _ ∙ m .numbers; depth = m .depth };
-      says = rw (q, toZ-ofZ f, stack-push a i v (omega (arith, m .numbers, m .depth)));
+      room = record { numbers = length-set a i v ∙ m .numbers; depth = m .depth };
+      says = rw (stack-push (pos 0) a i v (omega (arith, m .numbers, m .depth)));
     }
+
+-- through a local
+pub kept : (a : List ℤ) (i : ℕ) (v : ℤ) → SFits w32 v → Room a (i + 1)
+    → Says (set a i (toZ w32 (ofZ w32 v))) (Go (i + 1)) (pushed (fine v) (stackOf (pos 0) a i))
+kept a i v f m = rw (toZ-ofZ f) (put a i v m)
 
 -- a stop changes nothing
 pub stopped : (a : List ℤ) (n q : ℕ) {o : Out (List ℤ)} → Room a n → fault q ≡ o → Says a (Stop q) o
 stopped a n q m e = record { room = record { numbers = m .numbers; depth = omega arith }; says = e }
 
-pub push-full : (a : List ℤ) (n : ℕ) (z : ℤ) → 64 ≤ n → fault 13 ≡ pushedWithin z (stackOf a n)
-push-full a n z h = rw (stack-length a n, le-ltb n 64 h)
+-- an operator that gives o, applied at element i
+pub went : {b : List ℤ} {r : ℕ} {n : Out (List ℤ)} (o : Out ℤ) (a : List ℤ) (i : ℕ) → n ≡ pushed o (stackOf (pos 0) a i) → Applied o a i b r → r ≡ 0 → Room a (i + 1)
+    → Says b (Go (i + 1)) n
+went o a i h p e m = let v = p .value e in saying h (rw (v .1, v .2) (put a i (v .0) m))
 
-pub push-room : (a : List ℤ) (n : ℕ) (z : ℤ) → n < 64 → pushedWithin z (stackOf a n) ≡ pushed (fine z) (stackOf a n)
-push-room a n z h = rw (stack-length a n, lt-ltb n 64 h)
+pub halted : {b : List ℤ} {r : ℕ} {n : Out (List ℤ)} (o : Out ℤ) (a : List ℤ) (i : ℕ) → n ≡ pushed o (stackOf (pos 0) a i) → Applied o a i b r → (r ≡ 0 → ⊥)
+    → Room a (i + 1) → Says b (Stop r) n
+halted {r = r} o a i h p e m = let v = p .refused e in saying h (rw (v .0, v .1) (stopped a (i + 1) r m refl))
+
+pub push-full : (a : List ℤ) (n : ℕ) (z : ℤ) → 64 ≤ n → fault 13 ≡ pushedWithin z (stackOf (pos 0) a n)
+push-full a n z h = rw (stack-length (pos 0) a n, le-ltb n 64 h)
+
+pub push-room : (a : List ℤ) (n : ℕ) (z : ℤ) → n < 64 → pushedWithin z (stackOf (pos 0) a n) ≡ pushed (fine z) (stackOf (pos 0) a n)
+push-room a n z h = rw (stack-length (pos 0) a n, lt-ltb n 64 h)
 
 -- operators on too few numbers, and on enough
-pub unary-short : (a : List ℤ) (n k t : ℕ) → n < 1 → fault 13 ≡ unaryNext k t (stackOf a n)
+pub unary-short : (a : List ℤ) (n k t : ℕ) → n < 1 → fault 13 ≡ unaryNext k t (stackOf (pos 0) a n)
 unfolding stackOf
 unary-short a zero k t h = refl
 unary-short a (suc n) k t h = absurd (omega arith)
 
-pub binary-short : (a : List ℤ) (n k t : ℕ) → n ≤ 1 → fault 13 ≡ binaryNext k t (stackOf a n)
+pub binary-short : (a : List ℤ) (n k t : ℕ) → n ≤ 1 → fault 13 ≡ binaryNext k t (stackOf (pos 0) a n)
 unfolding stackOf
 binary-short a zero k t h = refl
 binary-short a (suc zero) k t h = refl
 binary-short a (suc (suc n)) k t h = absurd (omega arith)
 
-pub unary-more : (a : List ℤ) (n k t : ℕ) → 1 ≤ n → unaryNext k t (stackOf a n) ≡ pushed (unaryOn k t (getD a (n - 1) (pos 0))) (stackOf a (n - 1))
+pub unary-more : (a : List ℤ) (n k t : ℕ) → 1 ≤ n → unaryNext k t (stackOf (pos 0) a n) ≡ pushed (unaryOn k t (getD a (n - 1) (pos 0))) (stackOf (pos 0) a (n - 1))
 unfolding stackOf
 unary-more a zero k t h = absurd (omega arith)
 unary-more a (suc n) k t h = let e : suc n - 1 ≡ n = omega arith in rw e
 
 pub binary-more : (a : List ℤ) (n k t : ℕ) → 2 ≤ n
-    → binaryNext k t (stackOf a n) ≡ pushed (binaryOn k t (getD a (n - 1 - 1) (pos 0)) (getD a (n - 1) (pos 0))) (stackOf a (n - 1 - 1))
+    → binaryNext k t (stackOf (pos 0) a n) ≡ pushed (binaryOn k t (getD a (n - 2) (pos 0)) (getD a (n - 2 + 1) (pos 0))) (stackOf (pos 0) a (n - 2))
 unfolding stackOf
 binary-more a zero k t h = absurd (omega arith)
 binary-more a (suc zero) k t h = absurd (omega arith)
 binary-more a (suc (suc n)) k t h =
-    let d : suc (suc n) - 1 - 1 ≡ n = omega arith in
-    let e : suc (suc n) - 1 ≡ suc n = omega arith in
+    let d : suc (suc n) - 2 ≡ n = omega arith in
+    let e : n + 1 ≡ suc n = omega arith in
     rw (d, e)
 
 -- the number on top
-pub top-none : (a : List ℤ) (n : ℕ) → n < 1 → Refused 13 ≡ checkedOf (topOf (stackOf a n))
+pub top-none : (a : List ℤ) (n : ℕ) → n < 1 → Fault 13 ≡ evaluatedOf (topOf (stackOf (pos 0) a n))
 unfolding stackOf
 top-none a zero h = refl
 top-none a (suc n) h = absurd (omega arith)
 
-pub top-some : (a : List ℤ) (n : ℕ) → 1 ≤ n → Value (getD a (n - 1) (pos 0)) ≡ checkedOf (topOf (stackOf a n))
+pub top-some : (a : List ℤ) (n : ℕ) → 1 ≤ n → found (getD a (n - 1) (pos 0)) ≡ evaluatedOf (topOf (stackOf (pos 0) a n))
 unfolding stackOf
 top-some a zero h = absurd (omega arith)
 top-some a (suc n) h = let e : suc n - 1 ≡ n = omega arith in rw e
@@ -137,14 +125,14 @@ module _ (codes : List ℕ) (args : List ℤ) (from to : ℕ) (i v : List ℤ) w
   -- with n numbers in the array a, at the operation k: the rest leaves what the whole leaves
   pub record Left (a : List ℤ) (n k : ℕ) : Type 0 where
     pub room : Room a n
-    pub same : bind (runOps (stepOf i v) (opsFrom codes args k (to - k)) (stackOf a n)) topOf ≡ valueIn codes args from to i v
+    pub same : bind (runOps (stepOf i v) (opsFrom codes args k (to - k)) (stackOf (pos 0) a n)) topOf ≡ valueIn codes args from to i v
 
   pub left-first : (a : List ℤ) → Room a 0 → Left a 0 from
   unfolding valueIn stackOf
   left-first a h = record { room = h; same = refl }
 
   -- the run, an operation at a time
-  turn : (n k : ℕ) (a : List ℤ) (o : Out (List ℤ)) → Left a n k → k < to → o ≡ stepOf i v (op (getD codes k 0) (getD args k (pos 0))) (stackOf a n)
+  turn : (n k : ℕ) (a : List ℤ) (o : Out (List ℤ)) → Left a n k → k < to → o ≡ stepOf i v (op (getD codes k 0) (getD args k (pos 0))) (stackOf (pos 0) a n)
       → bind (bind o (λ u. runOps (stepOf i v) (opsFrom codes args (k + 1) (to - (k + 1))) u)) topOf ≡ valueIn codes args from to i v
   unfolding opsFrom runOps
   turn n k a o p h e =
@@ -152,21 +140,21 @@ module _ (codes : List ℕ) (args : List ℤ) (from to : ℕ) (i v : List ℤ) w
       rw e (rw z at (p .same))
 
   pub left-again : (n k : ℕ) (a a′ : List ℤ) (r : Transition) (d : ℕ) → Left a n k → k < to
-      → Says a′ r (stepOf i v (op (getD codes k 0) (getD args k (pos 0))) (stackOf a n)) → r ≡ Go d → Left a′ d (k + 1)
+      → Says a′ r (stepOf i v (op (getD codes k 0) (getD args k (pos 0))) (stackOf (pos 0) a n)) → r ≡ Go d → Left a′ d (k + 1)
   unfolding bind
   left-again n k a a′ r d p h q e =
       let w = rw e at q in
-      record { room = w .room; same = turn n k a (fine (stackOf a′ d)) p h (w .says) }
+      record { room = w .room; same = turn n k a (fine (stackOf (pos 0) a′ d)) p h (w .says) }
 
   pub left-stop : (n k : ℕ) (a a′ : List ℤ) (r : Transition) (x : ℕ) → Left a n k → k < to
-      → Says a′ r (stepOf i v (op (getD codes k 0) (getD args k (pos 0))) (stackOf a n)) → r ≡ Stop x → Refused x ≡ checkedOf (valueIn codes args from to i v)
+      → Says a′ r (stepOf i v (op (getD codes k 0) (getD args k (pos 0))) (stackOf (pos 0) a n)) → r ≡ Stop x → Fault x ≡ evaluatedOf (valueIn codes args from to i v)
   unfolding bind
   left-stop n k a a′ r x p h q e =
       let w = rw e at q in
-      ap (λ (y : Out ℤ). checkedOf y) (turn n k a (fault x) p h (w .says))
+      ap (λ (y : Out ℤ). evaluatedOf y) (turn n k a (fault x) p h (w .says))
 
-  pub left-end : (n k : ℕ) (a : List ℤ) (r : Checked) → Left a n k → to ≤ k → r ≡ checkedOf (topOf (stackOf a n)) → r ≡ checkedOf (valueIn codes args from to i v)
+  pub left-end : (n k : ℕ) (a : List ℤ) (r : Evaluated) → Left a n k → to ≤ k → r ≡ evaluatedOf (topOf (stackOf (pos 0) a n)) → r ≡ evaluatedOf (valueIn codes args from to i v)
   unfolding bind runOps opsFrom
   left-end n k a r p h e =
       let z : to - k ≡ 0 = omega arith in
-      e ∙ ap (λ (y : Out ℤ). checkedOf y) (rw z at (p .same))
+      e ∙ ap (λ (y : Out ℤ). evaluatedOf y) (rw z at (p .same))

@@ -15,6 +15,8 @@ use Rattle.codes.specs.Types.{NONE}
 use Rattle.operators.specs.Operators.{unaryOn, binaryOn}
 use Rattle.ir.specs.Operations.{Op}
 use Rattle.ir.specs.Arrays.{opsFrom}
+use Rattle.operations.specs.declared.Evaluated.{Evaluated}
+use Rattle.operations.specs.declared.Evaluated.the-variants.{Value, Fault}
 
 -- the number of a type that an operator's operation has as its argument; 255, no type's, where it has none
 abbrev pub kindOf : ℤ → ℕ
@@ -61,6 +63,15 @@ topOf (x ∷ st) = fine x
 -- what the operations from .. to leave
 unfoldable pub valueIn : List ℕ → List ℤ → ℕ → ℕ → List ℤ → List ℤ → Out ℤ
 valueIn codes args from to i v = bind (runOps (stepOf i v) (opsFrom codes args from (to - from)) []) topOf
+
+-- a value
+abbrev pub found : ℤ → Evaluated
+found z = Value (record { value = z })
+
+-- the answer for an outcome: the value, or the refusal's number
+abbrev pub evaluatedOf : Out ℤ → Evaluated
+evaluatedOf (fine z) = found z
+evaluatedOf (fault q) = Fault q
 
 -- an expression that operations can perform: "64 literals, names and operators in an expression", and every operator takes the type that it stands with
 pub record Performable (e : Expr) : Type 0 where

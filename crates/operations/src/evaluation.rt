@@ -6,17 +6,18 @@ ghost use lib.IntN.{pos};
 ghost use Rattle.design.specs.Expression.{Expr};
 ghost use Rattle.semantics.specs.Evaluation.{evaluate as evaluateOf};
 ghost use Rattle.semantics.specs.Twos.{unsigned32};
-ghost use Rattle.signed.specs.Signed.{checkedOf};
 ghost use Rattle.ir.specs.Operations.{op as operation, ops};
 ghost use Rattle.ir.specs.Arrays.{opsFrom};
-ghost use Rattle.operations.specs.Machine.{kindOf, unaryNext, binaryNext, pushed, pushedWithin, stepOf, topOf, valueIn, Performable};
-ghost use Rattle.operations.specs.Stack.{stackOf, outcomeOf, Room, Says};
+ghost use Rattle.codes.specs.Stack.{stackOf};
+ghost use Rattle.operations.specs.Machine.{kindOf, unaryNext, binaryNext, pushedWithin, stepOf, topOf, valueIn, evaluatedOf, Performable};
+ghost use Rattle.operations.specs.Stack.{Room, Says};
+use crate::Evaluated;
+use crate::Found;
 use crate::Transition;
 use codes::limit;
 use codes::operation;
 use codes::refusal;
 use codes::types;
-use signed::Checked;
 
 // The k-th number of a row; 0 where it has none.
 pub fn number(row: &[i32], k: usize) -> i32
@@ -51,56 +52,49 @@ fn kind(arg: i32) -> u8
     }
 }
 
-// Puts an answer on the stack at element i, the last there.
-fn keep(stack: &mut [i32; limit::ITEMS], i: usize, e: Checked) -> Transition
-    requires { ⌜ Room (now stack) (i + 1) ⌝ }
-    ensures { λ r. ⌜ Says (now (stack .exit)) r (pushed (outcomeOf e) (stackOf (now (stack .entry)) i)) ⌝ }
-{
-    match e {
-        Checked::Value(v) => {
-            stack[i] = v;
-            Transition::Go(i + 1)
-        }
-        Checked::Refused(q) => Transition::Stop(q),
-    }
-}
-
 // Pushes an operand.
 fn push(stack: &mut [i32; limit::ITEMS], depth: usize, v: i32) -> Transition
     requires { ⌜ Room (now stack) depth ⌝ }
-    ensures { λ r. ⌜ Says (now (stack .exit)) r (pushedWithin v (stackOf (now (stack .entry)) depth)) ⌝ }
+    ensures { λ r. ⌜ Says (now (stack .exit)) r (pushedWithin v (stackOf (pos 0) (now (stack .entry)) depth)) ⌝ }
 {
     if limit::ITEMS <= depth {
         return Transition::Stop(refusal::BAD_LINE);
     }
-    keep(stack, depth, Checked::Value(v))
+    stack[depth] = v;
+    Transition::Go(depth + 1)
 }
 
 // Applies an operator of one operand of the type t.
 fn apply_unary(stack: &mut [i32; limit::ITEMS], depth: usize, op: u8, t: u8) -> Transition
     requires { ⌜ Room (now stack) depth ⌝ }
-    ensures { λ r. ⌜ Says (now (stack .exit)) r (unaryNext op t (stackOf (now (stack .entry)) depth)) ⌝ }
+    ensures { λ r. ⌜ Says (now (stack .exit)) r (unaryNext op t (stackOf (pos 0) (now (stack .entry)) depth)) ⌝ }
 {
     if depth < 1 {
         return Transition::Stop(refusal::BAD_LINE);
     }
     let i = depth - 1;
-    let e = operators::unary(op, t, stack[i]);
-    keep(stack, i, e)
+    let q = operators::apply_unary(stack, i, op, t);
+    if q != 0 {
+        return Transition::Stop(q);
+    }
+    Transition::Go(i + 1)
 }
 
 // Applies an operator of two operands of the type t; the left one lies below the right one.
 fn apply_binary(stack: &mut [i32; limit::ITEMS], depth: usize, op: u8, t: u8) -> Transition
     requires { ⌜ Room (now stack) depth ⌝ }
-    ensures { λ r. ⌜ Says (now (stack .exit)) r (binaryNext op t (stackOf (now (stack .entry)) depth)) ⌝ }
+    ensures { λ r. ⌜ Says (now (stack .exit)) r (binaryNext op t (stackOf (pos 0) (now (stack .entry)) depth)) ⌝ }
 {
     if depth <= 1 {
         return Transition::Stop(refusal::BAD_LINE);
     }
-    let j = depth - 1;
-    let i = j - 1;
-    let e = operators::binary(op, t, stack[i], stack[j]);
-    keep(stack, i, e)
+    let right = depth - 1;
+    let i = right - 1;
+    let q = operators::apply_binary(stack, i, op, t);
+    if q != 0 {
+        return Transition::Stop(q);
+    }
+    Transition::Go(i + 1)
 }
 
 // Performs an operation: literals come first among the codes, then inputs and variables, then operators.
@@ -113,7 +107,7 @@ fn step(
     depth: usize,
 ) -> Transition
     requires { ⌜ Room (now stack) depth ⌝ }
-    ensures { λ r. ⌜ Says (now (stack .exit)) r (stepOf (now (inputs .entry)) (now (variables .entry)) (operation op arg) (stackOf (now (stack .entry)) depth)) ⌝ }
+    ensures { λ r. ⌜ Says (now (stack .exit)) r (stepOf (now (inputs .entry)) (now (variables .entry)) (operation op arg) (stackOf (pos 0) (now (stack .entry)) depth)) ⌝ }
 {
     if op < operation::INPUT {
         return push(stack, depth, arg);
@@ -131,14 +125,16 @@ fn step(
 }
 
 // The number on top of the stack.
-fn top(stack: &[i32; limit::ITEMS], depth: usize) -> Checked
+fn top(stack: &[i32; limit::ITEMS], depth: usize) -> Evaluated
     requires { ⌜ Room (now stack) depth ⌝ }
-    ensures { λ r. ⌜ r ≡ checkedOf (topOf (stackOf (now (stack .entry)) depth)) ⌝ }
+    ensures { λ r. ⌜ r ≡ evaluatedOf (topOf (stackOf (pos 0) (now (stack .entry)) depth)) ⌝ }
 {
     if depth < 1 {
-        return Checked::Refused(refusal::BAD_LINE);
+        return Evaluated::Fault(refusal::BAD_LINE);
     }
-    Checked::Value(stack[depth - 1])
+    Evaluated::Value(Found {
+        value: stack[depth - 1],
+    })
 }
 
 // Runs the operations from .. to over a lent stack.
@@ -150,9 +146,9 @@ fn run(
     inputs: &[i32],
     variables: &[i32],
     stack: &mut [i32; limit::ITEMS],
-) -> Checked
+) -> Evaluated
     requires { ⌜ Room (now stack) 0 ⌝ }
-    ensures { λ r. ⌜ r ≡ checkedOf (valueIn (now (codes .entry)) (now (args .entry)) from to (now (inputs .entry)) (now (variables .entry))) ⌝ }
+    ensures { λ r. ⌜ r ≡ evaluatedOf (valueIn (now (codes .entry)) (now (args .entry)) from to (now (inputs .entry)) (now (variables .entry))) ⌝ }
 {
     let mut depth: usize = 0;
     let mut at = from;
@@ -171,7 +167,7 @@ fn run(
                 at += 1;
             }
             Transition::Stop(q) => {
-                return Checked::Refused(q);
+                return Evaluated::Fault(q);
             }
         }
     }
@@ -186,10 +182,10 @@ pub fn evaluate(
     to: usize,
     inputs: &[i32],
     variables: &[i32],
-) -> Checked
-    ensures { λ r. ⌜ r ≡ checkedOf (valueIn (now (codes .entry)) (now (args .entry)) from to (now (inputs .entry)) (now (variables .entry))) ⌝ }
+) -> Evaluated
+    ensures { λ r. ⌜ r ≡ evaluatedOf (valueIn (now (codes .entry)) (now (args .entry)) from to (now (inputs .entry)) (now (variables .entry))) ⌝ }
     ensures { λ r. ⌜ ((e : Expr) → opsFrom (now (codes .entry)) (now (args .entry)) from (length (ops e)) ≡ ops e → to ≡ from + length (ops e) → Performable e
-        → r ≡ checkedOf (evaluateOf e (now (inputs .entry)) (now (variables .entry)))) ⌝ }
+        → r ≡ evaluatedOf (evaluateOf e (now (inputs .entry)) (now (variables .entry)))) ⌝ }
 {
     let mut stack = [0i32; limit::ITEMS];
     run(codes, args, from, to, inputs, variables, &mut stack)

@@ -5,22 +5,29 @@ use native.Mathlib.Omega.{arith}
 use mathlib.Core.Path.{_≡_, refl, sym, ap, _∙_}
 use mathlib.Core.Bool.{Bool, true, false, cond}
 use mathlib.Core.Logic.{_⊎_, inl, inr}
-use mathlib.Core.Option.{Option, none, some, Option·map, bind}
+use mathlib.Core.List.{List, []}
+use mathlib.Core.Option.{Option, none, some}
 use borrow.Author.Tests.{ne-eqb, eqb-true, eqb-false}
+use lib.ListN.{set}
 use lib.IntN.{ℤ, _+ℤ_, _-ℤ_}
 use lib.Dec.{eqb}
-use Rattle.design.specs.Types.{Ty, std-logic, integer, ExprTy, plain, boolean}
-use Rattle.design.specs.Expression.{Unary, sign, invert, Binary, plus, minus, equal, unequal, less, at-most, greater, at-least, and, or, xor, times, divide, modulo, remainder, fault}
+use mir.Syntax.{w32}
+use mir.Val.{SFits, toZ, ofZ}
+use mir.Facts.{toZ-ofZ}
+use Rattle.design.specs.Types.{std-logic, integer, ExprTy, plain, boolean}
+use Rattle.design.specs.Expression.{Unary, sign, invert, Binary, plus, minus, equal, unequal, less, at-most, greater, at-least, and, or, xor, times, divide, modulo, remainder, leaf, int, unary, binary, Out, fine, fault, bind, fold}
 use Rattle.design.specs.Expression.{sumType, orderType, equalityType, logicalType, unaryType, binaryType}
-use Rattle.semantics.specs.Evaluation.{asInteger, binaryResult, applyUnary, applyBinary}
-use Rattle.semantics.proofs.Basic.{none-some, some-injective}
+use Rattle.semantics.specs.Evaluation.{asInteger, binaryResult, applyUnary, applyBinary, leafValue, evaluate}
+use Rattle.semantics.proofs.Basic.{fault-injective}
+use Rattle.semantics.proofs.Faults.{operator-number, fault-number}
 use Rattle.codes.specs.Operation.{PLUS, AND, unaryCode, binaryCode, unaryFor, binaryFor}
-use Rattle.codes.specs.Types.{BOOLEAN, tagOf, typeOfTag, unaryTypeFor, binaryTypeFor, unaryOf, binaryOf}
-use Rattle.codes.proofs.OperationLaws.{unary-code, binary-code, unary-is, binary-is, tag-type}
+use Rattle.codes.specs.Types.{tagOf, typeOfTag}
+use Rattle.codes.proofs.OperationLaws.{unary-code, binary-code, unary-is, binary-is}
+use Rattle.codes.proofs.TypeLaws.{tag-type}
 use Rattle.signed.specs.Signed.{checkedOf}
 use Rattle.signed.specs.declared.Checked.{Checked}
-use Rattle.signed.specs.declared.Checked.the-variants.{Refused}
-use Rattle.operators.specs.Operators.{unaryBy, binaryBy, unaryOn, binaryOn, Results}
+use Rattle.signed.specs.declared.Checked.the-variants.{Value, Refused}
+use Rattle.operators.specs.Operators.{judged, unaryBy, binaryBy, unaryOn, binaryOn, Applied}
 
 -- a code is no operator's, or that of one operator
 pub by-unary : (P : Option Unary → Type 0) (k : ℕ) → P none → ((o : Unary) → k ≡ unaryCode o → P (some o)) → P (unaryFor k)
@@ -59,10 +66,10 @@ sum-arm k x y {r} a b e = go (eqb k 19) refl
 
 -- EVERY OTHER CODE
 
-pub scaled-other : (k : ℕ) (x y : ℤ) → (PLUS ≤ k → AND ≤ k) → (k ≡ 29 → ⊥) → (k ≡ 30 → ⊥) → (k ≡ 31 → ⊥) → (k ≡ 32 → ⊥)
+pub multiplied-other : (k : ℕ) (x y : ℤ) → (PLUS ≤ k → AND ≤ k) → (k ≡ 29 → ⊥) → (k ≡ 30 → ⊥) → (k ≡ 31 → ⊥) → (k ≡ 32 → ⊥)
     → Refused 13 ≡ checkedOf (binaryBy (binaryFor k) (some (plain integer)) x y)
 unfolding binaryType logicalType
-scaled-other k x y h a b c d = by-binary (λ o. Refused 13 ≡ checkedOf (binaryBy o (some (plain integer)) x y)) k refl two
+multiplied-other k x y h a b c d = by-binary (λ o. Refused 13 ≡ checkedOf (binaryBy o (some (plain integer)) x y)) k refl two
   where
     low : {P : Type 0} → 18 ≤ k → k < 26 → P
     low l m = let z = h l in absurd (omega arith)
@@ -176,20 +183,6 @@ pub binary-no-tag : (k t : ℕ) (x y : ℤ) → (t ≡ 0 → ⊥) → (t ≡ 1 �
 unfolding binaryOn
 binary-no-tag k t x y a b c = rw (no-type t a b c) (by-binary (λ o. Refused 13 ≡ checkedOf (binaryBy o none x y)) k refl (λ o q. refl))
 
--- no two types have one number
-pub tag-is : (t : ℕ) (u : ExprTy) → typeOfTag t ≡ some u → t ≡ tagOf u
-unfolding typeOfTag
-tag-is t u e = go (eqb t 254) refl e
-  where
-    small : (b c : Bool) → eqb t 0 ≡ b → eqb t 1 ≡ c → Option·map plain (cond b (some std-logic) (cond c (some integer) none)) ≡ some u → t ≡ tagOf u
-    small true c h k m = eqb-true t 0 h ∙ ap tagOf (some-injective (plain std-logic) u m)
-    small false true h k m = eqb-true t 1 k ∙ ap tagOf (some-injective (plain integer) u m)
-    small false false h k m = none-some u m
-
-    go : (b : Bool) → eqb t 254 ≡ b → cond b (some boolean) (Option·map plain (cond (eqb t 0) (some std-logic) (cond (eqb t 1) (some integer) none))) ≡ some u → t ≡ tagOf u
-    go true h m = eqb-true t 254 h ∙ ap tagOf (some-injective boolean u m)
-    go false h m = small (eqb t 0) (eqb t 1) refl refl m
-
 -- an operator that takes the type it stands with
 pub unary-taken : (o : Unary) (u w : ExprTy) (x : ℤ) → unaryType o u ≡ some w → unaryOn (unaryCode o) (tagOf u) x ≡ applyUnary o u x
 unfolding unaryOn
@@ -199,131 +192,6 @@ pub binary-taken : (o : Binary) (u w : ExprTy) (x y : ℤ) → binaryType o u �
 unfolding binaryOn
 binary-taken o u w x y h = rw (binary-code o, tag-type u, h)
 
--- THE TYPE OF A RESULT
-
-sum-gives : (w u : ExprTy) → sumType w ≡ some u → w ≡ u
-unfolding sumType
-sum-gives (plain std-logic) u e = none-some u e
-sum-gives (plain integer) u e = some-injective (plain integer) u e
-sum-gives boolean u e = none-some u e
-
-logical-gives : (w u : ExprTy) → logicalType w ≡ some u → w ≡ u
-unfolding logicalType
-logical-gives (plain std-logic) u e = some-injective (plain std-logic) u e
-logical-gives (plain integer) u e = none-some u e
-logical-gives boolean u e = some-injective boolean u e
-
-order-gives : (w u : ExprTy) → orderType w ≡ some u → boolean ≡ u
-unfolding orderType
-order-gives (plain std-logic) u e = none-some u e
-order-gives (plain integer) u e = some-injective boolean u e
-order-gives boolean u e = none-some u e
-
-equality-gives : (w u : ExprTy) → equalityType w ≡ some u → boolean ≡ u
-unfolding equalityType
-equality-gives (plain t) u e = some-injective boolean u e
-equality-gives boolean u e = none-some u e
-
--- an operator's operands have a type
-taken : (f : ExprTy → Option ExprTy) (t : ℕ) (u : ExprTy) → bind (typeOfTag t) f ≡ some u → (w : ExprTy) × (t ≡ tagOf w) × (f w ≡ some u)
-unfolding bind
-taken f t u e = go (typeOfTag t) refl e
-  where
-    go : (q : Option ExprTy) → typeOfTag t ≡ q → bind q f ≡ some u → (w : ExprTy) × (t ≡ tagOf w) × (f w ≡ some u)
-    go none h m = none-some u m
-    go (some w) h m = (w, tag-is t w h, m)
-
--- the operator first, or the type of its operands first
-turned : {A B C : Type 0} (a : Option A) (b : Option B) (f : A → B → Option C) → bind a (λ x. bind b (f x)) ≡ bind b (λ y. bind a (λ x. f x y))
-unfolding bind
-turned none none f = refl
-turned none (some y) f = refl
-turned (some x) none f = refl
-turned (some x) (some y) f = refl
-
-module _ (k t : ℕ) where
-  unary-turned : bind (unaryFor k) (λ i. bind (typeOfTag t) (unaryType i)) ≡ unaryTypeFor k t
-  unfolding unaryOf
-  unary-turned = turned (unaryFor k) (typeOfTag t) unaryType
-
-  binary-turned : bind (binaryFor k) (λ i. bind (typeOfTag t) (binaryType i)) ≡ binaryTypeFor k t
-  unfolding binaryOf
-  binary-turned = turned (binaryFor k) (typeOfTag t) binaryType
-
-  unary-keeps : (u : ExprTy) → unaryTypeFor k t ≡ some u → t ≡ tagOf u
-  unfolding bind unaryType
-  unary-keeps u z = by-unary (λ o. bind o (λ i. bind (typeOfTag t) (unaryType i)) ≡ some u → t ≡ tagOf u) k (λ e. none-some u e) one (unary-turned ∙ z)
-    where
-      one : (o : Unary) → k ≡ unaryCode o → bind (typeOfTag t) (unaryType o) ≡ some u → t ≡ tagOf u
-      one sign q e = let p = taken (unaryType sign) t u e in p .1 ∙ ap tagOf (sum-gives (p .0) u (p .2))
-      one invert q e = let p = taken (unaryType invert) t u e in p .1 ∙ ap tagOf (logical-gives (p .0) u (p .2))
-
-  -- no comparison has such a code
-  no-unary : 20 ≤ k → (u : ExprTy) → unaryTypeFor k t ≡ some u → BOOLEAN ≡ tagOf u
-  unfolding bind
-  no-unary h u z = by-unary (λ o. bind o (λ i. bind (typeOfTag t) (unaryType i)) ≡ some u → BOOLEAN ≡ tagOf u) k (λ e. none-some u e) one (unary-turned ∙ z)
-    where
-      one : (o : Unary) → k ≡ unaryCode o → bind (typeOfTag t) (unaryType o) ≡ some u → BOOLEAN ≡ tagOf u
-      one sign q e = absurd (omega arith)
-      one invert q e = absurd (omega arith)
-
-  pub compared : 20 ≤ k → k < 26 → Results k t BOOLEAN
-  unfolding bind binaryType
-  compared a b = record { one = no-unary a; two = λ u z. by-binary (λ o. bind o (λ i. bind (typeOfTag t) (binaryType i)) ≡ some u → BOOLEAN ≡ tagOf u) k (λ e. none-some u e) (two u) (binary-turned ∙ z) }
-    where
-      order : (u : ExprTy) → bind (typeOfTag t) orderType ≡ some u → BOOLEAN ≡ tagOf u
-      order u e = let p = taken orderType t u e in ap tagOf (order-gives (p .0) u (p .2))
-
-      equality : (u : ExprTy) → bind (typeOfTag t) equalityType ≡ some u → BOOLEAN ≡ tagOf u
-      equality u e = let p = taken equalityType t u e in ap tagOf (equality-gives (p .0) u (p .2))
-
-      two : (u : ExprTy) (o : Binary) → k ≡ binaryCode o → bind (typeOfTag t) (binaryType o) ≡ some u → BOOLEAN ≡ tagOf u
-      two u plus q e = absurd (omega arith)
-      two u minus q e = absurd (omega arith)
-      two u equal q e = equality u e
-      two u unequal q e = equality u e
-      two u less q e = order u e
-      two u at-most q e = order u e
-      two u greater q e = order u e
-      two u at-least q e = order u e
-      two u and q e = absurd (omega arith)
-      two u or q e = absurd (omega arith)
-      two u xor q e = absurd (omega arith)
-      two u times q e = absurd (omega arith)
-      two u divide q e = absurd (omega arith)
-      two u modulo q e = absurd (omega arith)
-      two u remainder q e = absurd (omega arith)
-
-  pub kept : (20 ≤ k → 26 ≤ k) → Results k t t
-  unfolding bind binaryType
-  kept h = record { one = unary-keeps; two = λ u z. by-binary (λ o. bind o (λ i. bind (typeOfTag t) (binaryType i)) ≡ some u → t ≡ tagOf u) k (λ e. none-some u e) (two u) (binary-turned ∙ z) }
-    where
-      low : {P : Type 0} → 20 ≤ k → k < 26 → P
-      low l m = let z = h l in absurd (omega arith)
-
-      sum : (u : ExprTy) → bind (typeOfTag t) sumType ≡ some u → t ≡ tagOf u
-      sum u e = let p = taken sumType t u e in p .1 ∙ ap tagOf (sum-gives (p .0) u (p .2))
-
-      truth : (u : ExprTy) → bind (typeOfTag t) logicalType ≡ some u → t ≡ tagOf u
-      truth u e = let p = taken logicalType t u e in p .1 ∙ ap tagOf (logical-gives (p .0) u (p .2))
-
-      two : (u : ExprTy) (o : Binary) → k ≡ binaryCode o → bind (typeOfTag t) (binaryType o) ≡ some u → t ≡ tagOf u
-      two u plus q e = sum u e
-      two u minus q e = sum u e
-      two u equal q e = low (omega arith) (omega arith)
-      two u unequal q e = low (omega arith) (omega arith)
-      two u less q e = low (omega arith) (omega arith)
-      two u at-most q e = low (omega arith) (omega arith)
-      two u greater q e = low (omega arith) (omega arith)
-      two u at-least q e = low (omega arith) (omega arith)
-      two u and q e = truth u e
-      two u or q e = truth u e
-      two u xor q e = truth u e
-      two u times q e = sum u e
-      two u divide q e = sum u e
-      two u modulo q e = sum u e
-      two u remainder q e = sum u e
-
 -- past the codes of + and - and of the comparisons
 pub past : (k : ℕ) → 20 ≤ k → (k ≡ 20 → ⊥) → (k ≡ 21 → ⊥) → (k ≡ 22 → ⊥) → (k ≡ 23 → ⊥) → (k ≡ 24 → ⊥) → (k ≡ 25 → ⊥) → AND ≤ k
 past k h a b c d e f = omega arith
@@ -332,3 +200,46 @@ past k h a b c d e f = omega arith
 pub either : {A B P : Type 0} → A ⊎ B → (A → P) → (B → P) → P
 either (inl a) f g = f a
 either (inr b) f g = g b
+
+-- A REFUSAL'S NUMBER IS NEVER 0
+
+judged-number : (w : Option ExprTy) (v : Out ℤ) → (v ≡ fault 0 → ⊥) → judged w v ≡ fault 0 → ⊥
+judged-number none v f e = let z = fault-injective {X = ℤ} 13 0 e in omega arith
+judged-number (some t) v f e = f e
+
+-- an operator on two literals
+unary-not-0 : (o : Unary) (u : ExprTy) (x : ℤ) → applyUnary o u x ≡ fault 0 → ⊥
+unfolding evaluate fold bind leafValue
+unary-not-0 o u x e = let z = operator-number 0 (fault-number [] [] (unary o u (leaf (int x))) 0 e) in omega (arith, z .0)
+
+binary-not-0 : (o : Binary) (u : ExprTy) (x y : ℤ) → applyBinary o u x y ≡ fault 0 → ⊥
+unfolding evaluate fold bind leafValue
+binary-not-0 o u x y e = let z = operator-number 0 (fault-number [] [] (binary o u (leaf (int x)) (leaf (int y))) 0 e) in omega (arith, z .0)
+
+unary-by-number : (b : Option Unary) (w : Option ExprTy) (x : ℤ) → unaryBy b w x ≡ fault 0 → ⊥
+unary-by-number none w x e = let z = fault-injective {X = ℤ} 13 0 e in omega arith
+unary-by-number (some o) none x e = let z = fault-injective {X = ℤ} 13 0 e in omega arith
+unary-by-number (some o) (some u) x e = judged-number (unaryType o u) (applyUnary o u x) (unary-not-0 o u x) e
+
+binary-by-number : (b : Option Binary) (w : Option ExprTy) (x y : ℤ) → binaryBy b w x y ≡ fault 0 → ⊥
+binary-by-number none w x y e = let z = fault-injective {X = ℤ} 13 0 e in omega arith
+binary-by-number (some o) none x y e = let z = fault-injective {X = ℤ} 13 0 e in omega arith
+binary-by-number (some o) (some u) x y e = judged-number (binaryType o u) (applyBinary o u x y) (binary-not-0 o u x y) e
+
+pub unary-number : (k t : ℕ) (x : ℤ) → unaryOn k t x ≡ fault 0 → ⊥
+unfolding unaryOn
+unary-number k t x e = unary-by-number (unaryFor k) (typeOfTag t) x e
+
+pub binary-number : (k t : ℕ) (x y : ℤ) → binaryOn k t x y ≡ fault 0 → ⊥
+unfolding binaryOn
+binary-number k t x y e = binary-by-number (binaryFor k) (typeOfTag t) x y e
+
+-- AN ANSWER PUT ON THE STACK, the number through a local
+
+pub placed-value : (a : List ℤ) (i : ℕ) (v : ℤ) (o : Out ℤ) → Value v ≡ checkedOf o → SFits w32 v → Applied o a i (set a i (toZ w32 (ofZ w32 v))) 0
+placed-value a i v (fine z) e f = let h : v ≡ z = cc in record { value = λ q. (v, ap fine (sym h), ap (set a i) (toZ-ofZ f)); refused = λ q. absurd (q refl) }
+placed-value a i v (fault p) e f = absurd (let z : _≡_ {A = ℕ} 0 1 = cc in omega arith)
+
+pub placed-refusal : (a : List ℤ) (i q : ℕ) (o : Out ℤ) → Refused q ≡ checkedOf o → (o ≡ fault 0 → ⊥) → Applied o a i a q
+placed-refusal a i q (fine z) e f = absurd (let z : _≡_ {A = ℕ} 0 1 = cc in omega arith)
+placed-refusal a i q (fault p) e f = let z : q ≡ p = cc in record { value = λ h. absurd (f (ap fault (sym z ∙ h))); refused = λ h. (ap fault (sym z), refl) }

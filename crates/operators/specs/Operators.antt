@@ -1,14 +1,16 @@
 -- Operators by number, on operands of a type by number (document 01, "Types", "Image, form 1"): what they give, by design's types and semantics' values.
 -- Assumes nothing.
 use mathlib.Core.Path.{_≡_}
+use mathlib.Core.List.{List}
 use mathlib.Core.Option.{Option, none, some}
 use Prim.Native.Nat.{ℕ}
+use lib.ListN.{set}
 use lib.IntN.{ℤ}
 use Rattle.design.specs.Types.{ExprTy}
-use Rattle.design.specs.Expression.{Unary, Binary, unaryType, binaryType, Out, fault}
+use Rattle.design.specs.Expression.{Unary, Binary, unaryType, binaryType, Out, fine, fault}
 use Rattle.semantics.specs.Evaluation.{applyUnary, applyBinary}
 use Rattle.codes.specs.Operation.{unaryFor, binaryFor}
-use Rattle.codes.specs.Types.{tagOf, typeOfTag, unaryTypeFor, binaryTypeFor}
+use Rattle.codes.specs.Types.{typeOfTag}
 
 -- a value where the result has a type; 13 where the operator does not take its operands
 abbrev pub judged : Option ExprTy → Out ℤ → Out ℤ
@@ -34,7 +36,8 @@ unaryOn op t x = unaryBy (unaryFor op) (typeOfTag t) x
 unfoldable pub binaryOn : ℕ → ℕ → ℤ → ℤ → Out ℤ
 binaryOn op t x y = binaryBy (binaryFor op) (typeOfTag t) x y
 
--- r is the number of the type of a result, where the operator with the code op takes operands of the type with the number t
-pub record Results (op t r : ℕ) : Type 0 where
-  pub one : (u : ExprTy) → unaryTypeFor op t ≡ some u → r ≡ tagOf u
-  pub two : (u : ExprTy) → binaryTypeFor op t ≡ some u → r ≡ tagOf u
+-- an operator that gives o has been applied at i of the stack a, which leaves b, and answered r: 0, and its value stands at i; or the number by which it is
+-- refused, and the stack is as it was
+pub record Applied (o : Out ℤ) (a : List ℤ) (i : ℕ) (b : List ℤ) (r : ℕ) : Type 0 where
+  pub value : r ≡ 0 → (v : ℤ) × (o ≡ fine v) × (b ≡ set a i v)
+  pub refused : (r ≡ 0 → ⊥) → (o ≡ fault r) × (b ≡ a)

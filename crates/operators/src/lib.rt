@@ -3,13 +3,18 @@
 ghost use mathlib.Core.Path.{_≡_};
 ghost use mathlib.Core.Option.{some};
 ghost use mathlib.Core.Bool.{_&&_, _||_};
-ghost use Prim.Native.Nat.{_≤_};
+ghost use Prim.Native.Nat.{_+_, _≤_, _<_};
+ghost use lib.ListN.{length, getD};
+ghost use lib.IntN.{ℤ, pos};
 ghost use Rattle.design.specs.Types.{std-logic, integer, plain, boolean};
+ghost use Rattle.design.specs.Expression.{Out, fault};
 ghost use Rattle.semantics.specs.Evaluation.{bitOf, differ};
 ghost use Rattle.codes.specs.Operation.{PLUS, AND, unaryFor, binaryFor};
+ghost use Rattle.codes.specs.Limit.{ITEMS};
 ghost use Rattle.signed.specs.Signed.{checkedOf};
 ghost use Rattle.signed.specs.declared.Checked.the-variants.{Value};
-ghost use Rattle.operators.specs.Operators.{unaryBy, binaryBy, unaryOn, binaryOn, Results};
+ghost use Rattle.operators.specs.Operators.{unaryBy, binaryBy, unaryOn, binaryOn, Applied};
+use codes::limit;
 use codes::operation;
 use codes::refusal;
 use codes::types;
@@ -44,7 +49,7 @@ fn differs(a: bool, b: bool) -> bool
 }
 
 // Two integers, by * / mod rem; no other operator of integers comes here.
-fn scaled(op: u8, x: i32, y: i32) -> Checked
+fn multiplied(op: u8, x: i32, y: i32) -> Checked
     requires { ⌜ (PLUS ≤ op → AND ≤ op) ⌝ }
     ensures { λ r. ⌜ r ≡ checkedOf (binaryBy (binaryFor op) (some (plain integer)) x y) ⌝ }
 {
@@ -69,7 +74,7 @@ fn integers(op: u8, x: i32, y: i32) -> Checked
         operation::LE => logic(signed::at_most(x, y)),
         operation::GT => logic(signed::less(y, x)),
         operation::GE => logic(signed::at_most(y, x)),
-        _ => scaled(op, x, y),
+        _ => multiplied(op, x, y),
     }
 }
 
@@ -97,7 +102,7 @@ fn bits(op: u8, x: i32, y: i32) -> Checked
 }
 
 // An operator of two operands, the left one first, both of the type t.
-pub fn binary(op: u8, t: u8, x: i32, y: i32) -> Checked
+fn binary(op: u8, t: u8, x: i32, y: i32) -> Checked
     ensures { λ r. ⌜ r ≡ checkedOf (binaryOn op t x y) ⌝ }
 {
     match t {
@@ -129,7 +134,7 @@ fn one_logical(op: u8, x: i32) -> Checked
 }
 
 // An operator of one operand of the type t.
-pub fn unary(op: u8, t: u8, x: i32) -> Checked
+fn unary(op: u8, t: u8, x: i32) -> Checked
     ensures { λ r. ⌜ r ≡ checkedOf (unaryOn op t x) ⌝ }
 {
     match t {
@@ -140,17 +145,37 @@ pub fn unary(op: u8, t: u8, x: i32) -> Checked
     }
 }
 
-// The type of an operator's result, for operands of a type t that it takes: the comparisons give a boolean, every other operator what it takes.
-pub fn result(op: u8, t: u8) -> u8
-    ensures { λ r. ⌜ Results op t r ⌝ }
+// Puts an answer at i on a stack; answers 0, or the refusal's number.
+fn place(stack: &mut [i32; limit::ITEMS], i: usize, c: Checked) -> u8
+    requires { ⌜ (length (now stack) ≡ ITEMS) × (i < ITEMS) ⌝ }
+    ensures { λ r. ⌜ ((o : Out ℤ) → c ≡ checkedOf o → (o ≡ fault 0 → ⊥) → Applied o (now (stack .entry)) i (now (stack .exit)) r) ⌝ }
 {
-    match op {
-        operation::EQ
-        | operation::NE
-        | operation::LT
-        | operation::LE
-        | operation::GT
-        | operation::GE => types::BOOLEAN,
-        _ => t,
+    match c {
+        Checked::Value(v) => {
+            stack[i] = v;
+            0
+        }
+        Checked::Refused(q) => q,
     }
+}
+
+// Applies an operator of one operand of the type t, which stands at i on a stack: its value takes the operand's place. Answers 0, or the refusal's
+// number: a number in a register, where an enum would go through memory.
+pub fn apply_unary(stack: &mut [i32; limit::ITEMS], i: usize, op: u8, t: u8) -> u8
+    requires { ⌜ (length (now stack) ≡ ITEMS) × (i < ITEMS) ⌝ }
+    ensures { λ r. ⌜ Applied (unaryOn op t (getD (now (stack .entry)) i (pos 0))) (now (stack .entry)) i (now (stack .exit)) r ⌝ }
+{
+    let c = unary(op, t, stack[i]);
+    place(stack, i, c)
+}
+
+// Applies an operator of two operands of the type t, which stand at i and behind it on a stack: its value takes the left one's place. Answers 0, or the
+// refusal's number.
+pub fn apply_binary(stack: &mut [i32; limit::ITEMS], i: usize, op: u8, t: u8) -> u8
+    requires { ⌜ (length (now stack) ≡ ITEMS) × (i + 1 < ITEMS) ⌝ }
+    ensures { λ r. ⌜ Applied (binaryOn op t (getD (now (stack .entry)) i (pos 0)) (getD (now (stack .entry)) (i + 1) (pos 0))) (now (stack .entry)) i
+        (now (stack .exit)) r ⌝ }
+{
+    let c = binary(op, t, stack[i], stack[i + 1]);
+    place(stack, i, c)
 }

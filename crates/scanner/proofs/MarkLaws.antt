@@ -9,8 +9,7 @@ use lib.Dec.{eqb, ltb}
 use lib.ListN.{length, getD, take, drop}
 use lib.Seq.{drop-cons, getD-drop}
 use borrow.Author.Tests.{eqb-true, ltb-true, ne-eqb}
-use Rattle.language.specs.Bytes.{bytes, elem}
-use Rattle.language.specs.Words.{Fixed, fixed}
+use Rattle.language.specs.Bytes.{bytes, elem, Fixed, fixed}
 use Rattle.language.specs.Lexing.{all, equal}
 use Rattle.language.specs.Lexer.{begins, Start, fixedStart}
 use Rattle.language.proofs.Facts.{and-true-both}

@@ -5,13 +5,14 @@ use mathlib.Core.List.{List, [], _∷_, map}
 use Prim.Native.Nat.{ℕ, suc, _+_, _-_, _≤_, _<_}
 use native.Mathlib.Omega.{arith}
 use native.Mathlib.Numerals.{add-one}
+use native.Mathlib.Decide.{decLt}
 use lib.Dec.{eqb}
 use lib.ListN.{length, getD, take, drop, drop-of-length-le}
 use lib.Seq.{drop-cons, getD-drop, take-at}
 use borrow.Author.Tests.{eq-eqb, ne-eqb}
 use Rattle.codes.specs.Token.{NUMBER}
-use Rattle.language.specs.Bytes.{ByteKind, letter, digit, underscore, blank, quote, mark, none, byteKind, kindCode, is, isDigit, inWord, notLF, lower}
-use Rattle.language.specs.Words.{wellMade, folded, reserved, wordKind, fixed, peek, isDashes}
+use Rattle.language.specs.Bytes.{bytes, between, elem, bytesOf, ByteKind, letter, digit, underscore, blank, quote, mark, none, byteKind, kindCode, is, isDigit, inWord, notLF, lower, fixed}
+use Rattle.language.specs.Words.{wellMade, folded, reserved, wordKind, peek, isDashes}
 use Rattle.language.specs.Lexer.{run, fixedStart, wordStart, numberStart, startFrom, startOf}
 use Rattle.language.proofs.Lexing.{run-is}
 use Rattle.scanner.specs.declared.pieces.Piece.the-variants.{Gap, Token, Nothing}
@@ -130,12 +131,28 @@ module _ (text : List ℕ) (at kind : ℕ) (h : at < length text) (e : kind ≡ 
   unfolding startFrom
   piece-blank f = sym (opened ∙ rw (is-kind blank f))
 
-  pub piece-mark : kind ≡ 5 → placed (startFrom mark (getD text at 0) (drop (suc at) text)) at ≡ pieceAt text at
+  piece-mark : kind ≡ 5 → placed (startFrom mark (getD text at 0) (drop (suc at) text)) at ≡ pieceAt text at
   piece-mark f = sym (opened ∙ rw (is-kind mark f))
 
-  pub piece-quote : kind ≡ 4 → placed (fixedStart fixed (drop at text)) at ≡ pieceAt text at
+  piece-quote : kind ≡ 4 → placed (fixedStart fixed (drop at text)) at ≡ pieceAt text at
   unfolding startFrom
   piece-quote f = sym (opened ∙ rw (is-kind quote f, drop-cons text at 0 h))
+
+  -- a quote opens no comment
+  quote-dash : kind ≡ 4 → getD text at 0 ≡ 45 → ⊥
+  unfolding byteKind between elem bytesOf fixed bytes
+  quote-dash f g = let z : kind ≡ 5 = e ∙ ap (λ (b : ℕ). kindCode (byteKind b)) g in omega arith
+
+  -- a quote or a mark
+  pub piece-fixed : 4 ≤ kind → kind < 6 → placed (startFrom mark (getD text at 0) (drop (suc at) text)) at ≡ pieceAt text at
+  piece-fixed l m = go (decLt kind 5)
+    where
+      go : Dec (kind < 5) → placed (startFrom mark (getD text at 0) (drop (suc at) text)) at ≡ pieceAt text at
+      go (yes k) =
+          let f : kind ≡ 4 = omega arith in
+          mark-fixed text at (getD text at 0) (sym (dashes-not text at (getD text at 0) (quote-dash f)))
+          ∙ (ap (λ (l : List ℕ). placed (fixedStart fixed l) at) (sym (drop-cons text at 0 h)) ∙ piece-quote f)
+      go (no n) = piece-mark (omega arith)
 
   pub piece-nothing : (kind ≡ 0 → ⊥) → (kind ≡ 3 → ⊥) → (kind ≡ 5 → ⊥) → (kind ≡ 1 → ⊥) → (kind ≡ 4 → ⊥) → Nothing ≡ pieceAt text at
   unfolding startFrom

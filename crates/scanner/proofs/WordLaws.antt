@@ -10,7 +10,7 @@ use lib.ListN.{length, getD, take, drop, drop-of-length-le, length-take, length-
 use lib.Seq.{drop-cons}
 use borrow.Author.Tests.{eqb-false, eq-eqb, ne-eqb}
 use Rattle.codes.specs.Token.{NAME}
-use Rattle.language.specs.Bytes.{bytes, between, elem, byteKind, is, isUnder, inWord, lower}
+use Rattle.language.specs.Bytes.{bytes, between, elem, fixed, bytesOf, byteKind, is, isUnder, inWord, lower}
 use Rattle.language.specs.Words.{wellMade, Word, reserved, folded, wordKind}
 use Rattle.language.specs.Lexing.{all, equal}
 use Rattle.language.specs.Lexer.{begins}
@@ -127,7 +127,7 @@ plain [] = true
 plain (w ∷ ws) = (all inWord (w .bytes) && equal (map lower (w .bytes)) (w .bytes)) && plain ws
 
 plain-reserved : plain reserved ≡ true
-unfolding plain all equal reserved bytes inWord is byteKind between elem lower
+unfolding plain all equal reserved bytes inWord is byteKind between elem fixed bytesOf lower
 plain-reserved = refl
 
 -- two words are the same in lower case exactly when they have the same folded number

@@ -4,7 +4,7 @@ use mathlib.Core.List.{List, [], _∷_}
 use Prim.Native.Nat.{ℕ}
 use lib.Dec.{eqb}
 use lib.ListN.{length}
-use Rattle.language.specs.Words.{Fixed}
+use Rattle.language.specs.Bytes.{Fixed}
 use Rattle.language.specs.Lexing.{equal}
 
 -- the kind of the first that w is, or 0

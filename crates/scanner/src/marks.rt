@@ -4,7 +4,7 @@ ghost use mathlib.Core.List.{[], _∷_};
 ghost use Prim.Native.Nat.{_<_};
 ghost use lib.ListN.{length, drop};
 ghost use Rattle.language.specs.Lexer.{fixedStart};
-ghost use Rattle.language.specs.Words.{fixed};
+ghost use Rattle.language.specs.Bytes.{fixed};
 ghost use Rattle.scanner.specs.Pieces.{placed};
 ghost use Rattle.scanner.specs.Fixed.{fixedKind, ofLength};
 use crate::bytes;

@@ -53,7 +53,7 @@ fn opens_comment(text: &[u8], at: usize) -> bool
     bytes::byte_at(text, at + 1) == b'-'
 }
 
-// A comment or a mark.
+// A comment, a mark, or a literal in quotes, which opens no comment.
 fn mark_at(text: &[u8], at: usize) -> Piece
     requires { ⌜ at < length (now text) ⌝ }
     ensures { λ r. ⌜ r ≡ placed (startFrom mark (getD (now (text .entry)) at 0) (drop (suc at) (now (text .entry)))) at ⌝ }
@@ -79,14 +79,11 @@ pub fn piece_at(table: &[u8; kinds::BYTES], text: &[u8], at: usize) -> Piece
     if kind == kinds::BLANK {
         return Piece::Gap(at + 1);
     }
-    if kind == kinds::MARK {
-        return mark_at(text, at);
-    }
     if kind == kinds::DIGIT {
         return number_at(table, text, at);
     }
-    if kind == kinds::QUOTE {
-        return marks::fixed_at(text, at);
+    match kind {
+        kinds::QUOTE | kinds::MARK => mark_at(text, at),
+        _ => Piece::Nothing,
     }
-    Piece::Nothing
 }

@@ -9,6 +9,7 @@ use codes::declaration;
 use codes::item;
 use codes::limit;
 use codes::statement;
+use codes::token;
 use syntax::Finding;
 
 // The indices of the entity's and the architecture's names.
@@ -77,7 +78,7 @@ fn settle(
     requires { ⌜ i < 16384 ⌝ }
     ensures { λ r. ⌜ now (owners .exit) ≡ filled (ownerIn (now (text .entry)) (now (starts .entry)) (now (sizes .entry)) n (now (decls .entry)) d) (now (kinds .entry)) i (now (owners .entry)) ⌝ }
 {
-    if kinds[i] != 1 {
+    if kinds[i] != token::NAME {
         return;
     }
     owners[i] = owner_of(text, starts, sizes, n, decls, d, i);

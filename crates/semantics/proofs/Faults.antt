@@ -10,8 +10,8 @@ use lib.Signed.{quotZ}
 use Rattle.design.specs.Types.{ExprTy, eqZ, inRange}
 use Rattle.design.specs.Expression.{Leaf, Unary, sign, invert, Binary, plus, minus, equal, unequal, less, at-most, greater, at-least, and, or, xor, times, divide, modulo, remainder, Expr, leaf, unary, binary, Out, fine, fault, bind, fold}
 use Rattle.semantics.specs.Division.{byNonzero}
-use Rattle.semantics.specs.Evaluation.{unaryResult, binaryResult, asInteger, applyUnary, applyBinary, evaluate}
-use Rattle.semantics.specs.Faults.{OperatorNumber, OperatorRefused, sum, difference, product, quotient, divided-by-0, modulo-0, remainder-by-0, Faults, in-operand, at-sign, in-left, in-right, at-operator}
+use Rattle.semantics.specs.Evaluation.{unaryResult, binaryResult, asInteger, applyUnary, applyBinary, evaluate, OperatorNumber, OperatorRefused, sum, difference, product, quotient, divided-by-0, modulo-0, remainder-by-0}
+use Rattle.semantics.specs.Faults.{Faults, in-operand, at-sign, in-left, in-right, at-operator}
 use Rattle.semantics.proofs.Basic.{fault-fine, fault-injective}
 
 asInteger-fault : (z : ℤ) (q : ℕ) → asInteger z ≡ fault q → (inRange z ≡ false) × (q ≡ 16)

@@ -6,7 +6,7 @@ use mathlib.Core.List.{List}
 use lib.IntN.{ℤ}
 use Rattle.design.specs.Statement.{Act, output, variable, null, Stmt, act, wait, if-then, if-else, while, seq, size}
 use Rattle.semantics.specs.Equations.{Memory, Run, refused, log, Place, beginning, at, cycle}
-use Rattle.semantics.specs.Faults.{OperatorNumber}
+use Rattle.semantics.specs.Evaluation.{OperatorNumber}
 use Rattle.semantics.specs.Refusal.{ActFaults, StartFaults, ResumeFaults, EnterFaults, CycleFaults}
 use Rattle.semantics.proofs.Faults.{faults-number}
 use Rattle.semantics.proofs.Refusal.{refusal-exactly}

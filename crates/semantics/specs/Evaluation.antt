@@ -1,6 +1,10 @@
--- The value of an expression over an input row and the variables (document 01, "Types"). Values are integers of ℤ. Assumes nothing.
+-- The value of an expression over an input row and the variables (document 01, "Types"): what each operator gives, and where it is refused. Values are integers
+-- of ℤ. Assumes nothing.
+use mathlib.Core.Path.{_≡_}
+use mathlib.Core.Logic.{_⊎_}
 use mathlib.Core.Bool.{Bool, true, false, cond, not, _&&_, _||_}
 use mathlib.Core.List.{List}
+use Prim.Native.Nat.{ℕ}
 use lib.ListN.{getD}
 use lib.IntN.{ℤ, pos, _+ℤ_, _-ℤ_, _*ℤ_, negℤ}
 use lib.Signed.{leZ, ltZ, quotZ, remZ}
@@ -71,6 +75,20 @@ applyBinary times t x y = asInteger (binaryResult times x y)
 applyBinary divide t x y = byNonzero y (asInteger (binaryResult divide x y))
 applyBinary modulo t x y = byNonzero y (fine (binaryResult modulo x y))
 applyBinary remainder t x y = byNonzero y (fine (binaryResult remainder x y))
+
+-- the numbers by which an operator can be refused
+abbrev pub OperatorNumber : ℕ → Type 0
+OperatorNumber q = (q ≡ 16) ⊎ (q ≡ 18)
+
+-- Without a method, beside `applyBinary`: an operator at the type t on the operands x and y is refused by q: 16, "result of `+`, `-`, `*`, `/` .. outside integer"; 18, "a zero divisor"
+pub data OperatorRefused : Binary → ExprTy → ℤ → ℤ → ℕ → Type 0 where
+  sum : {t : ExprTy} {x y : ℤ} → inRange (x +ℤ y) ≡ false → OperatorRefused plus t x y 16
+  difference : {t : ExprTy} {x y : ℤ} → inRange (x -ℤ y) ≡ false → OperatorRefused minus t x y 16
+  product : {t : ExprTy} {x y : ℤ} → inRange (x *ℤ y) ≡ false → OperatorRefused times t x y 16
+  quotient : {t : ExprTy} {x y : ℤ} → eqZ y (pos 0) ≡ false → inRange (quotZ x y) ≡ false → OperatorRefused divide t x y 16
+  divided-by-0 : {t : ExprTy} {x y : ℤ} → eqZ y (pos 0) ≡ true → OperatorRefused divide t x y 18
+  modulo-0 : {t : ExprTy} {x y : ℤ} → eqZ y (pos 0) ≡ true → OperatorRefused modulo t x y 18
+  remainder-by-0 : {t : ExprTy} {x y : ℤ} → eqZ y (pos 0) ≡ true → OperatorRefused remainder t x y 18
 
 -- "Inputs and variables may be read": i is the input row, v are the variables
 unfoldable pub leafValue : List ℤ → List ℤ → Leaf → ℤ

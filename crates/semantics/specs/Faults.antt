@@ -1,28 +1,12 @@
 -- Refusals 16 and 18 of an expression, without a method: which operator is refused, operands before operators, left before right. Assumes nothing.
 use mathlib.Core.Path.{_≡_}
-use mathlib.Core.Logic.{_⊎_}
-use mathlib.Core.Bool.{true, false}
+use mathlib.Core.Bool.{false}
 use mathlib.Core.List.{List}
 use Prim.Native.Nat.{ℕ}
-use lib.IntN.{ℤ, pos, _+ℤ_, _-ℤ_, _*ℤ_, negℤ}
-use lib.Signed.{quotZ}
-use Rattle.design.specs.Types.{ExprTy, eqZ, inRange}
-use Rattle.design.specs.Expression.{Unary, sign, Binary, plus, minus, times, divide, modulo, remainder, Expr, unary, binary, fine}
-use Rattle.semantics.specs.Evaluation.{evaluate}
-
--- the numbers by which an operator can be refused
-abbrev pub OperatorNumber : ℕ → Type 0
-OperatorNumber q = (q ≡ 16) ⊎ (q ≡ 18)
-
--- an operator at the type t on the operands x and y is refused by q: 16, "result of `+`, `-`, `*`, `/` .. outside integer"; 18, "a zero divisor"
-pub data OperatorRefused : Binary → ExprTy → ℤ → ℤ → ℕ → Type 0 where
-  sum : {t : ExprTy} {x y : ℤ} → inRange (x +ℤ y) ≡ false → OperatorRefused plus t x y 16
-  difference : {t : ExprTy} {x y : ℤ} → inRange (x -ℤ y) ≡ false → OperatorRefused minus t x y 16
-  product : {t : ExprTy} {x y : ℤ} → inRange (x *ℤ y) ≡ false → OperatorRefused times t x y 16
-  quotient : {t : ExprTy} {x y : ℤ} → eqZ y (pos 0) ≡ false → inRange (quotZ x y) ≡ false → OperatorRefused divide t x y 16
-  divided-by-0 : {t : ExprTy} {x y : ℤ} → eqZ y (pos 0) ≡ true → OperatorRefused divide t x y 18
-  modulo-0 : {t : ExprTy} {x y : ℤ} → eqZ y (pos 0) ≡ true → OperatorRefused modulo t x y 18
-  remainder-by-0 : {t : ExprTy} {x y : ℤ} → eqZ y (pos 0) ≡ true → OperatorRefused remainder t x y 18
+use lib.IntN.{ℤ, negℤ}
+use Rattle.design.specs.Types.{ExprTy, inRange}
+use Rattle.design.specs.Expression.{Unary, sign, Binary, Expr, unary, binary, fine}
+use Rattle.semantics.specs.Evaluation.{OperatorRefused, evaluate}
 
 -- over the input row i and the variables v the expression is refused by q; a right operand is reached where the left has a value
 pub data Faults (i v : List ℤ) : Expr → ℕ → Type 0 where

@@ -13,8 +13,6 @@ ghost use Rattle.signed.specs.Signed.{checkedOf, inTypeByte};
 use codes::refusal;
 use codes::types;
 
-// The one refusal that three operators share.
-const ZERO_DIVISOR: u8 = refusal::ZERO_DIVISOR;
 // The least integer, and among numbers of 64 bits the least and the greatest that are integers.
 const LEAST: i32 = -2147483648;
 
@@ -90,9 +88,8 @@ pub fn divide(x: i32, y: i32) -> Checked
     ensures { λ r. ⌜ r ≡ checkedOf (byNonzero y (asInteger (quotZ x y))) ⌝ }
 {
     if equal(y, 0) {
-        return Checked::Refused(ZERO_DIVISOR);
-    }
-    if least_by_minus_one(x, y) {
+        Checked::Refused(refusal::ZERO_DIVISOR)
+    } else if least_by_minus_one(x, y) {
         Checked::Refused(refusal::OUT_OF_RANGE)
     } else {
         Checked::Value(x / y)
@@ -117,7 +114,7 @@ pub fn modulus(x: i32, y: i32) -> Checked
     ensures { λ r. ⌜ r ≡ checkedOf (byNonzero y (fine (modZ x y))) ⌝ }
 {
     if equal(y, 0) {
-        return Checked::Refused(ZERO_DIVISOR);
+        return Checked::Refused(refusal::ZERO_DIVISOR);
     }
     if least_by_minus_one(x, y) {
         return Checked::Value(0);
@@ -130,7 +127,7 @@ pub fn remainder(x: i32, y: i32) -> Checked
     ensures { λ r. ⌜ r ≡ checkedOf (byNonzero y (fine (remZ x y))) ⌝ }
 {
     if equal(y, 0) {
-        return Checked::Refused(ZERO_DIVISOR);
+        return Checked::Refused(refusal::ZERO_DIVISOR);
     }
     if least_by_minus_one(x, y) {
         return Checked::Value(0);

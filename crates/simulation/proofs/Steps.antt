@@ -11,7 +11,7 @@ use Rattle.design.specs.Expression.{Expr, Out, fine, fault, bind}
 use Rattle.design.specs.Statement.{Act, output, variable, null}
 use Rattle.semantics.specs.Equations.{Memory, Run, Result, reached, refused, perform, holds, log, then, acted, tested}
 use Rattle.semantics.proofs.Basic.{fault-fine, fault-injective}
-use Rattle.semantics.specs.Faults.{OperatorNumber}
+use Rattle.semantics.specs.Evaluation.{OperatorNumber}
 use Rattle.semantics.proofs.Faults.{fault-number}
 use Rattle.format.specs.Lines.{Line, waits, acts, branches, reach, reachOf}
 use Rattle.format.specs.Walk.{step}

@@ -4,7 +4,7 @@ use mathlib.Core.List.{List, [], _∷_, _++_, List·Memᴰ}
 use Prim.Native.Nat.{ℕ, suc, _≤_, _<_}
 use lib.ListN.{length}
 use Rattle.semantics.specs.Equations.{Run, Result, reached, refused}
-use Rattle.semantics.specs.Faults.{OperatorNumber}
+use Rattle.semantics.specs.Evaluation.{OperatorNumber}
 use Rattle.format.specs.Lines.{Line, waits, line, reach}
 use Rattle.semantics.specs.Way.{Distinct}
 

@@ -5,7 +5,7 @@ use native.Mathlib.Omega.{arith}
 use native.Mathlib.Decide.{decLt}
 use mathlib.Core.Path.{_≡_, refl, sym, ap, _∙_}
 use mathlib.Core.Logic.{_⊎_, inl, inr}
-use mathlib.Core.Bool.{true, false, cond, _&&_}
+use mathlib.Core.Bool.{Bool, true, false, cond, _&&_}
 use mathlib.Core.Option.{none, some}
 use mathlib.Core.List.{List, [], _∷_, _++_, append-assoc}
 use lib.ListN.{length, getD, take, drop, set, drop-of-length-le}
@@ -14,8 +14,9 @@ use lib.IntN.{ℤ, pos}
 use lib.Dec.{ltb, leb, eqb}
 use borrow.Author.Tests.{lt-ltb, le-ltb, le-leb, lt-leb, eq-eqb, ne-eqb}
 use Rattle.semantics.specs.Records.{zeros, pad}
+use Rattle.design.specs.Types.{eqZ}
 use Rattle.signed.specs.Signed.{inTypeByte}
-use Rattle.table.specs.Places.{wrongFrom, slotAt, slotsAt, initialAt, initialsAt, typeBytesAt, placeAt}
+use Rattle.table.specs.Places.{wrongFrom, slotsAt, initialAt, initialsAt, typeBytesAt, placeAt}
 
 -- Input values.
 
@@ -73,43 +74,56 @@ module _ (l : List ℕ) (p : ℕ) where
 
 -- Slots.
 
--- the index k of n things, or the first of those left
-left-first : (k n : ℕ) → ltb 0 (n - k) ≡ ltb k n
-left-first k n = go (decLt k n)
-  where
-    go : Dec (k < n) → ltb 0 (n - k) ≡ ltb k n
-    go (yes h) = rw (lt-ltb k n h, lt-ltb 0 (n - k) (omega arith))
-    go (no h) = rw (le-ltb k n (omega arith), le-ltb 0 (n - k) (omega arith))
-
-slots-cons : (s : List ℕ) (p m : ℕ) (z : ℤ) (l : List ℤ) → slotsAt s p m (z ∷ l) ≡ (slotAt s p (ltb 0 m) z && slotsAt s (p + 5) (m - 1) l)
-unfolding slotsAt zeros
-slots-cons s p zero z l = refl
-slots-cons s p (suc m) z l = let e : suc m - 1 ≡ m = omega arith in rw (lt-ltb 0 (suc m) (omega arith), e)
-
 module _ (s : List ℕ) (at n : ℕ) (l : List ℤ) (k : ℕ) where
-  slots-step : k < length l → slotsAt s (at + 5 * k) (n - k) (drop k l)
-      ≡ (slotAt s (at + 5 * k) (ltb k n) (getD l k (pos 0)) && slotsAt s (at + 5 * (k + 1)) (n - (k + 1)) (drop (k + 1) l))
-  slots-step h =
+  slots-step : k < n → k < length l → slotsAt s (at + 5 * k) (n - k) (drop k l)
+      ≡ (inTypeByte (getD s (at + 5 * k) 0) (getD l k (pos 0)) && slotsAt s (at + 5 * (k + 1)) (n - (k + 1)) (drop (k + 1) l))
+  unfolding slotsAt
+  slots-step f h =
       let a : at + 5 * k + 5 ≡ at + 5 * (k + 1) = omega arith in
-      let b : n - k - 1 ≡ n - (k + 1) = omega arith in
-      ap (slotsAt s (at + 5 * k) (n - k)) (drop-cons l k (pos 0) h)
-      ∙ slots-cons s (at + 5 * k) (n - k) (getD l k (pos 0)) (drop (suc k) l)
-      ∙ rw (left-first k n, a, b, ← add-one k)
+      let b : n - k ≡ suc (n - (k + 1)) = omega arith in
+      ap (slotsAt s (at + 5 * k) (n - k)) (drop-cons l k (pos 0) h) ∙ rw (b, a, ← add-one k)
 
-  pub slots-again : k < length l → slotAt s (at + 5 * k) (ltb k n) (getD l k (pos 0)) ≡ true
+  pub slots-again : k < n → k < length l → inTypeByte (getD s (at + 5 * k) 0) (getD l k (pos 0)) ≡ true
       → slotsAt s (at + 5 * (k + 1)) (n - (k + 1)) (drop (k + 1) l) ≡ slotsAt s (at + 5 * k) (n - k) (drop k l)
-  slots-again h e = sym (slots-step h ∙ rw e)
+  slots-again f h e = sym (slots-step f h ∙ rw e)
 
-  pub slots-wrong : k < length l → slotAt s (at + 5 * k) (ltb k n) (getD l k (pos 0)) ≡ false → false ≡ slotsAt s (at + 5 * k) (n - k) (drop k l)
-  slots-wrong h e = sym (slots-step h ∙ rw e)
+  pub slots-wrong : k < n → k < length l → inTypeByte (getD s (at + 5 * k) 0) (getD l k (pos 0)) ≡ false
+      → false ≡ slotsAt s (at + 5 * k) (n - k) (drop k l)
+  slots-wrong f h e = sym (slots-step f h ∙ rw e)
 
-  pub slots-end : k ≤ length l → length l ≤ k → leb n (length l) ≡ slotsAt s (at + 5 * k) (n - k) (drop k l)
-  unfolding slotsAt zeros
-  slots-end h g = rw (drop-of-length-le l g) (go (n - k) refl)
-    where
-      go : (m : ℕ) → n - k ≡ m → leb n (length l) ≡ slotsAt s (at + 5 * k) m []
-      go zero e = le-leb n (length l) (omega arith)
-      go (suc m) e = lt-leb n (length l) (omega arith)
+  pub slots-end : k ≤ n → n ≤ k → zeros (drop n l) ≡ slotsAt s (at + 5 * k) (n - k) (drop k l)
+  unfolding slotsAt
+  slots-end f h =
+      let a : n - k ≡ 0 = omega arith in
+      let b : n ≡ k = omega arith in
+      rw (a, b)
+
+both-wrong : (b c : Bool) → false ≡ c → false ≡ (b && c)
+both-wrong true c e = e
+both-wrong false c e = refl
+
+-- too few slots
+pub slots-short : (s : List ℕ) (p n : ℕ) (l : List ℤ) → length l < n → false ≡ slotsAt s p n l
+unfolding slotsAt
+slots-short s p zero l h = absurd (omega arith)
+slots-short s p (suc n) [] h = refl
+slots-short s p (suc n) (z ∷ l) h = both-wrong (inTypeByte (getD s p 0) z) _ (slots-short s (p + 5) n l (omega arith))
+
+-- unused slots, from the k-th on
+module _ (l : List ℤ) (k : ℕ) where
+  zeros-step : k < length l → zeros (drop k l) ≡ (eqZ (getD l k (pos 0)) (pos 0) && zeros (drop (k + 1) l))
+  unfolding zeros
+  zeros-step h = rw (add-one k, drop-cons l k (pos 0) h)
+
+  pub zeros-again : k < length l → eqZ (getD l k (pos 0)) (pos 0) ≡ true → zeros (drop (k + 1) l) ≡ zeros (drop k l)
+  zeros-again h e = sym (zeros-step h ∙ rw e)
+
+  pub zeros-wrong : k < length l → eqZ (getD l k (pos 0)) (pos 0) ≡ false → false ≡ zeros (drop k l)
+  zeros-wrong h e = sym (zeros-step h ∙ rw e)
+
+  pub zeros-end : length l ≤ k → true ≡ zeros (drop k l)
+  unfolding zeros
+  zeros-end h = rw (drop-of-length-le l h)
 
 -- at the first slot the rest is the whole
 pub slots-first : (s : List ℕ) (at n : ℕ) (l : List ℤ) → slotsAt s (at + 5 * 0) (n - 0) (drop 0 l) ≡ slotsAt s at n l
@@ -119,6 +133,14 @@ slots-first s at n l =
     rw (a, b)
 
 -- Initial values.
+
+-- the index k of n things, or the first of those left
+left-first : (k n : ℕ) → ltb 0 (n - k) ≡ ltb k n
+left-first k n = go (decLt k n)
+  where
+    go : Dec (k < n) → ltb 0 (n - k) ≡ ltb k n
+    go (yes h) = rw (lt-ltb k n h, lt-ltb 0 (n - k) (omega arith))
+    go (no h) = rw (le-ltb k n (omega arith), le-ltb 0 (n - k) (omega arith))
 
 pad-unused : (m k : ℕ) → getD (pad m []) k (pos 0) ≡ pos 0
 unfolding pad

@@ -9,7 +9,6 @@ use lib.IntN.{ℤ, pos}
 use lib.Dec.{ltb, eqb}
 use Rattle.codes.specs.Limit as L
 use Rattle.codes.specs.Image as M
-use Rattle.design.specs.Types.{eqZ}
 use Rattle.signed.specs.Signed.{inTypeByte}
 use Rattle.format.specs.Words.{word4At}
 use Rattle.semantics.specs.Twos.{signed32}
@@ -34,11 +33,7 @@ unfoldable pub wrongFrom : List ℕ → ℕ → List ℤ → Option ℕ
 wrongFrom s k [] = none
 wrongFrom s k (z ∷ l) = cond (inTypeByte (getD s (M.COUNTS + k) 0) z) (wrongFrom s (suc k) l) (some k)
 
--- a slot whose type byte stands at p, or an unused one: "unused ones 0, a std_logic slot 0 or 1"
-abbrev pub slotAt : List ℕ → ℕ → Bool → ℤ → Bool
-slotAt s p used z = cond used (inTypeByte (getD s p 0) z) (eqZ z (pos 0))
-
--- slots of the n outputs or variables that begin at p, then unused ones
+-- slots of the n outputs or variables that begin at p, then unused ones: "unused ones 0, a std_logic slot 0 or 1"
 unfoldable pub slotsAt : List ℕ → ℕ → ℕ → List ℤ → Bool
 slotsAt s p zero l = zeros l
 slotsAt s p (suc n) [] = false

@@ -3,9 +3,8 @@ ghost use mathlib.Core.Path.{_≡_};
 ghost use Prim.Native.Nat.{_<_};
 ghost use lib.ListN.{getD};
 ghost use Rattle.signed.specs.Signed.{inTypeByte};
-ghost use Rattle.table.specs.Places.{outputsAt, variablesAt, slotAt, initialAt};
+ghost use Rattle.table.specs.Places.{outputsAt, variablesAt, initialAt};
 use codes::image;
-use signed::equal;
 use signed::from_bits;
 use signed::in_type;
 use words::byte;
@@ -41,17 +40,6 @@ pub fn value_ok(s: &[u8], at: usize, v: i32) -> bool
     ensures { λ r. ⌜ r ≡ inTypeByte (getD (now (s .entry)) at 0) v ⌝ }
 {
     in_type(byte(s, at), v)
-}
-
-// Whether a slot holds a value of its type, or 0 where it is unused.
-pub fn slot_ok(s: &[u8], at: usize, used: bool, v: i32) -> bool
-    ensures { λ r. ⌜ r ≡ slotAt (now (s .entry)) at used v ⌝ }
-{
-    if used {
-        value_ok(s, at, v)
-    } else {
-        equal(v, 0)
-    }
 }
 
 // What a slot holds at first: the initial value whose four bytes stand at a position, or 0 where the slot is unused.

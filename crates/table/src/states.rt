@@ -2,22 +2,23 @@
 ghost use mathlib.Core.Path.{_≡_};
 ghost use mathlib.Core.Option.{some};
 ghost use mathlib.Core.List.{List};
-ghost use Prim.Native.Nat.{ℕ, _<_};
-ghost use lib.ListN.{length};
+ghost use Prim.Native.Nat.{ℕ, _≤_, _<_};
+ghost use lib.ListN.{length, drop};
 ghost use Rattle.format.specs.Signature.{signatureOf};
 ghost use Rattle.format.specs.Image.{Table};
 ghost use Rattle.format.specs.State.{stateOk, freshTable};
-ghost use Rattle.semantics.specs.Records.{pad};
+ghost use Rattle.semantics.specs.Records.{pad, zeros};
 ghost use Rattle.table.specs.Places.{Opens, slotsAt, initialsAt, placeAt};
 use super::signature::count;
 use super::signature::initial;
 use super::signature::outputs_at;
-use super::signature::slot_ok;
+use super::signature::value_ok;
 use super::signature::variables_at;
 use answers::State;
 use codes::image;
 use codes::limit;
 use codes::record;
+use signed::equal;
 use words::byte;
 
 // Whether a place is the beginning or a wait's line.
@@ -34,20 +35,40 @@ pub fn place_ok(lines: &[u8], place: u16) -> bool
     false
 }
 
-// Whether slots hold values of the n outputs or variables that begin at a position, and 0 after them.
+// Whether the slots from the n-th on are unused ones: 0.
+fn unused_ok(slots: &[i32], n: usize) -> bool
+    requires { ⌜ n ≤ length (now slots) ⌝ }
+    ensures { λ r. ⌜ r ≡ zeros (drop n (now (slots .entry))) ⌝ }
+{
+    let mut k = n;
+    while k < slots.len() {
+        let unused = equal(slots[k], 0);
+        if !unused {
+            return false;
+        }
+        k += 1;
+    }
+    true
+}
+
+// Whether slots hold values of the n outputs or variables that begin at a position, and 0 after them. Most slots of a state are unused, so those have a loop of
+// their own.
 fn slots_ok(signature: &[u8], at: usize, n: usize, slots: &[i32]) -> bool
     requires { ⌜ at < 2048 ⌝ }
     ensures { λ r. ⌜ r ≡ slotsAt (now (signature .entry)) at n (now (slots .entry)) ⌝ }
 {
+    if slots.len() < n {
+        return false;
+    }
     let mut k: usize = 0;
-    while k < slots.len() {
-        let right = slot_ok(signature, at + image::SLOT * k, k < n, slots[k]);
+    while k < n {
+        let right = value_ok(signature, at + image::SLOT * k, slots[k]);
         if !right {
             return false;
         }
         k += 1;
     }
-    n <= slots.len()
+    unused_ok(slots, n)
 }
 
 // Refusal 15: whether the state is one of the opened image.

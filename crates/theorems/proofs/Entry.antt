@@ -37,12 +37,12 @@ start-refused-is : (r : declared-started.Started) (q k : ℕ) → freshTold r �
 start-refused-is Fresh q k e = done-refused e
 start-refused-is (NotStarted x) q k e = told-by NotStarted x q k e
 
-cycled-is : (r : Cycled) (n : ℕ) → cycleTold r ≡ done n → r ≡ Performed n
-cycled-is (Performed m) n e = let z : m ≡ n = cc in ap Performed z
+cycled-is : (r : Cycled) (n : ℕ) → cycleTold r ≡ done n → r ≡ Performed (record { lines = n })
+cycled-is (Performed c) n e = let z : c .lines ≡ n = cc in ap (λ (k : ℕ). Performed (record { lines = k })) z
 cycled-is (NotPerformed x) n e = done-refused (sym e)
 
 cycle-refused-is : (r : Cycled) (q k : ℕ) → cycleTold r ≡ refusal q k → RefusedAs NotPerformed r q k
-cycle-refused-is (Performed m) q k e = done-refused e
+cycle-refused-is (Performed c) q k e = done-refused e
 cycle-refused-is (NotPerformed x) q k e = told-by NotPerformed x q k e
 
 pub answers-told : AnswersTold

@@ -219,7 +219,7 @@ pub record AnswersTold : Type 0 where
   pub compile-refused : (r : declared-compiled.Compiled) (q k : ℕ) → compileTold r ≡ not-compiled q k → RefusedAs NotCompiled r q k
   pub started : (r : declared-started.Started) (s : State) → freshTold r ≡ freshAnswer (fresh s) → r ≡ Fresh
   pub start-refused : (r : declared-started.Started) (q k : ℕ) → freshTold r ≡ freshAnswer (not-started q k) → RefusedAs NotStarted r q k
-  pub cycled : (r : Cycled) (way : List ℕ) → cycleTold r ≡ cycleAnswer (performed way) → r ≡ Performed (length way)
+  pub cycled : (r : Cycled) (way : List ℕ) → cycleTold r ≡ cycleAnswer (performed way) → r ≡ Performed (record { lines = length way })
   pub cycle-refused : (r : Cycled) (q k : ℕ) → cycleTold r ≡ cycleAnswer (not-performed q k) → RefusedAs NotPerformed r q k
 
 -- what entry leaves and tells beside them: the state record s is the fresh state where there is one and as it came where the call is refused; an opened image

@@ -12,6 +12,7 @@ use borrow.Author.Tests.{leb-true}
 use Rattle.answers.specs.Answers.{numberOf, Told, cycleTold}
 use Rattle.answers.specs.declared.State.{State}
 use Rattle.answers.specs.declared.Refusal.{Refusal}
+use Rattle.answers.specs.declared.Counts.{Counts}
 use Rattle.answers.specs.declared.Cycled.{Cycled}
 use Rattle.answers.specs.declared.Cycled.the-variants.{Performed, NotPerformed}
 use Rattle.format.specs.Cycle.{cycleOf}
@@ -30,8 +31,8 @@ module _ (n : ℕ) (x : Cycled) (place : ℕ) (row : List ℤ) (o u : List ℕ) 
   put-for : (y : Cycled) → x ≡ y → Puts o 0 (lineOf n (cycleTold y) place row) u r → Puts o 0 (lineOf n (cycleTold x) place row) u r
   put-for y e p = subst (λ (z : Cycled). Puts o 0 (lineOf n (cycleTold z) place row) u r) (sym e) p
 
-  pub show-performed : (l : ℕ) → x ≡ Performed l → Puts o 0 (performedLine n place l row) u r → Puts o 0 (lineOf n (cycleTold x) place row) u r
-  show-performed l e p = put-for (Performed l) e p
+  pub show-performed : (c : Counts) → x ≡ Performed c → Puts o 0 (performedLine n place (c .lines) row) u r → Puts o 0 (lineOf n (cycleTold x) place row) u r
+  show-performed c e p = put-for (Performed c) e p
 
   pub show-refused : (k : Refusal) (q : ℕ) → x ≡ NotPerformed k → q ≡ numberOf k → Puts o 0 (refusedLine n q) u r → Puts o 0 (lineOf n (cycleTold x) place row) u r
   show-refused k q e h p = put-for (NotPerformed k) e (subst (λ (m : ℕ). Puts o 0 (refusedLine n m) u r) h p)

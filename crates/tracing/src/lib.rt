@@ -63,7 +63,7 @@ fn show(answer: Cycled, place: u16, n: usize, row: &[i32], out: &mut [u8]) -> us
     ensures { λ r. ⌜ Puts (now (out .entry)) 0 (lineOf n (cycleTold answer) place (now (row .entry))) (now (out .exit)) r ⌝ }
 {
     match answer {
-        Cycled::Performed(lines) => printing::performed_line(out, n, place as usize, lines, row),
+        Cycled::Performed(c) => printing::performed_line(out, n, place as usize, c.lines, row),
         Cycled::NotPerformed(r) => printing::refused_line(out, n, answers::number(r) as usize),
     }
 }

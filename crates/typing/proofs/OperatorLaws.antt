@@ -11,7 +11,7 @@ use Rattle.language.specs.Typing.{resultOf, onOne, onTwo, wrong1, wrong2, wants
 use Rattle.codes.specs.Operation.{binaryCode, unaryFor, operatorOf, codeOr, operationOf, countOr, operandsOf}
 use Rattle.codes.specs.Types.{NONE, tagOf, tagOr, unaryOf, binaryOf, unaryTypeFor, binaryTypeFor}
 use Rattle.codes.proofs.OperationLaws.{binary-code}
-use Rattle.codes.proofs.TypeLaws.{tag-there, none-apart, same-tag, after-none, unary-tag, binary-tag, binary-no}
+use Rattle.codes.proofs.TypeLaws.{tag-there, none-apart, same-tag, after-none, unary-tag, binary-tag, binary-type-no}
 use Rattle.syntax.specs.Kinded.{OperatorKind}
 use Rattle.syntax.proofs.Operators.{each-operator}
 use Rattle.typing.specs.Operators as P
@@ -30,7 +30,7 @@ two-operands = each-operator (λ (k : ℕ). operandsOf (operationOf k) ≡ 2) re
 
 result-law : (p : Option Binary) (t : ExprTy) → binaryTypeFor (codeOr p) (tagOf t) ≡ resultOf p t
 unfolding resultOf codeOr
-result-law none t = binary-no 0 refl (tagOf t)
+result-law none t = binary-type-no 0 refl (tagOf t)
 result-law (some o) t = binary-tag (binaryCode o) o (binary-code o) t
 
 pub binary-law : (k : ℕ) (a b : Option ExprTy) → P.binaryCode (operationOf k) (tagOr a) (tagOr b) ≡ tagOr (onTwo (resultOf (operatorOf k)) a b)

@@ -1,71 +1,57 @@
 -- A stack of types in an array: one type more, the upper one replaced, the two upper ones replaced by one. Assumes nothing.
-use mathlib.Core.Path.{_≡_, refl, sym, ap, _∙_}
-use mathlib.Core.List.{List, _∷_}
+use mathlib.Core.Path.{_≡_, refl, sym, _∙_}
+use mathlib.Core.List.{List}
 use Prim.Native.Nat.{ℕ, zero, suc, _+_, _-_, _≤_, _<_}
-use native.Mathlib.Numerals.{add-one}
 use native.Mathlib.Omega.{arith}
 use borrow.Author.Tests.{lt-ltb, le-ltb, eq-eqb, ne-eqb}
-use lib.ListN.{length, getD, set, length-set}
-use lib.Seq.{getD-set-same, getD-set-other}
+use lib.ListN.{getD, set, length-set}
+use lib.Seq.{getD-set-same}
 use Rattle.language.specs.Lists.{unless}
 use Rattle.syntax.specs.Lowest.{lowestOf, lower}
 use Rattle.codes.specs.Operation.{operandsOf}
 use Rattle.codes.specs.Types.{NONE, tagOr, unaryTypeFor}
 use Rattle.codes.specs.Limit.{ITEMS}
 use Rattle.typing.specs.Operators.{binaryCode, rightOne, rightTwo}
-use Rattle.typing.specs.Expressions.{Sources, Work, work, operandCode, pushed, unaryOn, binaryOn, stepWork, itemWork, itemsWork, exprWork, topOf, stackOf, Room, Says}
+use Rattle.codes.specs.Stack.{stackOf}
+use Rattle.codes.proofs.StackLaws.{stack-length, stack-above, stack-push}
+use Rattle.typing.specs.Expressions.{Sources, Work, work, operandCode, pushed, unaryOn, binaryOn, stepWork, itemWork, itemsWork, exprWork, topOf, Room, Says}
 use Rattle.typing.specs.declared.Progress.{Progress}
 
-pub stack-length : (a : List ℕ) (n : ℕ) → length (stackOf a n) ≡ n
-unfolding stackOf
-stack-length a zero = refl
-stack-length a (suc n) = ap suc (stack-length a n)
-
--- what is written above leaves the types below
-stack-above : (a : List ℕ) (n v m : ℕ) → m ≤ n → stackOf (set a n v) m ≡ stackOf a m
-unfolding stackOf
-stack-above a n v zero h = refl
-stack-above a n v (suc m) h = rw (getD-set-other a n m v 0 (λ q. omega arith), stack-above a n v m (omega arith))
-
-stack-push : (a : List ℕ) (n v : ℕ) → n < length a → stackOf (set a n v) (suc n) ≡ v ∷ stackOf a n
-unfolding stackOf
-stack-push a n v h = rw (stack-above a n v n (omega arith), getD-set-same a n v 0 h)
-
 -- a type pushed
-pub push-room : (a : List ℕ) (n t b : ℕ) → Room a n → n < ITEMS → Says (set a n t) (record { depth = n + 1; lowest = b }) (pushed t (stackOf a n) b)
+pub push-room : (a : List ℕ) (n t b : ℕ) → Room a n → n < ITEMS → Says (set a n t) (record { depth = n + 1; lowest = b }) (pushed t (stackOf 0 a n) b)
 unfolding pushed
 push-room a n t b m h =
     record {
       room = record { size = length-set a n t ∙ m .size; depth = omega arith };
-      says = rw (stack-length a n, lt-ltb n ITEMS h, add-one n, stack-push a n t (omega (arith, m .size)));
+      says = rw (stack-length 0 a n, lt-ltb n ITEMS h, stack-push 0 a n t (omega (arith, m .size)));
     }
 
-pub push-full : (a : List ℕ) (n t b : ℕ) → Room a n → ITEMS ≤ n → Says a (record { depth = n; lowest = b }) (pushed t (stackOf a n) b)
+pub push-full : (a : List ℕ) (n t b : ℕ) → Room a n → ITEMS ≤ n → Says a (record { depth = n; lowest = b }) (pushed t (stackOf 0 a n) b)
 unfolding pushed
-push-full a n t b m h = record { room = m; says = rw (stack-length a n, le-ltb n ITEMS h) }
+push-full a n t b m h = record { room = m; says = rw (stack-length 0 a n, le-ltb n ITEMS h) }
 
 -- an operator on one operand
-pub unary-none : (a : List ℕ) (n c p b : ℕ) → Room a n → n < 1 → Says a (record { depth = n; lowest = b }) (unaryOn c p (stackOf a n) b)
+pub unary-none : (a : List ℕ) (n c p b : ℕ) → Room a n → n < 1 → Says a (record { depth = n; lowest = b }) (unaryOn c p (stackOf 0 a n) b)
 unfolding stackOf unaryOn
 unary-none a zero c p b m h = record { room = m; says = refl }
 unary-none a (suc n) c p b m h = absurd (omega arith)
 
 unary-top : (a : List ℕ) (n c p b r w : ℕ) → Room a (suc n) → r ≡ tagOr (unaryTypeFor c (getD a n 0))
-    → w ≡ lower b (lowestOf (unless (rightOne (getD a n 0) r) p)) → Says (set a n r) (record { depth = suc n; lowest = w }) (unaryOn c p (stackOf a (suc n)) b)
+    → w ≡ lower b (lowestOf (unless (rightOne (getD a n 0) r) p)) → Says (set a n r) (record { depth = suc n; lowest = w }) (unaryOn c p (stackOf 0 a (suc n)) b)
 unfolding unaryOn stackOf
 unary-top a n c p b r w m e q =
     record {
       room = record { size = length-set a n r ∙ m .size; depth = m .depth };
-      says = rw (stack-above a n r n (omega arith), getD-set-same a n r 0 (omega (arith, m .size, m .depth)), q, e);
+      says = rw (stack-above 0 a n r n (omega arith), getD-set-same a n r 0 (omega (arith, m .size, m .depth)), q, e);
     }
 
 pub unary-some : (a : List ℕ) (n c p b r w : ℕ) → Room a n → 1 ≤ n → r ≡ tagOr (unaryTypeFor c (getD a (n - 1) 0))
-    → w ≡ lower b (lowestOf (unless (rightOne (getD a (n - 1) 0) r) p)) → Says (set a (n - 1) r) (record { depth = n; lowest = w }) (unaryOn c p (stackOf a n) b)
+    → w ≡ lower b (lowestOf (unless (rightOne (getD a (n - 1) 0) r) p)) → Says (set a (n - 1) r) (record { depth = n; lowest = w }) (unaryOn c p (stackOf 0 a n) b)
 unary-some a zero c p b r w m h e q = absurd (omega arith)
 unary-some a (suc n) c p b r w m h e q = let z : suc n - 1 ≡ n = omega arith in rw z (unary-top a n c p b r w m (rw z at e) (rw z at q))
 
 -- an operator on two operands
-pub binary-none : (a : List ℕ) (n c p b : ℕ) → Room a n → n ≤ 1 → Says a (record { depth = n; lowest = b }) (binaryOn c p (stackOf a n) b)
+pub binary-none : (a : List ℕ) (n c p b : ℕ) → Room a n → n ≤ 1 → Says a (record { depth = n; lowest = b }) (binaryOn c p (stackOf 0 a n) b)
 unfolding stackOf binaryOn
 binary-none a zero c p b m h = record { room = m; says = refl }
 binary-none a (suc zero) c p b m h = record { room = m; says = refl }
@@ -73,17 +59,17 @@ binary-none a (suc (suc n)) c p b m h = absurd (omega arith)
 
 binary-top : (a : List ℕ) (n c p b r w : ℕ) → Room a (suc (suc n)) → r ≡ binaryCode c (getD a n 0) (getD a (suc n) 0)
     → w ≡ lower b (lowestOf (unless (rightTwo (getD a n 0) (getD a (suc n) 0) r) p))
-    → Says (set a n r) (record { depth = suc n; lowest = w }) (binaryOn c p (stackOf a (suc (suc n))) b)
+    → Says (set a n r) (record { depth = suc n; lowest = w }) (binaryOn c p (stackOf 0 a (suc (suc n))) b)
 unfolding binaryOn stackOf
 binary-top a n c p b r w m e q =
     record {
       room = record { size = length-set a n r ∙ m .size; depth = omega (arith, m .depth) };
-      says = rw (stack-above a n r n (omega arith), getD-set-same a n r 0 (omega (arith, m .size, m .depth)), q, e);
+      says = rw (stack-above 0 a n r n (omega arith), getD-set-same a n r 0 (omega (arith, m .size, m .depth)), q, e);
     }
 
 pub binary-some : (a : List ℕ) (n c p b r w : ℕ) → Room a n → 1 < n → r ≡ binaryCode c (getD a (n - 1 - 1) 0) (getD a (n - 1) 0)
     → w ≡ lower b (lowestOf (unless (rightTwo (getD a (n - 1 - 1) 0) (getD a (n - 1) 0) r) p))
-    → Says (set a (n - 1 - 1) r) (record { depth = n - 1; lowest = w }) (binaryOn c p (stackOf a n) b)
+    → Says (set a (n - 1 - 1) r) (record { depth = n - 1; lowest = w }) (binaryOn c p (stackOf 0 a n) b)
 binary-some a zero c p b r w m h e q = absurd (omega arith)
 binary-some a (suc zero) c p b r w m h e q = absurd (omega arith)
 binary-some a (suc (suc n)) c p b r w m h e q =
@@ -92,12 +78,12 @@ binary-some a (suc (suc n)) c p b r w m h e q =
     rw (y, z) (binary-top a n c p b r w m (rw (y, z) at e) (rw (y, z) at q))
 
 -- the type on top
-pub top-none : (a : List ℕ) (n : ℕ) → n < 1 → NONE ≡ topOf (stackOf a n)
+pub top-none : (a : List ℕ) (n : ℕ) → n < 1 → NONE ≡ topOf (stackOf 0 a n)
 unfolding topOf stackOf
 top-none a zero h = refl
 top-none a (suc n) h = absurd (omega arith)
 
-pub top-some : (a : List ℕ) (n : ℕ) → 1 ≤ n → getD a (n - 1) 0 ≡ topOf (stackOf a n)
+pub top-some : (a : List ℕ) (n : ℕ) → 1 ≤ n → getD a (n - 1) 0 ≡ topOf (stackOf 0 a n)
 unfolding topOf stackOf
 top-some a zero h = absurd (omega arith)
 top-some a (suc n) h = let z : suc n - 1 ≡ n = omega arith in rw z
@@ -124,7 +110,7 @@ step-binary c t p q n s b o h k e w = rw (← o, ne-eqb n 0 h, ne-eqb n 1 k, sym
 module _ (A : Sources) (from to : ℕ) where
   pub record Left (a : List ℕ) (n b m : ℕ) : Type 0 where
     pub room : Room a n
-    pub same : itemsWork A m (to - m) (work (stackOf a n) b) ≡ exprWork A from to
+    pub same : itemsWork A m (to - m) (work (stackOf 0 a n) b) ≡ exprWork A from to
 
   pub left-first : (a : List ℕ) → Room a 0 → Left a 0 0 from
   unfolding stackOf
@@ -134,10 +120,10 @@ module _ (A : Sources) (from to : ℕ) where
   unfolding itemsWork
   next m c w = refl
 
-  pub left-again : (a a′ : List ℕ) (n b m : ℕ) (r : Progress) → Left a n b m → m < to → Says a′ r (itemWork A m (work (stackOf a n) b)) → Left a′ (r .depth) (r .lowest) (m + 1)
+  pub left-again : (a a′ : List ℕ) (n b m : ℕ) (r : Progress) → Left a n b m → m < to → Says a′ r (itemWork A m (work (stackOf 0 a n) b)) → Left a′ (r .depth) (r .lowest) (m + 1)
   left-again a a′ n b m r h l q =
       let z : to - m ≡ suc (to - (m + 1)) = omega arith in
-      record { room = q .room; same = rw (q .says) (sym (next m (to - (m + 1)) (work (stackOf a n) b)) ∙ (rw z at (h .same))) }
+      record { room = q .room; same = rw (q .says) (sym (next m (to - (m + 1)) (work (stackOf 0 a n) b)) ∙ (rw z at (h .same))) }
 
   pub left-stop : (a : List ℕ) (n b m : ℕ) → Left a n b m → to ≤ m → Says a (record { depth = n; lowest = b }) (exprWork A from to)
   unfolding itemsWork

@@ -10,13 +10,14 @@ use Rattle.language.specs.Lists.{unless}
 use Rattle.statements.specs.Rows.{row}
 use Rattle.syntax.specs.Lowest.{lowestOf, lower}
 use Rattle.typing.specs.Operators.{fitsCode}
-use Rattle.typing.specs.Expressions.{Sources, Work, nameAt, placeAt, exprWork, topOf, stackOf, Says, JudgedBy}
+use Rattle.codes.specs.Stack.{stackOf}
+use Rattle.typing.specs.Expressions.{Sources, Work, nameAt, placeAt, exprWork, topOf, Says, JudgedBy}
 use Rattle.typing.specs.Statements.{wantedCode, rowCode, statementAt}
 use Rattle.typing.specs.declared.Progress.{Progress}
 use Rattle.typing.specs.declared.Judged.{Judged}
 
 -- the answer for an expression, from what its items say
-pub judged-whole : (a : List ℕ) (r : Progress) (w : Work) (u : ℕ) → Says a r w → u ≡ topOf (stackOf a (r .depth)) → JudgedBy (record { code = u; lowest = r .lowest }) w
+pub judged-whole : (a : List ℕ) (r : Progress) (w : Work) (u : ℕ) → Says a r w → u ≡ topOf (stackOf 0 a (r .depth)) → JudgedBy (record { code = u; lowest = r .lowest }) w
 judged-whole a r w u h e = record { code = e ∙ ap (λ (x : Work). topOf (x .stack)) (h .says); lowest = ap (λ (x : Work). x .lowest) (h .says) }
 
 row-judged : (A : Sources) (k i f t o q u p w r : ℕ) (e : Judged) (b : Bool) → t ≤ 16384 → JudgedBy e (exprWork A f t)

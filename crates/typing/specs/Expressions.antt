@@ -4,6 +4,7 @@ use mathlib.Core.List.{List, [], _∷_}
 use Prim.Native.Nat.{ℕ, zero, suc, _+_, _*_, _-_, _≤_}
 use lib.Dec.{eqb, ltb}
 use lib.ListN.{length, getD}
+use Rattle.codes.specs.Stack.{stackOf}
 use Rattle.design.specs.Types.{std-logic, integer, plain}
 use Rattle.codes.specs.Item.{NAME, NUMBER}
 use Rattle.codes.specs.Operation.{operandsOf}
@@ -96,11 +97,6 @@ unfoldable pub topOf : List ℕ → ℕ
 topOf [] = NONE
 topOf (t ∷ s) = t
 
--- The stack in an array: its first n elements.
-unfoldable pub stackOf : List ℕ → ℕ → List ℕ
-stackOf a zero = []
-stackOf a (suc n) = getD a n 0 ∷ stackOf a n
-
 -- an array with room for the items of an expression, of which n elements are in use
 pub record Room (a : List ℕ) (n : ℕ) : Type 0 where
   pub size : length a ≡ ITEMS
@@ -109,7 +105,7 @@ pub record Room (a : List ℕ) (n : ℕ) : Type 0 where
 -- the array a and the answer r say w
 pub record Says (a : List ℕ) (r : Progress) (w : Work) : Type 0 where
   pub room : Room a (r .depth)
-  pub says : work (stackOf a (r .depth)) (r .lowest) ≡ w
+  pub says : work (stackOf 0 a (r .depth)) (r .lowest) ≡ w
 
 -- the type and the lowest offence of an expression are those of w
 pub record JudgedBy (r : Judged) (w : Work) : Type 0 where

@@ -2,7 +2,8 @@
 ghost use mathlib.Core.Path.{_≡_};
 ghost use Prim.Native.Nat.{_<_, _≤_};
 ghost use Rattle.codes.specs.Limit.{TEXT, ITEMS};
-ghost use Rattle.typing.specs.Expressions.{declaredCode, nameCode, operandCode, sources, work, pushed, unaryOn, binaryOn, itemWork, exprWork, topOf, stackOf, Room, Says, JudgedBy};
+ghost use Rattle.codes.specs.Stack.{stackOf};
+ghost use Rattle.typing.specs.Expressions.{declaredCode, nameCode, operandCode, sources, work, pushed, unaryOn, binaryOn, itemWork, exprWork, topOf, Room, Says, JudgedBy};
 use crate::Judged;
 use crate::Progress;
 use crate::names::cell;
@@ -76,7 +77,7 @@ fn operand_type(
 // Pushes an operand's type.
 fn push(stack: &mut [u8; limit::ITEMS], t: u8, depth: usize, lowest: usize) -> Progress
     requires { ⌜ Room (now stack) depth ⌝ }
-    ensures { λ r. ⌜ Says (now (stack .exit)) r (pushed t (stackOf (now (stack .entry)) depth) lowest) ⌝ }
+    ensures { λ r. ⌜ Says (now (stack .exit)) r (pushed t (stackOf 0 (now (stack .entry)) depth) lowest) ⌝ }
 {
     if depth < limit::ITEMS {
         stack[depth] = t;
@@ -91,14 +92,14 @@ fn push(stack: &mut [u8; limit::ITEMS], t: u8, depth: usize, lowest: usize) -> P
 // Judges an operator of one operand.
 fn unary(stack: &mut [u8; limit::ITEMS], c: u8, place: u16, depth: usize, lowest: usize) -> Progress
     requires { ⌜ Room (now stack) depth ⌝ }
-    ensures { λ r. ⌜ Says (now (stack .exit)) r (unaryOn c place (stackOf (now (stack .entry)) depth) lowest) ⌝ }
+    ensures { λ r. ⌜ Says (now (stack .exit)) r (unaryOn c place (stackOf 0 (now (stack .entry)) depth) lowest) ⌝ }
 {
     if depth < 1 {
         return Progress { depth, lowest };
     }
     let i = depth - 1;
     let t = stack[i];
-    let r = types::unary_type(c, t);
+    let r = operation::unary_type(c, t);
     let wrong = syntax::offence(operators::right_one(t, r), place);
     stack[i] = r;
     Progress {
@@ -116,7 +117,7 @@ fn binary(
     lowest: usize,
 ) -> Progress
     requires { ⌜ Room (now stack) depth ⌝ }
-    ensures { λ r. ⌜ Says (now (stack .exit)) r (binaryOn c place (stackOf (now (stack .entry)) depth) lowest) ⌝ }
+    ensures { λ r. ⌜ Says (now (stack .exit)) r (binaryOn c place (stackOf 0 (now (stack .entry)) depth) lowest) ⌝ }
 {
     if depth <= 1 {
         return Progress { depth, lowest };
@@ -151,7 +152,7 @@ fn item(
     requires { ⌜ Room (now stack) depth × (m < TEXT) ⌝ }
     ensures { λ r. ⌜ Says (now (stack .exit)) r
         (itemWork (sources (now (codes .entry)) (now (indices .entry)) (now (places .entry)) (now (owners .entry)) (now (decls .entry)) n d) m
-        (work (stackOf (now (stack .entry)) depth) lowest)) ⌝ }
+        (work (stackOf 0 (now (stack .entry)) depth) lowest)) ⌝ }
 {
     let c = codes[m];
     let i = wide_index(indices[m]);
@@ -170,7 +171,7 @@ fn item(
 // The type on top of the stack.
 fn top(stack: &[u8; limit::ITEMS], depth: usize) -> u8
     requires { ⌜ depth ≤ ITEMS ⌝ }
-    ensures { λ r. ⌜ r ≡ topOf (stackOf (now (stack .entry)) depth) ⌝ }
+    ensures { λ r. ⌜ r ≡ topOf (stackOf 0 (now (stack .entry)) depth) ⌝ }
 {
     if depth < 1 {
         return types::NONE;

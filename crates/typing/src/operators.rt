@@ -1,6 +1,7 @@
 // Types of operators by number, and whether they are right; "what holds a wrong operator is untyped", and has the number of no type.
 ghost use mathlib.Core.Path.{_≡_};
 ghost use Rattle.typing.specs.Operators.{binaryCode, rightOne, rightTwo, fitsCode};
+use codes::operation;
 use codes::types;
 
 // An operator on two operands.
@@ -8,7 +9,7 @@ pub(crate) fn binary(c: u8, t: u8, u: u8) -> u8
     ensures { λ r. ⌜ r ≡ binaryCode c t u ⌝ }
 {
     if t == u {
-        return types::binary_type(c, t);
+        return operation::binary_type(c, t);
     }
     types::NONE
 }

@@ -42,7 +42,7 @@ pub(crate) fn refusal(r: Refusal) {
 
 pub(crate) fn cycled(answer: Cycled) {
     match answer {
-        Cycled::Performed(n) => number(n),
+        Cycled::Performed(counts) => number(counts.lines),
         Cycled::NotPerformed(r) => refusal(r),
     }
 }

@@ -6,6 +6,7 @@ ghost use Rattle.format.specs.Cycle.{cycleOf};
 ghost use Rattle.semantics.specs.Advances.{cycleAnswer};
 use crate::print;
 use answers::Advanced;
+use answers::Counts;
 use answers::Cycled;
 use answers::Refusal;
 use answers::Started;
@@ -58,9 +59,9 @@ fn same_refusal(r: Refusal, s: Refusal) -> bool {
     answers::place(r) == answers::place(s)
 }
 
-fn is_performed(a: Cycled, n: usize) -> bool {
+fn is_performed(a: Cycled, counts: Counts) -> bool {
     match a {
-        Cycled::Performed(m) => n == m,
+        Cycled::Performed(own) => counts.lines == own.lines,
         Cycled::NotPerformed(_) => false,
     }
 }
@@ -74,7 +75,7 @@ fn is_refused(a: Cycled, r: Refusal) -> bool {
 
 fn same_answer(a: Cycled, b: Cycled) -> bool {
     match a {
-        Cycled::Performed(n) => is_performed(b, n),
+        Cycled::Performed(counts) => is_performed(b, counts),
         Cycled::NotPerformed(r) => is_refused(b, r),
     }
 }

@@ -16,6 +16,9 @@ follow-from-requires c κs = search needs
 enum-known-f : tie.Need-enum-known-f
 enum-known-f c = search needs
 
+cast-t22 : tie.Need-cast-t22
+cast-t22 c = search needs
+
 performed-requires : tie.Need-performed-requires
 performed-requires c κs = search needs
 
@@ -41,7 +44,7 @@ returns : tie.Need-returns
 returns c t o h right ok =
     let a = c .before .before .before .before .before .before .before .before .before .before .before .before .before .before .args in
     let e = rw (c .before .before .f .given .1) at (c .before .before .before .before .before .before .follow-from .ensures t h (place-right (a .signature .now) (a .lines .now) (a .code .now) t h (a .s) (a .inputs .now) o right ok)) in
-    let r = reached-moves (a .signature .now) (a .lines .now) (a .code .now) t h (a .s) (a .inputs .now) o right ok _ _ _ _ e in
+    let r = reached-moves (a .signature .now) (a .lines .now) (a .code .now) t h (a .s) (a .inputs .now) o right ok _ (record { lines = c .before .before .f .given .0 .1 .0 }) _ _ e in
     r .1 _ (c .performed .ensures (r .0))
 
 returns-2 : tie.Need-returns-2
@@ -64,6 +67,7 @@ run-spec =
     slice-aggregate-follow-from-2
     follow-from-requires
     enum-known-f
+    cast-t22
     performed-requires
     enum-known-f-2
     cast-at

@@ -1,21 +1,19 @@
 -- `evaluator::apply_binary` meets its contract: the right operand is the last value, the left one lies below it. Assumes nothing.
-use Prim.Native.Nat.{ℕ, _-_, _<_}
+use Prim.Native.Nat.{_+_, _-_}
 use native.Mathlib.Omega.{arith}
-use mathlib.Core.Path.{_≡_, sym, ap, _∙_}
+use mathlib.Core.Path.{_≡_, refl, sym, ap, _∙_}
 use lib.ListN.{getD}
 use lib.IntN.{pos}
-use mir.Syntax.{w32}
-use mir.Val.{SFits}
-use mir.Facts.{toZ-ofZ}
-use Rattle.codes.specs.Operation.{binaryFor}
-use Rattle.signed.specs.declared.Checked.{Checked}
-use Rattle.evaluator.specs.Value.{Cell, evaluatedOf}
-use Rattle.evaluator.specs.Operators.{valuedOf, binaryOf}
-use Rattle.evaluator.specs.Stack.{typeOn, cellsOf}
-use Rattle.evaluator.proofs.StackLaws.{stopped, room-less, binary-short, binary-more, saying}
-use Rattle.evaluator.proofs.OperatorLaws.{binary-told, types-differ}
 use Rattle.design.specs.Expression.{Out}
+use Rattle.codes.specs.Operation.{binaryFor}
+use Rattle.codes.specs.Types.{resultFor}
+use Rattle.operators.specs.Operators.{binaryOn}
 use Rattle.evaluator.specs.Position.{pushed}
+use Rattle.evaluator.specs.Value.{Cell}
+use Rattle.evaluator.specs.Operators.{binaryOf}
+use Rattle.evaluator.specs.Stack.{typeOn, cellsOf}
+use Rattle.evaluator.proofs.StackLaws.{stopped, went, halted, room-less, binary-short, binary-more}
+use Rattle.evaluator.proofs.OperatorLaws.{binary-told, types-differ}
 use borrow.Author.Needs.{needs}
 use Rattle.evaluator.proofs.apply_binary.Statement.{statement}
 use Rattle.evaluator.proofs.apply_binary.Tie as tie
@@ -51,46 +49,51 @@ returns-2 c =
     ∙ ap (λ (o : Out Cell). pushed o (s .at) (cellsOf a t i)) (types-differ (s .op) (typeOn (getD t i 0)) (typeOn (getD t j 0)) (getD a i (pos 0)) (getD a j (pos 0))
     (λ q. c .if2 .taken (m .kinds i (omega arith) ∙ (q ∙ sym (m .kinds j (omega arith))))))))
 
-mul-binary : tie.Need-mul-binary
-mul-binary c = search needs
-
-element-copy-out-binary : tie.Need-element-copy-out-binary
-element-copy-out-binary c = search needs
-
-mul-binary-2 : tie.Need-mul-binary-2
-mul-binary-2 c = search needs
-
-element-copy-out-binary-2 : tie.Need-element-copy-out-binary-2
-element-copy-out-binary-2 c = search needs
-
-binary-requires : tie.Need-binary-requires
-binary-requires c κs = search needs
-
-result-requires : tie.Need-result-requires
-result-requires c κs = search needs
-
-valued-requires : tie.Need-valued-requires
-valued-requires c κs = search needs
-
-keep-requires : tie.Need-keep-requires
-keep-requires c κs = let m = c .before .before .before .before .before .before .before .before .before .before .before .pre in let h = c .before .before .before .before .before .before .before .before .before .before .if1 .left in (room-less (c .before .before .before .before .before .before .before .before .before .before .before .args .depth) (c .before .before .before .before .before .before .before .before .before .before .before .args .depth - 1 - 1) (omega arith) m, omega (arith, m .depth))
+apply-binary-requires : tie.Need-apply-binary-requires
+apply-binary-requires c κs = search needs
 
 returns-3 : tie.Need-returns-3
 returns-3 c =
-    let s = c .before .before .before .before .before .before .before .before .before .before .before .before .args in
-    let m = c .before .before .before .before .before .before .before .before .before .before .before .before .pre in
-    let h = c .before .before .before .before .before .before .before .before .before .before .before .if1 .left in
+    let s = c .before .before .before .before .before .before .before .args in
+    let m = c .before .before .before .before .before .before .before .pre in
+    let h = c .before .before .before .before .before .before .if1 .left in
     let a = s .stack .now in
     let t = s .tags .now in
     let j = s .depth - 1 in
     let i = j - 1 in
-    let fit : SFits w32 (getD a i (pos 0)) = search needs in
-    let fit2 : SFits w32 (getD a j (pos 0)) = search needs in
-    let e : c .before .before .before .valued .result ≡ evaluatedOf (binaryOf (binaryFor (s .op)) (typeOn (getD t i 0), getD a i (pos 0)) (typeOn (getD t j 0), getD a j (pos 0))) =
-    c .before .before .before .valued .ensures ∙ (ap (λ (k : Checked). valuedOf (c .before .before .before .before .result .result) k) (simp (toZ-ofZ fit, toZ-ofZ fit2) at (c .before .before .before .before .before .binary .ensures))
-    ∙ (binary-told (s .op) (getD t i 0) (c .before .before .before .before .result .result) (typeOn (getD t i 0)) (getD a i (pos 0)) (getD a j (pos 0)) (m .kinds i (omega arith)) (c .before .before .before .before .result .ensures)
-    ∙ ap (λ (k : ℕ). evaluatedOf (binaryOf (binaryFor (s .op)) (typeOn (getD t i 0), getD a i (pos 0)) (typeOn k, getD a j (pos 0)))) (c .before .before .before .before .before .before .before .before .if2 .left))) in
-    saying (binary-more a t (s .depth) (s .at) (binaryFor (s .op)) h) (c .keep .ensures (binaryOf (binaryFor (s .op)) (typeOn (getD t i 0), getD a i (pos 0)) (typeOn (getD t j 0), getD a j (pos 0))) e)
+    let x = getD a i (pos 0) in
+    let y = getD a j (pos 0) in
+    let k : i + 1 ≡ j = omega arith in
+    halted (binaryOn (s .op) (getD t i 0) x y) a t i (resultFor (s .op) (getD t i 0)) (s .at) (binaryOf (binaryFor (s .op)) (typeOn (getD t i 0), x) (typeOn (getD t j 0), y))
+    (binary-more a t (s .depth) (s .at) (binaryFor (s .op)) h)
+    (rw (← c .before .before .before .if2 .left) (binary-told (s .op) (getD t i 0) (resultFor (s .op) (getD t i 0)) (typeOn (getD t i 0)) x y (m .kinds i (omega arith)) refl))
+    (rw k at (c .before .apply-binary .ensures)) (c .if3 .taken) (room-less (s .depth) i (omega arith) m)
+
+result-type-requires : tie.Need-result-type-requires
+result-type-requires c κs = search needs
+
+element-write-tags : tie.Need-element-write-tags
+element-write-tags c = search needs
+
+add-t19 : tie.Need-add-t19
+add-t19 c = search needs
+
+returns-4 : tie.Need-returns-4
+returns-4 c =
+    let s = c .before .before .before .before .before .before .before .before .args in
+    let m = c .before .before .before .before .before .before .before .before .pre in
+    let h = c .before .before .before .before .before .before .before .if1 .left in
+    let a = s .stack .now in
+    let t = s .tags .now in
+    let j = s .depth - 1 in
+    let i = j - 1 in
+    let x = getD a i (pos 0) in
+    let y = getD a j (pos 0) in
+    let k : i + 1 ≡ j = omega arith in
+    went (binaryOn (s .op) (getD t i 0) x y) a t i (c .result-type .result) (s .at) (binaryOf (binaryFor (s .op)) (typeOn (getD t i 0), x) (typeOn (getD t j 0), y))
+    (binary-more a t (s .depth) (s .at) (binaryFor (s .op)) h)
+    (rw (← c .before .before .before .before .if2 .left) (binary-told (s .op) (getD t i 0) (c .result-type .result) (typeOn (getD t i 0)) x y (m .kinds i (omega arith)) (c .result-type .ensures)))
+    (rw k at (c .before .before .apply-binary .ensures)) (c .before .if3 .left) (room-less (s .depth) i (omega arith) m) (omega (arith, m .depth))
 
 pub apply-binary-spec : {M : Type 1} → statement M
 apply-binary-spec =
@@ -102,12 +105,9 @@ apply-binary-spec =
     element-copy-out-t
     element-copy-out-if2
     returns-2
-    mul-binary
-    element-copy-out-binary
-    mul-binary-2
-    element-copy-out-binary-2
-    binary-requires
-    result-requires
-    valued-requires
-    keep-requires
-    returns-3)
+    apply-binary-requires
+    returns-3
+    result-type-requires
+    element-write-tags
+    add-t19
+    returns-4)

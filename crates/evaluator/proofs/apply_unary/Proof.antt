@@ -1,18 +1,15 @@
 -- `evaluator::apply_unary` meets its contract: the operand is the last value. Assumes nothing.
-use Prim.Native.Nat.{ℕ, _-_, _<_}
+use Prim.Native.Nat.{_-_}
 use native.Mathlib.Omega.{arith}
-use mathlib.Core.Path.{_≡_, sym, ap, _∙_}
+use mathlib.Core.Path.{refl}
 use lib.ListN.{getD}
 use lib.IntN.{pos}
-use mir.Syntax.{w32}
-use mir.Val.{SFits}
-use mir.Facts.{toZ-ofZ}
 use Rattle.codes.specs.Operation.{unaryFor}
-use Rattle.signed.specs.declared.Checked.{Checked}
-use Rattle.evaluator.specs.Value.{evaluatedOf}
-use Rattle.evaluator.specs.Operators.{valuedOf, unaryOf}
+use Rattle.codes.specs.Types.{resultFor}
+use Rattle.operators.specs.Operators.{unaryOn}
+use Rattle.evaluator.specs.Operators.{unaryOf}
 use Rattle.evaluator.specs.Stack.{typeOn}
-use Rattle.evaluator.proofs.StackLaws.{stopped, room-less, unary-short, unary-more, saying}
+use Rattle.evaluator.proofs.StackLaws.{stopped, went, halted, room-less, unary-short, unary-more}
 use Rattle.evaluator.proofs.OperatorLaws.{unary-told}
 use borrow.Author.Needs.{needs}
 use Rattle.evaluator.proofs.apply_unary.Statement.{statement}
@@ -26,37 +23,41 @@ returns c =
 element-copy-out-t : tie.Need-element-copy-out-t
 element-copy-out-t c = search needs
 
-mul-unary : tie.Need-mul-unary
-mul-unary c = search needs
-
-element-copy-out-unary : tie.Need-element-copy-out-unary
-element-copy-out-unary c = search needs
-
-unary-requires : tie.Need-unary-requires
-unary-requires c κs = search needs
-
-result-requires : tie.Need-result-requires
-result-requires c κs = search needs
-
-valued-requires : tie.Need-valued-requires
-valued-requires c κs = search needs
-
-keep-requires : tie.Need-keep-requires
-keep-requires c κs = let m = c .before .before .before .before .before .before .before .before .pre in let h = c .before .before .before .before .before .before .before .if1 .left in (room-less (c .before .before .before .before .before .before .before .before .args .depth) (c .before .before .before .before .before .before .before .before .args .depth - 1) (omega arith) m, omega (arith, m .depth))
+apply-unary-requires : tie.Need-apply-unary-requires
+apply-unary-requires c κs = search needs
 
 returns-2 : tie.Need-returns-2
 returns-2 c =
-    let s = c .before .before .before .before .before .before .before .before .before .args in
-    let m = c .before .before .before .before .before .before .before .before .before .pre in
-    let h = c .before .before .before .before .before .before .before .before .if1 .left in
+    let s = c .before .before .before .before .before .args in
+    let m = c .before .before .before .before .before .pre in
     let a = s .stack .now in
     let t = s .tags .now in
     let i = s .depth - 1 in
-    let fit : SFits w32 (getD a i (pos 0)) = search needs in
-    let e : c .before .before .before .valued .result ≡ evaluatedOf (unaryOf (unaryFor (s .op)) (typeOn (getD t i 0), getD a i (pos 0))) =
-    c .before .before .before .valued .ensures ∙ (ap (λ (k : Checked). valuedOf (c .before .before .before .before .result .result) k) (rw (toZ-ofZ fit) at (c .before .before .before .before .before .unary .ensures))
-    ∙ unary-told (s .op) (getD t i 0) (c .before .before .before .before .result .result) (typeOn (getD t i 0)) (getD a i (pos 0)) (m .kinds i (omega arith)) (c .before .before .before .before .result .ensures)) in
-    saying (unary-more a t (s .depth) (s .at) (unaryFor (s .op)) h) (c .keep .ensures (unaryOf (unaryFor (s .op)) (typeOn (getD t i 0), getD a i (pos 0))) e)
+    halted (unaryOn (s .op) (getD t i 0) (getD a i (pos 0))) a t i (resultFor (s .op) (getD t i 0)) (s .at) (unaryOf (unaryFor (s .op)) (typeOn (getD t i 0), getD a i (pos 0)))
+    (unary-more a t (s .depth) (s .at) (unaryFor (s .op)) (c .before .before .before .before .if1 .left))
+    (unary-told (s .op) (getD t i 0) (resultFor (s .op) (getD t i 0)) (typeOn (getD t i 0)) (getD a i (pos 0)) (m .kinds i (omega (arith, c .before .before .before .before .if1 .left))) refl)
+    (c .before .apply-unary .ensures) (c .if2 .taken) (room-less (s .depth) i (omega arith) m)
+
+result-type-requires : tie.Need-result-type-requires
+result-type-requires c κs = search needs
+
+element-write-tags : tie.Need-element-write-tags
+element-write-tags c = search needs
+
+add-t16 : tie.Need-add-t16
+add-t16 c = search needs
+
+returns-3 : tie.Need-returns-3
+returns-3 c =
+    let s = c .before .before .before .before .before .before .args in
+    let m = c .before .before .before .before .before .before .pre in
+    let a = s .stack .now in
+    let t = s .tags .now in
+    let i = s .depth - 1 in
+    went (unaryOn (s .op) (getD t i 0) (getD a i (pos 0))) a t i (c .result-type .result) (s .at) (unaryOf (unaryFor (s .op)) (typeOn (getD t i 0), getD a i (pos 0)))
+    (unary-more a t (s .depth) (s .at) (unaryFor (s .op)) (c .before .before .before .before .before .if1 .left))
+    (unary-told (s .op) (getD t i 0) (c .result-type .result) (typeOn (getD t i 0)) (getD a i (pos 0)) (m .kinds i (omega (arith, c .before .before .before .before .before .if1 .left))) (c .result-type .ensures))
+    (c .before .before .apply-unary .ensures) (c .before .if2 .left) (room-less (s .depth) i (omega arith) m) (omega (arith, m .depth))
 
 pub apply-unary-spec : {M : Type 1} → statement M
 apply-unary-spec =
@@ -64,10 +65,9 @@ apply-unary-spec =
     (tie.spec
     returns
     element-copy-out-t
-    mul-unary
-    element-copy-out-unary
-    unary-requires
-    result-requires
-    valued-requires
-    keep-requires
-    returns-2)
+    apply-unary-requires
+    returns-2
+    result-type-requires
+    element-write-tags
+    add-t16
+    returns-3)

@@ -10,7 +10,7 @@ returns : tie.Need-returns
 returns c =
     let s = c .before .before .before .before .args in
     let M = machineFor (s .input-types .now) (s .variable-types .now) (s .inputs .now) (s .variables .now) in
-    part-outside M (s .code .now) (s .start) (s .size) (let h = c .if1 .taken in omega arith)
+    (part-outside M (s .code .now) (s .start) (s .size) (let h = c .if1 .taken in omega arith), c .before .before .before .before .pre)
 
 sub-if2 : tie.Need-sub-if2
 sub-if2 c = search needs
@@ -19,7 +19,7 @@ returns-2 : tie.Need-returns-2
 returns-2 c =
     let s = c .before .before .before .before .before .args in
     let M = machineFor (s .input-types .now) (s .variable-types .now) (s .inputs .now) (s .variables .now) in
-    part-outside M (s .code .now) (s .start) (s .size) (let h = c .if2 .taken in omega arith)
+    (part-outside M (s .code .now) (s .start) (s .size) (let h = c .if2 .taken in omega arith), c .before .before .before .before .before .pre)
 
 add-end : tie.Need-add-end
 add-end c = search needs
@@ -34,14 +34,13 @@ part-run-end : tie.Need-part-run-end
 part-run-end c = search needs
 
 run-requires : tie.Need-run-requires
-run-requires c κs = record { numbers = search needs; tags = search needs; depth = omega arith; kinds = λ k l. absurd (omega arith) }
+run-requires c κs = c .before .before .before .before .before .before .before .before .pre
 
 returns-3 : tie.Need-returns-3
 returns-3 c =
     let s = c .before .before .before .before .before .before .before .before .before .args in
     let M = machineFor (s .input-types .now) (s .variable-types .now) (s .inputs .now) (s .variables .now) in
-    part-within M (s .code .now) (s .start) (s .size)
-    (let h = c .before .before .before .before .if2 .left in omega arith) (c .run .ensures)
+    (part-within M (s .code .now) (s .start) (s .size) (let h = c .before .before .before .before .if2 .left in omega arith) (c .run .ensures .0), c .run .ensures .1)
 
 pub evaluate-spec : {M : Type 1} → statement M
 evaluate-spec =

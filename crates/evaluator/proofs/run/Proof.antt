@@ -6,6 +6,7 @@ use mir.Syntax.{w32}
 use mir.Val.{SFits}
 use mir.Facts.{toZ-ofZ}
 use Rattle.evaluator.specs.Value.{machineFor}
+use Rattle.evaluator.proofs.StackLaws.{room-less}
 use Rattle.evaluator.proofs.LoopLaws.{Left, left-first, left-again, left-stop, left-spent, left-one, left-other}
 use borrow.Author.Needs.{needs}
 use Rattle.evaluator.proofs.run.Statement.{statement}
@@ -30,7 +31,7 @@ returns c =
     let s = c .before .before .before .before .before .before .args in
     let m = c .before .before .loop in
     let M = machineFor (s .input-types .now) (s .variable-types .now) (s .inputs .now) (s .variables .now) in
-    left-spent M (s .code .now) (m .stack) (m .tags) (m .depth) (m .at) (m .left) (m .inv) (c .if1 .taken) (c .before .loop-test .taken)
+    (left-spent M (s .code .now) (m .stack) (m .tags) (m .depth) (m .at) (m .left) (m .inv) (c .if1 .taken) (c .before .loop-test .taken), room-less (m .depth) 0 (omega arith) (m .inv .room))
 
 step-requires : tie.Need-step-requires Inv-loop μ-loop
 step-requires c κs = (c .before .before .before .before .loop .inv .room, c .before .before .before .loop-test .taken)
@@ -60,7 +61,7 @@ returns-2 c =
     let s = c .before .before .before .before .before .before .before .before .before .before .before .before .args in
     let m = c .before .before .before .before .before .before .before .before .loop in
     let M = machineFor (s .input-types .now) (s .variable-types .now) (s .inputs .now) (s .variables .now) in
-    left-stop M (s .code .now) (m .stack) (m .tags) (m .depth) (m .at) (m .left) _ _ (c .before .before .before .step .result) (c .before .next2 .given .0 .0) (m .inv) (c .before .before .before .before .before .before .if1 .left) (c .before .before .before .before .before .before .before .loop-test .taken) (c .before .before .before .step .ensures) (c .before .next2 .given .1)
+    (left-stop M (s .code .now) (m .stack) (m .tags) (m .depth) (m .at) (m .left) _ _ (c .before .before .before .step .result) (c .before .next2 .given .0 .0) (m .inv) (c .before .before .before .before .before .before .if1 .left) (c .before .before .before .before .before .before .before .loop-test .taken) (c .before .before .before .step .ensures) (c .before .next2 .given .1), room-less _ 0 (omega arith) (c .before .before .before .step .ensures .room))
 
 element-copy-out-t22 : tie.Need-element-copy-out-t22 Inv-loop μ-loop
 element-copy-out-t22 c = search needs
@@ -74,14 +75,14 @@ returns-3 c =
     let m = c .before .before .before .before .loop in
     let M = machineFor (s .input-types .now) (s .variable-types .now) (s .inputs .now) (s .variables .now) in
     let fit : SFits w32 (getD (m .stack) 0 (pos 0)) = search needs in
-    rw (toZ-ofZ fit) (left-one M (s .code .now) (m .stack) (m .tags) (m .depth) (m .at) (m .left) (m .inv) (c .before .before .before .loop-test .left) (c .before .before .if2 .taken))
+    (rw (toZ-ofZ fit) (left-one M (s .code .now) (m .stack) (m .tags) (m .depth) (m .at) (m .left) (m .inv) (c .before .before .before .loop-test .left) (c .before .before .if2 .taken)), room-less (m .depth) 0 (omega arith) (m .inv .room))
 
 returns-4 : tie.Need-returns-4 Inv-loop μ-loop
 returns-4 c =
     let s = c .before .before .before .before .before .before .args in
     let m = c .before .before .loop in
     let M = machineFor (s .input-types .now) (s .variable-types .now) (s .inputs .now) (s .variables .now) in
-    left-other M (s .code .now) (m .stack) (m .tags) (m .depth) (m .at) (m .left) (m .inv) (c .before .loop-test .left) (c .if2 .left)
+    (left-other M (s .code .now) (m .stack) (m .tags) (m .depth) (m .at) (m .left) (m .inv) (c .before .loop-test .left) (c .if2 .left), room-less (m .depth) 0 (omega arith) (m .inv .room))
 
 pub run-spec : {M : Type 1} → statement M
 run-spec =

@@ -2,6 +2,8 @@ use mathlib.Core.Path.{_≡_, refl}
 use lib.ListN.{length}
 use native.Mathlib.Omega.{arith}
 use borrow.Author.Needs.{needs}
+use Rattle.evaluator.specs.Stack.{Room}
+use Rattle.evaluator.proofs.StackLaws.{room-empty}
 use Rattle.lines.proofs.Turns.{Rest, rest-first, rest-spent, rest-again, rest-wait, rest-stopped}
 use Rattle.lines.proofs.follow.Statement.{statement}
 use Rattle.lines.proofs.follow.Tie as tie
@@ -10,33 +12,33 @@ use Rattle.lines.proofs.follow.Lts as lts
 use Rattle.lines.proofs.perform.Reads as perform-reads
 
 abbrev Inv-loop : tie.InvT-loop
-Inv-loop lines code first limit inputs input-types variable-types outputs₀ variables₀ x₀ left₀ outputs variables x left =
-    Rest lines code input-types variable-types inputs limit first outputs₀ variables₀ left x outputs variables × ((length outputs ≡ length outputs₀) × (length variables ≡ length variables₀))
+Inv-loop lines code first most inputs input-types variable-types outputs₀ variables₀ stack₀ tags₀ x₀ left₀ outputs variables stack tags x left =
+    Rest lines code input-types variable-types inputs most first outputs₀ variables₀ left x outputs variables × ((length outputs ≡ length outputs₀) × (length variables ≡ length variables₀) × Room stack tags 0)
 
 abbrev μ-loop : tie.MeasureT-loop
-μ-loop lines code first limit inputs input-types variable-types outputs₀ variables₀ x₀ left₀ outputs variables x left =
+μ-loop lines code first most inputs input-types variable-types outputs₀ variables₀ stack₀ tags₀ x₀ left₀ outputs variables stack tags x left =
     left
 
 -- src/lib.rt:137:5
 loop-holds : tie.Need-loop-holds Inv-loop μ-loop
 loop-holds c =
-    (rest-first (c .before .before .before .before .args .lines .now) (c .before .before .before .before .args .code .now) (c .before .before .before .before .args .input-types .now) (c .before .before .before .before .args .variable-types .now) (c .before .before .before .before .args .inputs .now) (c .before .before .before .before .args .limit) (c .before .before .before .before .args .first) (c .before .before .before .before .args .outputs .now) (c .before .before .before .before .args .variables .now), (refl, refl))
+    (rest-first (c .before .before .before .before .args .lines .now) (c .before .before .before .before .args .code .now) (c .before .before .before .before .args .input-types .now) (c .before .before .before .before .args .variable-types .now) (c .before .before .before .before .args .inputs .now) (c .before .before .before .before .args .most) (c .before .before .before .before .args .first) (c .before .before .before .before .args .outputs .now) (c .before .before .before .before .args .variables .now), (refl, refl, room-empty (search needs) (search needs)))
 
 -- src/lib.rt:138:13
 perform-requires : tie.Need-perform-requires Inv-loop μ-loop
-perform-requires c κs = search needs
+perform-requires c κs = c .before .before .before .before .before .loop .inv .1 .2
 
 -- src/lib.rt:139:9
 sub-left : tie.Need-sub-left Inv-loop μ-loop
-sub-left c = let h = c .before .before .before .before .before .loop-test .taken in omega arith
+sub-left c = let h = c .before .before .before .before .before .before .before .loop-test .taken in omega arith
 
 -- src/lib.rt:142:45
 enum-told : tie.Need-enum-told Inv-loop μ-loop
 enum-told c = search needs
 
 -- src/lib.rt:142:45
-sub-t20 : tie.Need-sub-t20 Inv-loop μ-loop
-sub-t20 c = let h = c .before .before .before .before .before .before .before .before .loop .inv .0 .few in omega arith
+sub-t24 : tie.Need-sub-t24 Inv-loop μ-loop
+sub-t24 c = let h = c .before .before .before .before .before .before .before .before .before .before .loop .inv .0 .few in omega arith
 
 -- src/lib.rt:142:17
 same-length : tie.Need-same-length Inv-loop μ-loop
@@ -49,8 +51,8 @@ same-length-2 c = search needs
 -- src/lib.rt:142:17
 returns : tie.Need-returns Inv-loop μ-loop
 returns c =
-    let t = c .before .before .before .before .before .before .before .loop-test .taken in
-    rest-wait (c .before .before .before .before .before .before .before .before .before .before .before .before .before .args .lines .now) (c .before .before .before .before .before .before .before .before .before .before .before .before .before .args .code .now) (c .before .before .before .before .before .before .before .before .before .before .before .before .before .args .input-types .now) (c .before .before .before .before .before .before .before .before .before .before .before .before .before .args .variable-types .now) (c .before .before .before .before .before .before .before .before .before .before .before .before .before .args .inputs .now) (c .before .before .before .before .before .before .before .before .before .before .before .before .before .args .limit) (c .before .before .before .before .before .before .before .before .before .before .before .before .before .args .first) (c .before .before .before .before .before .before .before .before .before .before .before .before .before .args .outputs .now) (c .before .before .before .before .before .before .before .before .before .before .before .before .before .args .variables .now) (c .before .before .before .before .before .before .before .before .loop .x) (c .before .before .before .before .before .before .before .before .loop .outputs) (c .before .before .before .before .before .before .before .before .loop .variables) (c .before .before .before .before .before .before .before .before .loop .left) (c .before .before .before .before .perform .result) _ _ _ (c .before .before .before .before .before .before .before .before .loop .inv .0) (λ z. omega arith) (c .before .before .before .before .perform .ensures) (c .enum-told .given .1) refl
+    let t = c .before .before .before .before .before .before .before .before .before .loop-test .taken in
+    rest-wait (c .before .before .before .before .before .before .before .before .before .before .before .before .before .before .before .args .lines .now) (c .before .before .before .before .before .before .before .before .before .before .before .before .before .before .before .args .code .now) (c .before .before .before .before .before .before .before .before .before .before .before .before .before .before .before .args .input-types .now) (c .before .before .before .before .before .before .before .before .before .before .before .before .before .before .before .args .variable-types .now) (c .before .before .before .before .before .before .before .before .before .before .before .before .before .before .before .args .inputs .now) (c .before .before .before .before .before .before .before .before .before .before .before .before .before .before .before .args .most) (c .before .before .before .before .before .before .before .before .before .before .before .before .before .before .before .args .first) (c .before .before .before .before .before .before .before .before .before .before .before .before .before .before .before .args .outputs .now) (c .before .before .before .before .before .before .before .before .before .before .before .before .before .before .before .args .variables .now) (c .before .before .before .before .before .before .before .before .before .before .loop .x) (c .before .before .before .before .before .before .before .before .before .before .loop .outputs) (c .before .before .before .before .before .before .before .before .before .before .loop .variables) (c .before .before .before .before .before .before .before .before .before .before .loop .left) (c .before .before .before .before .perform .result) _ _ _ (c .before .before .before .before .before .before .before .before .before .before .loop .inv .0) (λ z. omega arith) (c .before .before .before .before .perform .ensures .0, (c .before .before .before .before .perform .ensures .1 .0, c .before .before .before .before .perform .ensures .1 .1 .0)) (c .enum-told .given .1) refl
 
 -- src/lib.rt:144:24
 enum-known-m : tie.Need-enum-known-m Inv-loop μ-loop
@@ -58,13 +60,13 @@ enum-known-m c = search needs
 
 -- src/lib.rt:137:5
 loop-less : tie.Need-loop-less Inv-loop μ-loop
-loop-less c = let h = c .before .before .before .before .before .before .before .before .loop-test .taken in omega arith
+loop-less c = let h = c .before .before .before .before .before .before .before .before .before .before .loop-test .taken in omega arith
 
 -- src/lib.rt:137:5
 loop-again : tie.Need-loop-again Inv-loop μ-loop
 loop-again c =
-    let t = c .before .before .before .before .before .before .before .before .loop-test .taken in
-    (rest-again (c .before .before .before .before .before .before .before .before .before .before .before .before .before .before .args .lines .now) (c .before .before .before .before .before .before .before .before .before .before .before .before .before .before .args .code .now) (c .before .before .before .before .before .before .before .before .before .before .before .before .before .before .args .input-types .now) (c .before .before .before .before .before .before .before .before .before .before .before .before .before .before .args .variable-types .now) (c .before .before .before .before .before .before .before .before .before .before .before .before .before .before .args .inputs .now) (c .before .before .before .before .before .before .before .before .before .before .before .before .before .before .args .limit) (c .before .before .before .before .before .before .before .before .before .before .before .before .before .before .args .first) (c .before .before .before .before .before .before .before .before .before .before .before .before .before .before .args .outputs .now) (c .before .before .before .before .before .before .before .before .before .before .before .before .before .before .args .variables .now) (c .before .before .before .before .before .before .before .before .before .loop .x) (c .before .before .before .before .before .before .before .before .before .loop .outputs) (c .before .before .before .before .before .before .before .before .before .loop .variables) (c .before .before .before .before .before .before .before .before .before .loop .left) (c .before .before .before .before .before .perform .result) _ _ _ (c .before .before .before .before .before .before .before .before .before .loop .inv .0) (λ z. omega arith) (c .before .before .before .before .before .perform .ensures) (c .before .m .given .1), (search needs, search needs))
+    let t = c .before .before .before .before .before .before .before .before .before .before .loop-test .taken in
+    (rest-again (c .before .before .before .before .before .before .before .before .before .before .before .before .before .before .before .before .args .lines .now) (c .before .before .before .before .before .before .before .before .before .before .before .before .before .before .before .before .args .code .now) (c .before .before .before .before .before .before .before .before .before .before .before .before .before .before .before .before .args .input-types .now) (c .before .before .before .before .before .before .before .before .before .before .before .before .before .before .before .before .args .variable-types .now) (c .before .before .before .before .before .before .before .before .before .before .before .before .before .before .before .before .args .inputs .now) (c .before .before .before .before .before .before .before .before .before .before .before .before .before .before .before .before .args .most) (c .before .before .before .before .before .before .before .before .before .before .before .before .before .before .before .before .args .first) (c .before .before .before .before .before .before .before .before .before .before .before .before .before .before .before .before .args .outputs .now) (c .before .before .before .before .before .before .before .before .before .before .before .before .before .before .before .before .args .variables .now) (c .before .before .before .before .before .before .before .before .before .before .before .loop .x) (c .before .before .before .before .before .before .before .before .before .before .before .loop .outputs) (c .before .before .before .before .before .before .before .before .before .before .before .loop .variables) (c .before .before .before .before .before .before .before .before .before .before .before .loop .left) (c .before .before .before .before .before .perform .result) _ _ _ (c .before .before .before .before .before .before .before .before .before .before .before .loop .inv .0) (λ z. omega arith) (c .before .before .before .before .before .perform .ensures .0, (c .before .before .before .before .before .perform .ensures .1 .0, c .before .before .before .before .before .perform .ensures .1 .1 .0)) (c .before .m .given .1), (search needs, search needs, c .before .before .before .before .before .perform .ensures .1 .1 .1))
 
 -- src/lib.rt:147:27
 enum-known-m-2 : tie.Need-enum-known-m-2 Inv-loop μ-loop
@@ -81,8 +83,8 @@ same-length-4 c = search needs
 -- src/lib.rt:148:17
 returns-2 : tie.Need-returns-2 Inv-loop μ-loop
 returns-2 c =
-    let t = c .before .before .before .before .before .before .before .before .loop-test .taken in
-    rest-stopped (c .before .before .before .before .before .before .before .before .before .before .before .before .before .before .args .lines .now) (c .before .before .before .before .before .before .before .before .before .before .before .before .before .before .args .code .now) (c .before .before .before .before .before .before .before .before .before .before .before .before .before .before .args .input-types .now) (c .before .before .before .before .before .before .before .before .before .before .before .before .before .before .args .variable-types .now) (c .before .before .before .before .before .before .before .before .before .before .before .before .before .before .args .inputs .now) (c .before .before .before .before .before .before .before .before .before .before .before .before .before .before .args .limit) (c .before .before .before .before .before .before .before .before .before .before .before .before .before .before .args .first) (c .before .before .before .before .before .before .before .before .before .before .before .before .before .before .args .outputs .now) (c .before .before .before .before .before .before .before .before .before .before .before .before .before .before .args .variables .now) (c .before .before .before .before .before .before .before .before .before .loop .x) (c .before .before .before .before .before .before .before .before .before .loop .outputs) (c .before .before .before .before .before .before .before .before .before .loop .variables) (c .before .before .before .before .before .before .before .before .before .loop .left) (c .before .before .before .before .before .perform .result) _ _ _ (c .before .before .before .before .before .before .before .before .before .loop .inv .0) (λ z. omega arith) (c .before .before .before .before .before .perform .ensures) (c .before .m2 .given .1)
+    let t = c .before .before .before .before .before .before .before .before .before .before .loop-test .taken in
+    rest-stopped (c .before .before .before .before .before .before .before .before .before .before .before .before .before .before .before .before .args .lines .now) (c .before .before .before .before .before .before .before .before .before .before .before .before .before .before .before .before .args .code .now) (c .before .before .before .before .before .before .before .before .before .before .before .before .before .before .before .before .args .input-types .now) (c .before .before .before .before .before .before .before .before .before .before .before .before .before .before .before .before .args .variable-types .now) (c .before .before .before .before .before .before .before .before .before .before .before .before .before .before .before .before .args .inputs .now) (c .before .before .before .before .before .before .before .before .before .before .before .before .before .before .before .before .args .most) (c .before .before .before .before .before .before .before .before .before .before .before .before .before .before .before .before .args .first) (c .before .before .before .before .before .before .before .before .before .before .before .before .before .before .before .before .args .outputs .now) (c .before .before .before .before .before .before .before .before .before .before .before .before .before .before .before .before .args .variables .now) (c .before .before .before .before .before .before .before .before .before .before .before .loop .x) (c .before .before .before .before .before .before .before .before .before .before .before .loop .outputs) (c .before .before .before .before .before .before .before .before .before .before .before .loop .variables) (c .before .before .before .before .before .before .before .before .before .before .before .loop .left) (c .before .before .before .before .before .perform .result) _ _ _ (c .before .before .before .before .before .before .before .before .before .before .before .loop .inv .0) (λ z. omega arith) (c .before .before .before .before .before .perform .ensures .0, (c .before .before .before .before .before .perform .ensures .1 .0, c .before .before .before .before .before .perform .ensures .1 .1 .0)) (c .before .m2 .given .1)
 
 -- src/lib.rt:120:1
 same-length-5 : tie.Need-same-length-5 Inv-loop μ-loop
@@ -96,7 +98,7 @@ same-length-6 c = search needs
 returns-3 : tie.Need-returns-3 Inv-loop μ-loop
 returns-3 c =
     let t = c .loop-test .left in
-    rest-spent (c .before .before .before .before .before .before .args .lines .now) (c .before .before .before .before .before .before .args .code .now) (c .before .before .before .before .before .before .args .input-types .now) (c .before .before .before .before .before .before .args .variable-types .now) (c .before .before .before .before .before .before .args .inputs .now) (c .before .before .before .before .before .before .args .limit) (c .before .before .before .before .before .before .args .first) (c .before .before .before .before .before .before .args .outputs .now) (c .before .before .before .before .before .before .args .variables .now) (c .before .loop .left) (c .before .loop .x) (c .before .loop .outputs) (c .before .loop .variables) (c .before .loop .inv .0) (omega arith)
+    rest-spent (c .before .before .before .before .before .before .args .lines .now) (c .before .before .before .before .before .before .args .code .now) (c .before .before .before .before .before .before .args .input-types .now) (c .before .before .before .before .before .before .args .variable-types .now) (c .before .before .before .before .before .before .args .inputs .now) (c .before .before .before .before .before .before .args .most) (c .before .before .before .before .before .before .args .first) (c .before .before .before .before .before .before .args .outputs .now) (c .before .before .before .before .before .before .args .variables .now) (c .before .loop .left) (c .before .loop .x) (c .before .loop .outputs) (c .before .loop .variables) (c .before .loop .inv .0) (omega arith)
 
 pub follow-spec : {M : Type 1} → statement M
 follow-spec =
@@ -108,7 +110,7 @@ follow-spec =
     perform-requires
     sub-left
     enum-told
-    sub-t20
+    sub-t24
     same-length
     same-length-2
     returns

@@ -4,7 +4,7 @@ use mir.Syntax.{w32}
 use mir.Val.{SFits}
 use mir.Facts.{toZ-ofZ}
 use Rattle.lines.specs.Moves.{valueAt}
-use Rattle.lines.proofs.Steps.{wait-at, null-at, fault-at, branch-at, store-at}
+use Rattle.lines.proofs.Steps.{and-room, wait-at, null-at, fault-at, branch-at, store-at}
 use Rattle.lines.proofs.perform.Statement.{statement}
 use Rattle.lines.proofs.perform.Tie as tie
 use Rattle.lines.proofs.perform.Reads as reads
@@ -23,8 +23,9 @@ kind-requires c κs = search needs
 -- src/lib.rt:91:9
 returns : tie.Need-returns
 returns c =
-    wait-at (now (c .before .before .before .before .before .before .args .lines)) (c .before .before .before .before .before .before .args .x) (valueAt (now (c .before .before .before .before .before .before .args .lines)) (now (c .before .before .before .before .before .before .args .code)) (c .before .before .before .before .before .before .args .x) (now (c .before .before .before .before .before .before .args .input-types)) (now (c .before .before .before .before .before .before .args .variable-types)) (now (c .before .before .before .before .before .before .args .inputs)) (now (c .before .before .before .before .before .before .args .variables))) (now (c .before .before .before .before .before .before .args .outputs)) (now (c .before .before .before .before .before .before .args .variables)) _
-    (c .before .kind .ensures) (c .if1 .taken)
+    and-room (wait-at (now (c .before .before .before .before .before .before .args .lines)) (c .before .before .before .before .before .before .args .x) (valueAt (now (c .before .before .before .before .before .before .args .lines)) (now (c .before .before .before .before .before .before .args .code)) (c .before .before .before .before .before .before .args .x) (now (c .before .before .before .before .before .before .args .input-types)) (now (c .before .before .before .before .before .before .args .variable-types)) (now (c .before .before .before .before .before .before .args .inputs)) (now (c .before .before .before .before .before .before .args .variables))) (now (c .before .before .before .before .before .before .args .outputs)) (now (c .before .before .before .before .before .before .args .variables)) _
+    (c .before .kind .ensures) (c .if1 .taken))
+    (c .before .before .before .before .before .before .pre)
 
 -- src/lib.rt:94:27
 field-requires : tie.Need-field-requires
@@ -33,12 +34,13 @@ field-requires c κs = search needs
 -- src/lib.rt:94:9
 returns-2 : tie.Need-returns-2
 returns-2 c =
-    null-at (now (c .before .before .before .before .before .before .before .before .args .lines)) (c .before .before .before .before .before .before .before .before .args .x) (valueAt (now (c .before .before .before .before .before .before .before .before .args .lines)) (now (c .before .before .before .before .before .before .before .before .args .code)) (c .before .before .before .before .before .before .before .before .args .x) (now (c .before .before .before .before .before .before .before .before .args .input-types)) (now (c .before .before .before .before .before .before .before .before .args .variable-types)) (now (c .before .before .before .before .before .before .before .before .args .inputs)) (now (c .before .before .before .before .before .before .before .before .args .variables))) (now (c .before .before .before .before .before .before .before .before .args .outputs)) (now (c .before .before .before .before .before .before .before .before .args .variables)) _ _
-    (c .before .before .before .kind .ensures) (c .before .if2 .taken) (c .field .ensures .0)
+    and-room (null-at (now (c .before .before .before .before .before .before .before .before .args .lines)) (c .before .before .before .before .before .before .before .before .args .x) (valueAt (now (c .before .before .before .before .before .before .before .before .args .lines)) (now (c .before .before .before .before .before .before .before .before .args .code)) (c .before .before .before .before .before .before .before .before .args .x) (now (c .before .before .before .before .before .before .before .before .args .input-types)) (now (c .before .before .before .before .before .before .before .before .args .variable-types)) (now (c .before .before .before .before .before .before .before .before .args .inputs)) (now (c .before .before .before .before .before .before .before .before .args .variables))) (now (c .before .before .before .before .before .before .before .before .args .outputs)) (now (c .before .before .before .before .before .before .before .before .args .variables)) _ _
+    (c .before .before .before .kind .ensures) (c .before .if2 .taken) (c .field .ensures .0))
+    (c .before .before .before .before .before .before .before .before .pre)
 
 -- src/lib.rt:96:9
 value-requires : tie.Need-value-requires
-value-requires c κs = search needs
+value-requires c κs = c .before .before .before .before .before .before .before .before .before .before .pre
 
 -- src/lib.rt:98:26
 enum-known-e : tie.Need-enum-known-e
@@ -60,8 +62,9 @@ same-length c = search needs
 returns-3 : tie.Need-returns-3
 returns-3 c =
     let h : SFits w32 (c .before .before .before .before .e2 .given .0 .0 .value) = search needs in
-    branch-at (now (c .before .before .before .before .before .before .before .before .before .before .before .before .before .before .before .args .lines)) (c .before .before .before .before .before .before .before .before .before .before .before .before .before .before .before .args .x) (valueAt (now (c .before .before .before .before .before .before .before .before .before .before .before .before .before .before .before .args .lines)) (now (c .before .before .before .before .before .before .before .before .before .before .before .before .before .before .before .args .code)) (c .before .before .before .before .before .before .before .before .before .before .before .before .before .before .before .args .x) (now (c .before .before .before .before .before .before .before .before .before .before .before .before .before .before .before .args .input-types)) (now (c .before .before .before .before .before .before .before .before .before .before .before .before .before .before .before .args .variable-types)) (now (c .before .before .before .before .before .before .before .before .before .before .before .before .before .before .before .args .inputs)) (now (c .before .before .before .before .before .before .before .before .before .before .before .before .before .before .before .args .variables))) (now (c .before .before .before .before .before .before .before .before .before .before .before .before .before .before .before .args .outputs)) (now (c .before .before .before .before .before .before .before .before .before .before .before .before .before .before .before .args .variables)) _ _ (c .before .before .before .before .e2 .given .0 .0 .kind) (c .before .before .before .before .e2 .given .0 .0 .value) _
-    (c .before .before .before .before .before .before .before .before .before .before .kind .ensures) (c .before .if3 .taken) (c .before .before .before .before .before .before .value .ensures) (c .before .before .before .before .e2 .given .1) (rw (toZ-ofZ h) at (c .branch .ensures))
+    and-room (branch-at (now (c .before .before .before .before .before .before .before .before .before .before .before .before .before .before .before .before .before .args .lines)) (c .before .before .before .before .before .before .before .before .before .before .before .before .before .before .before .before .before .args .x) (valueAt (now (c .before .before .before .before .before .before .before .before .before .before .before .before .before .before .before .before .before .args .lines)) (now (c .before .before .before .before .before .before .before .before .before .before .before .before .before .before .before .before .before .args .code)) (c .before .before .before .before .before .before .before .before .before .before .before .before .before .before .before .before .before .args .x) (now (c .before .before .before .before .before .before .before .before .before .before .before .before .before .before .before .before .before .args .input-types)) (now (c .before .before .before .before .before .before .before .before .before .before .before .before .before .before .before .before .before .args .variable-types)) (now (c .before .before .before .before .before .before .before .before .before .before .before .before .before .before .before .before .before .args .inputs)) (now (c .before .before .before .before .before .before .before .before .before .before .before .before .before .before .before .before .before .args .variables))) (now (c .before .before .before .before .before .before .before .before .before .before .before .before .before .before .before .before .before .args .outputs)) (now (c .before .before .before .before .before .before .before .before .before .before .before .before .before .before .before .before .before .args .variables)) _ _ (c .before .before .before .before .e2 .given .0 .0 .kind) (c .before .before .before .before .e2 .given .0 .0 .value) _
+    (c .before .before .before .before .before .before .before .before .before .before .before .before .kind .ensures) (c .before .if3 .taken) (c .before .before .before .before .before .before .value .ensures .0) (c .before .before .before .before .e2 .given .1) (rw (toZ-ofZ h) at (c .branch .ensures)))
+    (c .before .before .before .before .before .before .value .ensures .1)
 
 -- src/lib.rt:103:21
 target-requires : tie.Need-target-requires
@@ -90,8 +93,9 @@ same-length-2 c = search needs
 -- src/lib.rt:75:1
 returns-4 : tie.Need-returns-4
 returns-4 c =
-    fault-at (now (c .before .before .before .before .before .before .before .before .before .before .before .before .args .lines)) (c .before .before .before .before .before .before .before .before .before .before .before .before .args .x) (valueAt (now (c .before .before .before .before .before .before .before .before .before .before .before .before .args .lines)) (now (c .before .before .before .before .before .before .before .before .before .before .before .before .args .code)) (c .before .before .before .before .before .before .before .before .before .before .before .before .args .x) (now (c .before .before .before .before .before .before .before .before .before .before .before .before .args .input-types)) (now (c .before .before .before .before .before .before .before .before .before .before .before .before .args .variable-types)) (now (c .before .before .before .before .before .before .before .before .before .before .before .before .args .inputs)) (now (c .before .before .before .before .before .before .before .before .before .before .before .before .args .variables))) (now (c .before .before .before .before .before .before .before .before .before .before .before .before .args .outputs)) (now (c .before .before .before .before .before .before .before .before .before .before .before .before .args .variables)) _ _ _
-    (c .before .before .before .before .before .before .before .kind .ensures) (c .before .before .before .before .before .before .if1 .left) (c .before .before .before .before .before .if2 .left) (c .before .before .before .value .ensures) (c .before .e .given .1)
+    and-room (fault-at (now (c .before .before .before .before .before .before .before .before .before .before .before .before .before .before .args .lines)) (c .before .before .before .before .before .before .before .before .before .before .before .before .before .before .args .x) (valueAt (now (c .before .before .before .before .before .before .before .before .before .before .before .before .before .before .args .lines)) (now (c .before .before .before .before .before .before .before .before .before .before .before .before .before .before .args .code)) (c .before .before .before .before .before .before .before .before .before .before .before .before .before .before .args .x) (now (c .before .before .before .before .before .before .before .before .before .before .before .before .before .before .args .input-types)) (now (c .before .before .before .before .before .before .before .before .before .before .before .before .before .before .args .variable-types)) (now (c .before .before .before .before .before .before .before .before .before .before .before .before .before .before .args .inputs)) (now (c .before .before .before .before .before .before .before .before .before .before .before .before .before .before .args .variables))) (now (c .before .before .before .before .before .before .before .before .before .before .before .before .before .before .args .outputs)) (now (c .before .before .before .before .before .before .before .before .before .before .before .before .before .before .args .variables)) _ _ _
+    (c .before .before .before .before .before .before .before .before .before .kind .ensures) (c .before .before .before .before .before .before .before .before .if1 .left) (c .before .before .before .before .before .before .before .if2 .left) (c .before .before .before .value .ensures .0) (c .before .e .given .1))
+    (c .before .before .before .value .ensures .1)
 
 -- src/lib.rt:75:1
 same-length-3 : tie.Need-same-length-3
@@ -105,9 +109,10 @@ same-length-4 c = search needs
 returns-5 : tie.Need-returns-5
 returns-5 c =
     let h : SFits w32 (c .before .before .before .before .before .before .before .before .before .before .before .e2 .given .0 .0 .value) = search needs in
-    store-at (now (c .before .before .before .before .before .before .before .before .before .before .before .before .before .before .before .before .before .before .before .before .before .before .args .lines)) (c .before .before .before .before .before .before .before .before .before .before .before .before .before .before .before .before .before .before .before .before .before .before .args .x) (valueAt (now (c .before .before .before .before .before .before .before .before .before .before .before .before .before .before .before .before .before .before .before .before .before .before .args .lines)) (now (c .before .before .before .before .before .before .before .before .before .before .before .before .before .before .before .before .before .before .before .before .before .before .args .code)) (c .before .before .before .before .before .before .before .before .before .before .before .before .before .before .before .before .before .before .before .before .before .before .args .x) (now (c .before .before .before .before .before .before .before .before .before .before .before .before .before .before .before .before .before .before .before .before .before .before .args .input-types)) (now (c .before .before .before .before .before .before .before .before .before .before .before .before .before .before .before .before .before .before .before .before .before .before .args .variable-types)) (now (c .before .before .before .before .before .before .before .before .before .before .before .before .before .before .before .before .before .before .before .before .before .before .args .inputs)) (now (c .before .before .before .before .before .before .before .before .before .before .before .before .before .before .before .before .before .before .before .before .before .before .args .variables))) (now (c .before .before .before .before .before .before .before .before .before .before .before .before .before .before .before .before .before .before .before .before .before .before .args .outputs)) (now (c .before .before .before .before .before .before .before .before .before .before .before .before .before .before .before .before .before .before .before .before .before .before .args .variables)) _ _ _ (c .before .before .before .before .before .before .before .before .before .before .before .e2 .given .0 .0 .kind) (c .before .before .before .before .before .before .before .before .before .before .before .e2 .given .0 .0 .value) _ _ _
-    (c .before .before .before .before .before .before .before .before .before .before .before .before .before .before .before .before .before .kind .ensures) (c .before .before .before .before .before .before .before .before .before .before .before .before .before .before .before .before .if1 .left) (c .before .before .before .before .before .before .before .before .before .before .before .before .before .before .before .if2 .left) (c .before .before .before .before .before .before .before .before .if3 .left) (c .before .before .before .before .before .before .before .before .before .before .before .before .before .value .ensures) (c .before .before .before .before .before .before .before .before .before .before .before .e2 .given .1)
-    (c .field2 .ensures .0) (c .before .before .before .before .before .before .before .target .ensures) (rw (toZ-ofZ h) at (c .before .before .before .before .before .store .ensures)) (rw (toZ-ofZ h) at (c .before .before .store2 .ensures))
+    and-room (store-at (now (c .before .before .before .before .before .before .before .before .before .before .before .before .before .before .before .before .before .before .before .before .before .before .before .before .args .lines)) (c .before .before .before .before .before .before .before .before .before .before .before .before .before .before .before .before .before .before .before .before .before .before .before .before .args .x) (valueAt (now (c .before .before .before .before .before .before .before .before .before .before .before .before .before .before .before .before .before .before .before .before .before .before .before .before .args .lines)) (now (c .before .before .before .before .before .before .before .before .before .before .before .before .before .before .before .before .before .before .before .before .before .before .before .before .args .code)) (c .before .before .before .before .before .before .before .before .before .before .before .before .before .before .before .before .before .before .before .before .before .before .before .before .args .x) (now (c .before .before .before .before .before .before .before .before .before .before .before .before .before .before .before .before .before .before .before .before .before .before .before .before .args .input-types)) (now (c .before .before .before .before .before .before .before .before .before .before .before .before .before .before .before .before .before .before .before .before .before .before .before .before .args .variable-types)) (now (c .before .before .before .before .before .before .before .before .before .before .before .before .before .before .before .before .before .before .before .before .before .before .before .before .args .inputs)) (now (c .before .before .before .before .before .before .before .before .before .before .before .before .before .before .before .before .before .before .before .before .before .before .before .before .args .variables))) (now (c .before .before .before .before .before .before .before .before .before .before .before .before .before .before .before .before .before .before .before .before .before .before .before .before .args .outputs)) (now (c .before .before .before .before .before .before .before .before .before .before .before .before .before .before .before .before .before .before .before .before .before .before .before .before .args .variables)) _ _ _ (c .before .before .before .before .before .before .before .before .before .before .before .e2 .given .0 .0 .kind) (c .before .before .before .before .before .before .before .before .before .before .before .e2 .given .0 .0 .value) _ _ _
+    (c .before .before .before .before .before .before .before .before .before .before .before .before .before .before .before .before .before .before .before .kind .ensures) (c .before .before .before .before .before .before .before .before .before .before .before .before .before .before .before .before .before .before .if1 .left) (c .before .before .before .before .before .before .before .before .before .before .before .before .before .before .before .before .before .if2 .left) (c .before .before .before .before .before .before .before .before .if3 .left) (c .before .before .before .before .before .before .before .before .before .before .before .before .before .value .ensures .0) (c .before .before .before .before .before .before .before .before .before .before .before .e2 .given .1)
+    (c .field2 .ensures .0) (c .before .before .before .before .before .before .before .target .ensures) (rw (toZ-ofZ h) at (c .before .before .before .before .before .store .ensures)) (rw (toZ-ofZ h) at (c .before .before .store2 .ensures)))
+    (c .before .before .before .before .before .before .before .before .before .before .before .before .before .value .ensures .1)
 
 pub perform-spec : {M : Type 1} → statement M
 perform-spec =

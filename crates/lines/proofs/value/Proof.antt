@@ -25,11 +25,11 @@ cast-size c = search needs
 
 -- src/lib.rt:68:5
 evaluate-requires : tie.Need-evaluate-requires
-evaluate-requires c κs = search needs
+evaluate-requires c κs = c .before .before .before .before .before .before .before .before .pre
 
 -- src/lib.rt:63:1
 returns : tie.Need-returns
-returns c = part-read _ _ _ _ _ _ _ _ _ _ (c .before .before .field .ensures .0) (c .before .field2 .ensures .0) (c .evaluate .ensures)
+returns c = (part-read _ _ _ _ _ _ _ _ _ _ (c .before .before .before .before .field .ensures .0) (c .before .before .before .field2 .ensures .0) (c .evaluate .ensures .0), c .evaluate .ensures .1)
 
 pub value-spec : {M : Type 1} → statement M
 value-spec =

@@ -51,8 +51,8 @@ logic-requires-6 c κs = search needs
 sum-requires : tie.Need-sum-requires
 sum-requires c κs = search needs
 
-scaled-requires : tie.Need-scaled-requires
-scaled-requires c κs =
+multiplied-requires : tie.Need-multiplied-requires
+multiplied-requires c κs =
     let n = c .before .match .rest in
     λ h.
     either (c .if1 .came) (λ a. let l = a .taken in absurd (omega arith))
@@ -107,7 +107,7 @@ returns-7 c =
     (simp (toZ-ofZ (s .fits .x), toZ-ofZ (s .fits .y)) at (c .sum .ensures))
 
 returns-8 : tie.Need-returns-8
-returns-8 c = let s = c .before .before .before in simp (toZ-ofZ (s .fits .x), toZ-ofZ (s .fits .y)) at (c .scaled .ensures)
+returns-8 c = let s = c .before .before .before in simp (toZ-ofZ (s .fits .x), toZ-ofZ (s .fits .y)) at (c .multiplied .ensures)
 
 pub integers-spec : {M : Type 1} → statement M
 integers-spec =
@@ -126,7 +126,7 @@ integers-spec =
     at-most-requires-2
     logic-requires-6
     sum-requires
-    scaled-requires
+    multiplied-requires
     returns
     returns-2
     returns-3

@@ -45,8 +45,8 @@ other c =
 fits : (c : tie.Else2) → let s = c .before .before .before .before in SFits w32 (quotZ (s .args .x) (s .args .y))
 fits c = let s = c .before .before .before .before in quot-fits (s .args .x) (s .args .y) (s .fits .x) (other c)
 
-div-t6 : tie.Need-div-t6
-div-t6 c = let s = c .before .before .before .before in simp (toZ-ofZ (s .fits .x), toZ-ofZ (s .fits .y)) (bits-above (s .fits .y) (above c), fits c)
+div-t7 : tie.Need-div-t7
+div-t7 c = let s = c .before .before .before .before in simp (toZ-ofZ (s .fits .x), toZ-ofZ (s .fits .y)) (bits-above (s .fits .y) (above c), fits c)
 
 returns-3 : tie.Need-returns-3
 returns-3 c =
@@ -54,4 +54,4 @@ returns-3 c =
     simp (toZ-ofZ (s .fits .x), toZ-ofZ (s .fits .y), toZ-ofZ (fits c)) (sym (ap checkedOf (by-other (s .args .y) _ (above c) ∙ integer-inside _ (fits c))))
 
 pub divide-spec : {M : Type 1} → statement M
-divide-spec = tie.close (tie.spec equal-requires returns least-by-minus-one-requires div-t6 returns-2 returns-3)
+divide-spec = tie.close (tie.spec equal-requires least-by-minus-one-requires div-t7 returns returns-2 returns-3)

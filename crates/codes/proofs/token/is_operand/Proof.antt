@@ -1,24 +1,24 @@
 -- `codes::token::is_operand` meets its contract: the four kinds are successive, computed. Assumes nothing.
 use mathlib.Core.Path.{refl}
-use native.Mathlib.Omega.{arith}
 use borrow.Author.Needs.{needs}
-use Prim.Native.Nat.{ℕ}
 use Rattle.codes.specs.Token.{oneOf, operands}
-use Rattle.codes.proofs.Finite.{all, fails, holds}
+use Rattle.codes.proofs.Finite.{all}
+use Rattle.codes.proofs.TokenLaws.{Successive, successive}
 use Rattle.codes.proofs.token.is_operand.Statement.{statement}
 use Rattle.codes.proofs.token.is_operand.Tie as tie
 
-returns : tie.Need-returns
+kinds : Successive operands 1 4
 unfolding all oneOf
-returns c = holds (λ (k : ℕ). oneOf k operands) 4 1 refl _ (c .before .if1 .left) (c .if2 .taken)
+kinds = successive operands 1 4 refl
+
+returns : tie.Need-returns
+returns c = kinds .inside _ (c .before .if1 .left) (c .if2 .taken)
 
 returns-2 : tie.Need-returns-2
-unfolding all oneOf
-returns-2 c = fails (λ (k : ℕ). oneOf k operands) 1 0 refl (c .before .args .kind) (omega arith) (c .if1 .taken)
+returns-2 c = kinds .below _ (c .if1 .taken)
 
 returns-3 : tie.Need-returns-3
-unfolding all oneOf
-returns-3 c = fails (λ (k : ℕ). oneOf k operands) 251 5 refl _ (c .if2 .left) (search needs)
+returns-3 c = kinds .above _ (c .if2 .left) (search needs)
 
 pub is-operand-spec : {M : Type 1} → statement M
 is-operand-spec = tie.close (tie.spec returns returns-2 returns-3)

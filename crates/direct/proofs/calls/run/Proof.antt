@@ -71,7 +71,7 @@ same-length c = search needs
 returns-3 : tie.Need-returns-3
 returns-3 c =
     λ p d oc vc room f.
-    run-passed p (c .before .before .before .before .before .before .before .before .before .before .before .before .before .before .before .before .before .before .args .s) f (d .well-formed) (c .before .before .before .before .before .before .before .before .before .before .before .before .before .before .before .before .before .before .args .inputs .now) (c .before .before .before .before .before .before .before .before .before .before .before .before .before .before .before .before .before .before .args .row .now) room (c .before .before .before .before .before .before .before .before .before .before .before .before .before .before .before .before .before .before .args .output-count) (c .before .before .before .before .before .before .before .before .before .before .before .before .before .before .before .before .before .before .args .variable-count) oc vc _ _ (c .before .before .before .before .before .before .before .before .cycle .result) (c .before .before .before .before .r .given .0 .0) (c .before .performed .result) _
+    run-passed p (c .before .before .before .before .before .before .before .before .before .before .before .before .before .before .before .before .before .before .args .s) f (d .well-formed) (c .before .before .before .before .before .before .before .before .before .before .before .before .before .before .before .before .before .before .args .inputs .now) (c .before .before .before .before .before .before .before .before .before .before .before .before .before .before .before .before .before .before .args .row .now) room (c .before .before .before .before .before .before .before .before .before .before .before .before .before .before .before .before .before .before .args .output-count) (c .before .before .before .before .before .before .before .before .before .before .before .before .before .before .before .before .before .before .args .variable-count) oc vc _ _ (c .before .before .before .before .before .before .before .before .cycle .result) (record { lines = c .before .before .before .before .r .given .0 .0 }) (c .before .performed .result) _
     (c .before .before .before .before .before .before .before .before .cycle .ensures (p .body) (d .body) (d .block) (let b = d .well-formed .statements in let e = d .body .end in omega arith) (parts p (c .before .before .before .before .before .before .before .before .before .before .before .before .before .before .before .before .before .before .args .s) f .0)) (c .before .before .before .before .r .given .1) (c .before .performed .ensures) (search needs) (search needs)
 
 same-length-2 : tie.Need-same-length-2
@@ -80,7 +80,7 @@ same-length-2 c = search needs
 returns-4 : tie.Need-returns-4
 returns-4 c =
     λ p d oc vc room f.
-    run-reached p (c .before .before .before .before .before .before .before .before .before .before .before .before .before .before .before .before .before .before .args .s) f (d .well-formed) (c .before .before .before .before .before .before .before .before .before .before .before .before .before .before .before .before .before .before .args .inputs .now) (c .before .before .before .before .before .before .before .before .before .before .before .before .before .before .before .before .before .before .args .row .now) room (c .before .before .before .before .before .before .before .before .before .before .before .before .before .before .before .before .before .before .args .output-count) (c .before .before .before .before .before .before .before .before .before .before .before .before .before .before .before .before .before .before .args .variable-count) oc vc _ _ (c .before .before .before .before .before .before .before .before .cycle .result) (c .before .before .before .before .r2 .given .0 .0) (c .before .before .before .before .r2 .given .0 .1 .0) (c .before .performed2 .result) _
+    run-reached p (c .before .before .before .before .before .before .before .before .before .before .before .before .before .before .before .before .before .before .args .s) f (d .well-formed) (c .before .before .before .before .before .before .before .before .before .before .before .before .before .before .before .before .before .before .args .inputs .now) (c .before .before .before .before .before .before .before .before .before .before .before .before .before .before .before .before .before .before .args .row .now) room (c .before .before .before .before .before .before .before .before .before .before .before .before .before .before .before .before .before .before .args .output-count) (c .before .before .before .before .before .before .before .before .before .before .before .before .before .before .before .before .before .before .args .variable-count) oc vc _ _ (c .before .before .before .before .before .before .before .before .cycle .result) (c .before .before .before .before .r2 .given .0 .0) (record { lines = c .before .before .before .before .r2 .given .0 .1 .0 }) (c .before .performed2 .result) _
     (c .before .before .before .before .before .before .before .before .cycle .ensures (p .body) (d .body) (d .block) (let b = d .well-formed .statements in let e = d .body .end in omega arith) (parts p (c .before .before .before .before .before .before .before .before .before .before .before .before .before .before .before .before .before .before .args .s) f .0)) (c .before .before .before .before .r2 .given .1) (c .before .performed2 .ensures) (search needs) (search needs)
 
 returns-5 : tie.Need-returns-5

@@ -38,17 +38,17 @@ wide-requires c κs = search needs
 code-at-requires : tie.Need-code-at-requires Inv-loop μ-loop
 code-at-requires c κs = search needs
 
-element-write-ops : tie.Need-element-write-ops Inv-loop μ-loop
-element-write-ops c = let i = c .before .before .before .before .before .loop .inv .0 in let t = c .before .before .before .before .loop-test .taken in search needs
-
 arg-at-requires : tie.Need-arg-at-requires Inv-loop μ-loop
 arg-at-requires c κs = search needs
+
+element-write-ops : tie.Need-element-write-ops Inv-loop μ-loop
+element-write-ops c = let i = c .before .before .before .before .before .before .loop .inv .0 in let t = c .before .before .before .before .before .loop-test .taken in search needs
 
 whole-requires : tie.Need-whole-requires Inv-loop μ-loop
 whole-requires c κs = search needs
 
-mul-t22 : tie.Need-mul-t22 Inv-loop μ-loop
-mul-t22 c = let i = c .before .before .before .before .before .before .before .loop .inv .0 in let t = c .before .before .before .before .before .before .loop-test .taken in search needs
+mul-t24 : tie.Need-mul-t24 Inv-loop μ-loop
+mul-t24 c = let i = c .before .before .before .before .before .before .before .loop .inv .0 in let t = c .before .before .before .before .before .before .loop-test .taken in search needs
 
 element-set-from-args : tie.Need-element-set-from-args Inv-loop μ-loop
 element-set-from-args c = let i = c .before .before .before .before .before .before .before .loop .inv .0 in let t = c .before .before .before .before .before .before .loop-test .taken in search needs
@@ -78,10 +78,10 @@ operations-spec =
     element-copy-out-wide
     wide-requires
     code-at-requires
-    element-write-ops
     arg-at-requires
+    element-write-ops
     whole-requires
-    mul-t22
+    mul-t24
     element-set-from-args
     add-j
     loop-less

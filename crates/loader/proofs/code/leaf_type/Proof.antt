@@ -21,6 +21,13 @@ returns c =
     let width = c .before .width in
     rw (← (width .ensures .0), lt-ltb (length (args .s .now)) (args .at + width .result) (c .if1 .taken))
 
+returns-2 : tie.Need-returns-2
+unfolding leafTag
+returns-2 c =
+    let args = c .before .before .before .before .before .args in
+    let width = c .before .before .width in
+    rw (← (width .ensures .0), le-ltb (length (args .s .now)) (args .at + width .result) (c .before .if1 .left), eq-eqb (args .k) INTEGER (c .if2 .taken))
+
 add-count : tie.Need-add-count
 add-count c = search needs
 
@@ -36,59 +43,52 @@ input-type-requires c κs = search needs
 variable-type-requires : tie.Need-variable-type-requires
 variable-type-requires c κs = search needs
 
-returns-2 : tie.Need-returns-2
-unfolding leafTag
-returns-2 c =
-    let args = c .before .before .before .before .before .before .args in
-    let width = c .before .before .before .width in
-    rw (← (width .ensures .0), le-ltb (length (args .s .now)) (args .at + width .result) (c .before .before .if1 .left), eq-eqb (args .k) INTEGER (c .match .keys1))
-
 returns-3 : tie.Need-returns-3
 unfolding leafTag
 returns-3 c =
-    let args = c .before .before .before .before .before .before .before .args in
-    let width = c .before .before .before .before .width in
+    let args = c .before .before .before .before .before .before .before .before .args in
+    let width = c .before .before .before .before .before .width in
     rw (
       ← (width .ensures .0),
-      le-ltb (length (args .s .now)) (args .at + width .result) (c .before .before .before .if1 .left),
-      (c .before .match .keys2),
+      le-ltb (length (args .s .now)) (args .at + width .result) (c .before .before .before .before .if1 .left),
+      (c .before .match .keys1),
       ← (c .before .before .count .ensures .0),
     ) (c .bit-type .ensures)
 
 returns-4 : tie.Need-returns-4
 unfolding leafTag
 returns-4 c =
-    let args = c .before .before .before .before .before .before .before .args in
-    let width = c .before .before .before .before .width in
+    let args = c .before .before .before .before .before .before .before .before .args in
+    let width = c .before .before .before .before .before .width in
     rw (
       ← (width .ensures .0),
-      le-ltb (length (args .s .now)) (args .at + width .result) (c .before .before .before .if1 .left),
-      (c .before .match .keys3),
+      le-ltb (length (args .s .now)) (args .at + width .result) (c .before .before .before .before .if1 .left),
+      (c .before .match .keys2),
       ← (c .before .before .count .ensures .0),
     ) (c .input-type .ensures)
 
 returns-5 : tie.Need-returns-5
 unfolding leafTag
 returns-5 c =
-    let args = c .before .before .before .before .before .before .before .args in
-    let width = c .before .before .before .before .width in
+    let args = c .before .before .before .before .before .before .before .before .args in
+    let width = c .before .before .before .before .before .width in
     rw (
       ← (width .ensures .0),
-      le-ltb (length (args .s .now)) (args .at + width .result) (c .before .before .before .if1 .left),
-      (c .before .match .keys4),
+      le-ltb (length (args .s .now)) (args .at + width .result) (c .before .before .before .before .if1 .left),
+      (c .before .match .keys3),
       ← (c .before .before .count .ensures .0),
     ) (c .variable-type .ensures)
 
 returns-6 : tie.Need-returns-6
 unfolding leafTag
 returns-6 c =
-    let args = c .before .before .before .before .before .before .args in
-    let width = c .before .before .before .width in
+    let args = c .before .before .before .before .before .before .before .args in
+    let width = c .before .before .before .before .width in
     let rest = c .match .rest in
     rw (
       ← (width .ensures .0),
-      le-ltb (length (args .s .now)) (args .at + width .result) (c .before .before .if1 .left),
-      ne-eqb (args .k) INTEGER (rest .0 .0 .0 .1),
+      le-ltb (length (args .s .now)) (args .at + width .result) (c .before .before .before .if1 .left),
+      ne-eqb (args .k) INTEGER (c .before .before .if2 .left),
       ne-eqb (args .k) STD-LOGIC (rest .0 .0 .1),
       ne-eqb (args .k) INPUT (rest .0 .1),
       ne-eqb (args .k) VARIABLE (rest .1),
@@ -101,12 +101,12 @@ leaf-type-spec =
     width-requires
     add-if1
     returns
+    returns-2
     add-count
     count-requires
     bit-type-requires
     input-type-requires
     variable-type-requires
-    returns-2
     returns-3
     returns-4
     returns-5

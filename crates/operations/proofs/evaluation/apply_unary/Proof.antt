@@ -1,13 +1,10 @@
 -- `operations::evaluation::apply_unary` meets its contract: the operand is the last number. Assumes nothing.
 use Prim.Native.Nat.{_-_}
+use native.Mathlib.Omega.{arith}
 use lib.ListN.{getD}
 use lib.IntN.{pos}
-use mir.Syntax.{w32}
-use mir.Val.{SFits}
-use mir.Facts.{toZ-ofZ}
 use Rattle.operators.specs.Operators.{unaryOn}
-use Rattle.operations.specs.Stack.{stackOf}
-use Rattle.operations.proofs.StackLaws.{stopped, unary-short, unary-more, put}
+use Rattle.operations.proofs.StackLaws.{stopped, unary-short, unary-more, went, halted}
 use borrow.Author.Needs.{needs}
 use Rattle.operations.proofs.evaluation.apply_unary.Statement.{statement}
 use Rattle.operations.proofs.evaluation.apply_unary.Tie as tie
@@ -15,28 +12,27 @@ use Rattle.operations.proofs.evaluation.apply_unary.Tie as tie
 returns : tie.Need-returns
 returns c = stopped (c .before .args .stack .now) (c .before .args .depth) 13 (c .before .pre) (unary-short (c .before .args .stack .now) (c .before .args .depth) (c .before .args .op) (c .before .args .t) (c .if1 .taken))
 
-mul-unary : tie.Need-mul-unary
-mul-unary c = search needs
-
-element-copy-out-unary : tie.Need-element-copy-out-unary
-element-copy-out-unary c = search needs
-
-unary-requires : tie.Need-unary-requires
-unary-requires c κs = search needs
-
-keep-requires : tie.Need-keep-requires
-keep-requires c κs = search needs
+apply-unary-requires : tie.Need-apply-unary-requires
+apply-unary-requires c κs = search needs
 
 returns-2 : tie.Need-returns-2
 returns-2 c =
-    let a = c .before .before .before .before .before .args .stack .now in
-    let i = c .before .before .before .before .before .args .depth - 1 in
-    let fit : SFits w32 (getD a i (pos 0)) = search needs in
-    put (unaryOn (c .before .before .before .before .before .args .op) (c .before .before .before .before .before .args .t) (getD a i (pos 0))) (c .before .before .unary .result) (stackOf a i)
-    (unary-more a (c .before .before .before .before .before .args .depth) (c .before .before .before .before .before .args .op) (c .before .before .before .before .before .args .t) (search needs))
-    (rw (toZ-ofZ fit) at (c .before .before .unary .ensures)) (c .keep .ensures)
+    let s = c .before .before .before .before .args in
+    let m = c .before .before .before .before .pre in
+    let i = s .depth - 1 in
+    halted (unaryOn (s .op) (s .t) (getD (s .stack .now) i (pos 0))) (s .stack .now) i (unary-more (s .stack .now) (s .depth) (s .op) (s .t) (c .before .before .before .if1 .left)) (c .before .apply-unary .ensures) (c .if2 .taken)
+    (record { numbers = m .numbers; depth = omega (arith, m .depth) })
+
+add-t9 : tie.Need-add-t9
+add-t9 c = search needs
+
+returns-3 : tie.Need-returns-3
+returns-3 c =
+    let s = c .before .before .before .before .args in
+    let m = c .before .before .before .before .pre in
+    let i = s .depth - 1 in
+    went (unaryOn (s .op) (s .t) (getD (s .stack .now) i (pos 0))) (s .stack .now) i (unary-more (s .stack .now) (s .depth) (s .op) (s .t) (c .before .before .before .if1 .left)) (c .before .apply-unary .ensures) (c .if2 .left)
+    (record { numbers = m .numbers; depth = omega (arith, m .depth) })
 
 pub apply-unary-spec : {M : Type 1} → statement M
-apply-unary-spec =
-    tie.close
-    (tie.spec returns mul-unary element-copy-out-unary unary-requires keep-requires returns-2)
+apply-unary-spec = tie.close (tie.spec returns apply-unary-requires returns-2 add-t9 returns-3)

@@ -1,6 +1,6 @@
 -- `operations::evaluation::push` meets its contract: a full stack takes no number. Assumes nothing.
-use mir.Facts.{toZ-ofZ}
-use Rattle.operations.proofs.StackLaws.{stopped, push-full, push-room, saying}
+use native.Mathlib.Omega.{arith}
+use Rattle.operations.proofs.StackLaws.{stopped, push-full, push-room, saying, kept}
 use borrow.Author.Needs.{needs}
 use Rattle.operations.proofs.evaluation.push.Statement.{statement}
 use Rattle.operations.proofs.evaluation.push.Tie as tie
@@ -8,11 +8,20 @@ use Rattle.operations.proofs.evaluation.push.Tie as tie
 returns : tie.Need-returns
 returns c = stopped (c .before .args .stack .now) (c .before .args .depth) 13 (c .before .pre) (push-full (c .before .args .stack .now) (c .before .args .depth) (c .before .args .v) (c .if1 .taken))
 
-keep-requires : tie.Need-keep-requires
-keep-requires c κs = search needs
+mul-v : tie.Need-mul-v
+mul-v c = search needs
+
+element-set-from-v : tie.Need-element-set-from-v
+element-set-from-v c = search needs
+
+add-t5 : tie.Need-add-t5
+add-t5 c = search needs
 
 returns-2 : tie.Need-returns-2
-returns-2 c = saying (push-room (c .before .before .before .args .stack .now) (c .before .before .before .args .depth) (c .before .before .before .args .v) (c .before .before .if1 .left)) (rw (toZ-ofZ (c .before .before .before .fits .v)) at (c .keep .ensures))
+returns-2 c =
+    let m = c .before .pre in
+    saying (push-room (c .before .args .stack .now) (c .before .args .depth) (c .before .args .v) (c .if1 .left))
+    (kept (c .before .args .stack .now) (c .before .args .depth) (c .before .args .v) (c .before .fits .v) (record { numbers = m .numbers; depth = omega (arith, c .if1 .left) }))
 
 pub push-spec : {M : Type 1} → statement M
-push-spec = tie.close (tie.spec returns keep-requires returns-2)
+push-spec = tie.close (tie.spec returns mul-v element-set-from-v add-t5 returns-2)

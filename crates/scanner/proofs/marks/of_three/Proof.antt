@@ -1,6 +1,5 @@
 -- `scanner::marks::of_three` meets its contract. Assumes nothing.
-use Rattle.language.specs.Bytes.{bytes}
-use Rattle.language.specs.Words.{fixed}
+use Rattle.language.specs.Bytes.{bytes, fixed}
 use Rattle.language.specs.Lexing.{equal}
 use Rattle.scanner.specs.Fixed.{fixedKind, ofLength}
 use Rattle.scanner.proofs.MarkLaws.{not-three-first, not-three-last, not-three-middle}

@@ -3,7 +3,7 @@ use mathlib.Core.Path.{sym, _∙_, ap}
 use mathlib.Core.List.{List}
 use Prim.Native.Nat.{ℕ}
 use lib.Seq.{drop-cons}
-use Rattle.language.specs.Words.{fixed}
+use Rattle.language.specs.Bytes.{fixed}
 use Rattle.language.specs.Lexer.{fixedStart}
 use Rattle.scanner.specs.Pieces.{placed}
 use Rattle.scanner.proofs.ByteKinds.{flag}

@@ -1,6 +1,7 @@
 -- `scanner::pieces::piece_at` meets its contract: a case for each kind of byte. Assumes nothing.
 use mathlib.Core.Path.{_∙_}
-use Rattle.scanner.proofs.PieceLaws.{piece-end, piece-word, piece-blank, piece-mark, piece-number, piece-quote, piece-nothing}
+use native.Mathlib.Omega.{arith}
+use Rattle.scanner.proofs.PieceLaws.{piece-end, piece-word, piece-blank, piece-number, piece-fixed, piece-nothing}
 use borrow.Author.Needs.{needs}
 use Rattle.scanner.proofs.pieces.piece_at.Statement.{statement}
 use Rattle.scanner.proofs.pieces.piece_at.Tie as tie
@@ -26,34 +27,27 @@ add-t9 c = search needs
 returns-3 : tie.Need-returns-3
 returns-3 c = piece-blank _ _ _ (c .before .before .before .before .if1 .left) (c .before .before .kind-of .ensures) (c .if3 .taken)
 
-mark-at-requires : tie.Need-mark-at-requires
-mark-at-requires c κs = search needs
-
-returns-4 : tie.Need-returns-4
-returns-4 c = (c .mark-at .ensures)
-    ∙ piece-mark _ _ _ (c .before .before .before .before .before .before .if1 .left) (c .before .before .before .before .kind-of .ensures)
-    (c .before .if4 .taken)
-
 number-at-requires : tie.Need-number-at-requires
 number-at-requires c κs = search needs
 
-returns-5 : tie.Need-returns-5
-returns-5 c = (c .number-at .ensures)
-    ∙ piece-number _ _ _ (c .before .before .before .before .before .before .before .if1 .left)
-    (c .before .before .before .before .before .kind-of .ensures) (c .before .if5 .taken)
+returns-4 : tie.Need-returns-4
+returns-4 c = (c .number-at .ensures) ∙ piece-number _ _ _ (c .before .before .before .before .before .before .if1 .left) (c .before .before .before .before .kind-of .ensures) (c .before .if4 .taken)
 
-fixed-at-requires : tie.Need-fixed-at-requires
-fixed-at-requires c κs = search needs
+mark-at-requires : tie.Need-mark-at-requires
+mark-at-requires c κs = search needs
+
+returns-5 : tie.Need-returns-5
+returns-5 c = (c .mark-at .ensures) ∙ piece-fixed _ _ _ (c .before .before .before .before .before .before .before .before .if1 .left) (c .before .before .before .before .before .before .kind-of .ensures) (c .before .before .if5 .left) (c .before .if6 .taken)
 
 returns-6 : tie.Need-returns-6
-returns-6 c = (c .fixed-at .ensures)
-    ∙ piece-quote _ _ _ (c .before .before .before .before .before .before .before .before .if1 .left)
-    (c .before .before .before .before .before .before .kind-of .ensures) (c .before .if6 .taken)
+returns-6 c =
+    let l = c .if5 .taken in
+    piece-nothing _ _ _ (c .before .before .before .before .before .before .if1 .left) (c .before .before .before .before .kind-of .ensures) (c .before .before .before .if2 .left) (c .before .before .if3 .left) (λ q. omega arith) (c .before .if4 .left) (λ q. omega arith)
 
 returns-7 : tie.Need-returns-7
-returns-7 c = piece-nothing _ _ _ (c .before .before .before .before .before .before .before .if1 .left)
-    (c .before .before .before .before .before .kind-of .ensures) (c .before .before .before .before .if2 .left)
-    (c .before .before .before .if3 .left) (c .before .before .if4 .left) (c .before .if5 .left) (c .if6 .left)
+returns-7 c =
+    let l = c .if6 .left in
+    piece-nothing _ _ _ (c .before .before .before .before .before .before .before .if1 .left) (c .before .before .before .before .before .kind-of .ensures) (c .before .before .before .before .if2 .left) (c .before .before .before .if3 .left) (λ q. omega arith) (c .before .before .if4 .left) (λ q. omega arith)
 
 pub piece-at-spec : {M : Type 1} → statement M
 piece-at-spec =
@@ -66,10 +60,9 @@ piece-at-spec =
     returns-2
     add-t9
     returns-3
-    mark-at-requires
-    returns-4
     number-at-requires
+    returns-4
+    mark-at-requires
     returns-5
-    fixed-at-requires
     returns-6
     returns-7)

@@ -3,7 +3,8 @@ use borrow.Author.Needs.{needs}
 use lib.ListN.{getD}
 use Rattle.syntax.specs.Arrays.{numberIn}
 use Rattle.typing.proofs.StackLaws.{step-operand, step-unary, step-binary}
-use Rattle.typing.specs.Expressions.{nameCode, stackOf}
+use Rattle.codes.specs.Stack.{stackOf}
+use Rattle.typing.specs.Expressions.{nameCode}
 use Rattle.typing.proofs.expression.item.Statement.{statement}
 use Rattle.typing.proofs.expression.item.Tie as tie
 
@@ -37,7 +38,7 @@ returns c =
     let wide-index = c .before .before .before .before .before .wide-index in
     let operand-type = c .before .before .operand-type in
     let if1 = c .before .before .before .if1 in
-    step-operand (getD (s .codes .now) (s .m) 0) t p (operand-type .result) (c .before .before .before .before .operands .result) (stackOf (s .stack .now) (s .depth)) (s .lowest) (c .before .before .before .before .operands .ensures) (if1 .taken) (rw (wide-index .ensures)
+    step-operand (getD (s .codes .now) (s .m) 0) t p (operand-type .result) (c .before .before .before .before .operands .result) (stackOf 0 (s .stack .now) (s .depth)) (s .lowest) (c .before .before .before .before .operands .ensures) (if1 .taken) (rw (wide-index .ensures)
     at (operand-type .ensures)) (c .push .ensures)
 
 place-at-requires : tie.Need-place-at-requires
@@ -56,7 +57,7 @@ returns-2 c =
     let if1 = c .before .before .before .before .if1 in
     let place-at = c .before .before .before .place-at in
     let if2 = c .before .before .if2 in
-    step-unary (getD (s .codes .now) (s .m) 0) t p (place-at .result) (c .before .before .before .before .before .operands .result) (stackOf (s .stack .now) (s .depth)) (s .lowest) (c .before .before .before .before .before .operands .ensures) (if1 .left) (if2 .taken)
+    step-unary (getD (s .codes .now) (s .m) 0) t p (place-at .result) (c .before .before .before .before .before .operands .result) (stackOf 0 (s .stack .now) (s .depth)) (s .lowest) (c .before .before .before .before .before .operands .ensures) (if1 .left) (if2 .taken)
     (rw (wide-index .ensures) at (place-at .ensures)) (c .unary .ensures)
 
 binary-requires : tie.Need-binary-requires
@@ -72,7 +73,7 @@ returns-3 c =
     let if1 = c .before .before .before .before .if1 in
     let place-at = c .before .before .before .place-at in
     let if2 = c .before .before .if2 in
-    step-binary (getD (s .codes .now) (s .m) 0) t p (place-at .result) (c .before .before .before .before .before .operands .result) (stackOf (s .stack .now) (s .depth)) (s .lowest) (c .before .before .before .before .before .operands .ensures) (if1 .left) (if2 .left)
+    step-binary (getD (s .codes .now) (s .m) 0) t p (place-at .result) (c .before .before .before .before .before .operands .result) (stackOf 0 (s .stack .now) (s .depth)) (s .lowest) (c .before .before .before .before .before .operands .ensures) (if1 .left) (if2 .left)
     (rw (wide-index .ensures) at (place-at .ensures)) (c .binary .ensures)
 
 pub item-spec : {M : Type 1} → statement M

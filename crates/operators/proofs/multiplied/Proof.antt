@@ -1,12 +1,12 @@
--- `operators::scaled` meets its contract: each code has its operator. Assumes nothing.
+-- `operators::multiplied` meets its contract: each code has its operator. Assumes nothing.
 use mir.Facts.{toZ-ofZ}
 use Rattle.design.specs.Types.{integer, plain}
 use Rattle.design.specs.Expression.{times, divide, modulo, remainder, sumType, binaryType}
 use Rattle.semantics.specs.Evaluation.{binaryResult, applyBinary}
-use Rattle.operators.proofs.Laws.{binary-arm, scaled-other}
+use Rattle.operators.proofs.Laws.{binary-arm, multiplied-other}
 use borrow.Author.Needs.{needs}
-use Rattle.operators.proofs.scaled.Statement.{statement}
-use Rattle.operators.proofs.scaled.Tie as tie
+use Rattle.operators.proofs.multiplied.Statement.{statement}
+use Rattle.operators.proofs.multiplied.Tie as tie
 
 multiply-requires : tie.Need-multiply-requires
 multiply-requires c κs = search needs
@@ -52,10 +52,10 @@ returns-5 : tie.Need-returns-5
 returns-5 c =
     let s = c .before in
     let n = c .match .rest in
-    scaled-other (s .args .op) (s .args .x) (s .args .y) (s .pre) (n .0 .0 .0 .1) (n .0 .0 .1) (n .0 .1) (n .1)
+    multiplied-other (s .args .op) (s .args .x) (s .args .y) (s .pre) (n .0 .0 .0 .1) (n .0 .0 .1) (n .0 .1) (n .1)
 
-pub scaled-spec : {M : Type 1} → statement M
-scaled-spec =
+pub multiplied-spec : {M : Type 1} → statement M
+multiplied-spec =
     tie.close
     (tie.spec
     multiply-requires

@@ -22,37 +22,37 @@ use borrow.Fn.Kinds.{In}
 use borrow.Fn.PlainCycle.{Measures, is, falls, and}
 use Rattle.expressions.proofs.expression.Reads as expression
 use Rattle.expressions.proofs.expression.Kinds as expression-kinds
-use Rattle.expressions.proofs.+expression+factor+joined+parenthesised+primary+product+relation+scaled+signed+simple+term.Lts-expression as expression-lts
+use Rattle.expressions.proofs.+expression+factor+joined+multiplied+parenthesised+primary+product+relation+signed+simple+term.Lts-expression as expression-lts
 use Rattle.expressions.proofs.factor.Reads as factor
 use Rattle.expressions.proofs.factor.Kinds as factor-kinds
-use Rattle.expressions.proofs.+expression+factor+joined+parenthesised+primary+product+relation+scaled+signed+simple+term.Lts-factor as factor-lts
+use Rattle.expressions.proofs.+expression+factor+joined+multiplied+parenthesised+primary+product+relation+signed+simple+term.Lts-factor as factor-lts
 use Rattle.expressions.proofs.joined.Reads as joined
 use Rattle.expressions.proofs.joined.Kinds as joined-kinds
-use Rattle.expressions.proofs.+expression+factor+joined+parenthesised+primary+product+relation+scaled+signed+simple+term.Lts-joined as joined-lts
+use Rattle.expressions.proofs.+expression+factor+joined+multiplied+parenthesised+primary+product+relation+signed+simple+term.Lts-joined as joined-lts
+use Rattle.expressions.proofs.multiplied.Reads as multiplied
+use Rattle.expressions.proofs.multiplied.Kinds as multiplied-kinds
+use Rattle.expressions.proofs.+expression+factor+joined+multiplied+parenthesised+primary+product+relation+signed+simple+term.Lts-multiplied as multiplied-lts
 use Rattle.expressions.proofs.parenthesised.Reads as parenthesised
 use Rattle.expressions.proofs.parenthesised.Kinds as parenthesised-kinds
-use Rattle.expressions.proofs.+expression+factor+joined+parenthesised+primary+product+relation+scaled+signed+simple+term.Lts-parenthesised as parenthesised-lts
+use Rattle.expressions.proofs.+expression+factor+joined+multiplied+parenthesised+primary+product+relation+signed+simple+term.Lts-parenthesised as parenthesised-lts
 use Rattle.expressions.proofs.primary.Reads as primary
 use Rattle.expressions.proofs.primary.Kinds as primary-kinds
-use Rattle.expressions.proofs.+expression+factor+joined+parenthesised+primary+product+relation+scaled+signed+simple+term.Lts-primary as primary-lts
+use Rattle.expressions.proofs.+expression+factor+joined+multiplied+parenthesised+primary+product+relation+signed+simple+term.Lts-primary as primary-lts
 use Rattle.expressions.proofs.product.Reads as product
 use Rattle.expressions.proofs.product.Kinds as product-kinds
-use Rattle.expressions.proofs.+expression+factor+joined+parenthesised+primary+product+relation+scaled+signed+simple+term.Lts-product as product-lts
+use Rattle.expressions.proofs.+expression+factor+joined+multiplied+parenthesised+primary+product+relation+signed+simple+term.Lts-product as product-lts
 use Rattle.expressions.proofs.relation.Reads as relation
 use Rattle.expressions.proofs.relation.Kinds as relation-kinds
-use Rattle.expressions.proofs.+expression+factor+joined+parenthesised+primary+product+relation+scaled+signed+simple+term.Lts-relation as relation-lts
-use Rattle.expressions.proofs.scaled.Reads as scaled
-use Rattle.expressions.proofs.scaled.Kinds as scaled-kinds
-use Rattle.expressions.proofs.+expression+factor+joined+parenthesised+primary+product+relation+scaled+signed+simple+term.Lts-scaled as scaled-lts
+use Rattle.expressions.proofs.+expression+factor+joined+multiplied+parenthesised+primary+product+relation+signed+simple+term.Lts-relation as relation-lts
 use Rattle.expressions.proofs.signed.Reads as signed
 use Rattle.expressions.proofs.signed.Kinds as signed-kinds
-use Rattle.expressions.proofs.+expression+factor+joined+parenthesised+primary+product+relation+scaled+signed+simple+term.Lts-signed as signed-lts
+use Rattle.expressions.proofs.+expression+factor+joined+multiplied+parenthesised+primary+product+relation+signed+simple+term.Lts-signed as signed-lts
 use Rattle.expressions.proofs.simple.Reads as simple
 use Rattle.expressions.proofs.simple.Kinds as simple-kinds
-use Rattle.expressions.proofs.+expression+factor+joined+parenthesised+primary+product+relation+scaled+signed+simple+term.Lts-simple as simple-lts
+use Rattle.expressions.proofs.+expression+factor+joined+multiplied+parenthesised+primary+product+relation+signed+simple+term.Lts-simple as simple-lts
 use Rattle.expressions.proofs.term.Reads as term
 use Rattle.expressions.proofs.term.Kinds as term-kinds
-use Rattle.expressions.proofs.+expression+factor+joined+parenthesised+primary+product+relation+scaled+signed+simple+term.Lts-term as term-lts
+use Rattle.expressions.proofs.+expression+factor+joined+multiplied+parenthesised+primary+product+relation+signed+simple+term.Lts-term as term-lts
 use Rattle.cursor.proofs.expect.Reads as expect-reads
 use Rattle.cursor.proofs.item.Reads as item-reads
 use Rattle.cursor.proofs.kind_at.Reads as kind-at-reads
@@ -67,8 +67,8 @@ use Rattle.expressions.proofs.more_terms.Reads as more-terms-reads
 use Rattle.expressions.proofs.put.Reads as put-reads
 use Rattle.codes.proofs.operation.operation_of.Reads as operation-of-reads
 use Rattle.expressions.proofs.again.Reads as again-reads
-use Rattle.expressions.proofs.+expression+factor+joined+parenthesised+primary+product+relation+scaled+signed+simple+term.{statement}
-use Rattle.expressions.proofs.+expression+factor+joined+parenthesised+primary+product+relation+scaled+signed+simple+term.Tie.{close}
+use Rattle.expressions.proofs.+expression+factor+joined+multiplied+parenthesised+primary+product+relation+signed+simple+term.{statement}
+use Rattle.expressions.proofs.+expression+factor+joined+multiplied+parenthesised+primary+product+relation+signed+simple+term.Tie.{close}
 
 abbrev μ-expression : Measures 4 expression-kinds.ps ℕ
 μ-expression κs a = 10 * (a .1 .1 .0 - a .1 .1 .1 .0 .at) + 9
@@ -78,6 +78,9 @@ abbrev μ-factor : Measures 4 factor-kinds.ps ℕ
 
 abbrev μ-joined : Measures 4 joined-kinds.ps ℕ
 μ-joined κs a = 10 * (a .1 .1 .0 - a .1 .1 .1 .0 .at) + 8
+
+abbrev μ-multiplied : Measures 4 multiplied-kinds.ps ℕ
+μ-multiplied κs a = 10 * (a .1 .1 .0 - a .1 .1 .1 .0 .at) + 3
 
 abbrev μ-parenthesised : Measures 4 parenthesised-kinds.ps ℕ
 μ-parenthesised κs a = 10 * (a .1 .1 .0 - a .1 .1 .1 .0 .at) + 0
@@ -90,9 +93,6 @@ abbrev μ-product : Measures 4 product-kinds.ps ℕ
 
 abbrev μ-relation : Measures 4 relation-kinds.ps ℕ
 μ-relation κs a = 10 * (a .1 .1 .0 - a .1 .1 .1 .0 .at) + 7
-
-abbrev μ-scaled : Measures 4 scaled-kinds.ps ℕ
-μ-scaled κs a = 10 * (a .1 .1 .0 - a .1 .1 .1 .0 .at) + 3
 
 abbrev μ-signed : Measures 4 signed-kinds.ps ℕ
 μ-signed κs a = 10 * (a .1 .1 .0 - a .1 .1 .1 .0 .at) + 5
@@ -121,6 +121,12 @@ joined-at t = and 4 joined-kinds.ps (is 4 joined-kinds.ps μ-joined t) joined.Pr
 abbrev joined-below : ℕ → In 4 joined-kinds.ps
 joined-below t = and 4 joined-kinds.ps (falls 4 joined-kinds.ps _<_ μ-joined t) joined.Pre
 
+abbrev multiplied-at : ℕ → In 4 multiplied-kinds.ps
+multiplied-at t = and 4 multiplied-kinds.ps (is 4 multiplied-kinds.ps μ-multiplied t) multiplied.Pre
+
+abbrev multiplied-below : ℕ → In 4 multiplied-kinds.ps
+multiplied-below t = and 4 multiplied-kinds.ps (falls 4 multiplied-kinds.ps _<_ μ-multiplied t) multiplied.Pre
+
 abbrev parenthesised-at : ℕ → In 4 parenthesised-kinds.ps
 parenthesised-at t = and 4 parenthesised-kinds.ps (is 4 parenthesised-kinds.ps μ-parenthesised t) parenthesised.Pre
 
@@ -144,12 +150,6 @@ relation-at t = and 4 relation-kinds.ps (is 4 relation-kinds.ps μ-relation t) r
 
 abbrev relation-below : ℕ → In 4 relation-kinds.ps
 relation-below t = and 4 relation-kinds.ps (falls 4 relation-kinds.ps _<_ μ-relation t) relation.Pre
-
-abbrev scaled-at : ℕ → In 4 scaled-kinds.ps
-scaled-at t = and 4 scaled-kinds.ps (is 4 scaled-kinds.ps μ-scaled t) scaled.Pre
-
-abbrev scaled-below : ℕ → In 4 scaled-kinds.ps
-scaled-below t = and 4 scaled-kinds.ps (falls 4 scaled-kinds.ps _<_ μ-scaled t) scaled.Pre
 
 abbrev signed-at : ℕ → In 4 signed-kinds.ps
 signed-at t = and 4 signed-kinds.ps (is 4 signed-kinds.ps μ-signed t) signed.Pre
@@ -178,6 +178,9 @@ factor-calls t = (kind-at-reads.Asked, kind-at-reads.Learnt, is-operand-reads.As
 abbrev joined-calls : ℕ → joined-lts.Claims
 joined-calls t = (kind-at-reads.Asked, kind-at-reads.Learnt, operation-of-reads.Asked, operation-of-reads.Learnt, item-reads.Asked, item-reads.Learnt, relation-below t, relation.Post, put-reads.Asked, put-reads.Learnt)
 
+abbrev multiplied-calls : ℕ → multiplied-lts.Claims
+multiplied-calls t = (kind-at-reads.Asked, kind-at-reads.Learnt, operation-of-reads.Asked, operation-of-reads.Learnt, item-reads.Asked, item-reads.Learnt, factor-below t, factor.Post, put-reads.Asked, put-reads.Learnt)
+
 abbrev parenthesised-calls : ℕ → parenthesised-lts.Claims
 parenthesised-calls t = (refused-reads.Asked, refused-reads.Learnt, expression-below t, expression.Post, expect-reads.Asked, expect-reads.Learnt)
 
@@ -185,13 +188,10 @@ abbrev primary-calls : ℕ → primary-lts.Claims
 primary-calls t = (kind-at-reads.Asked, kind-at-reads.Learnt, parenthesised-below t, parenthesised.Post, is-operand-reads.Asked, is-operand-reads.Learnt, leaf-reads.Asked, leaf-reads.Learnt, refused-reads.Asked, refused-reads.Learnt)
 
 abbrev product-calls : ℕ → product-lts.Claims
-product-calls t = (factor-below t, factor.Post, more-factors-reads.Asked, more-factors-reads.Learnt, scaled-below t, scaled.Post)
+product-calls t = (factor-below t, factor.Post, more-factors-reads.Asked, more-factors-reads.Learnt, multiplied-below t, multiplied.Post)
 
 abbrev relation-calls : ℕ → relation-lts.Claims
 relation-calls t = (simple-below t, simple.Post, kind-at-reads.Asked, kind-at-reads.Learnt, is-relational-reads.Asked, is-relational-reads.Learnt, operation-of-reads.Asked, operation-of-reads.Learnt, item-reads.Asked, item-reads.Learnt, put-reads.Asked, put-reads.Learnt)
-
-abbrev scaled-calls : ℕ → scaled-lts.Claims
-scaled-calls t = (kind-at-reads.Asked, kind-at-reads.Learnt, operation-of-reads.Asked, operation-of-reads.Learnt, item-reads.Asked, item-reads.Learnt, factor-below t, factor.Post, put-reads.Asked, put-reads.Learnt)
 
 abbrev signed-calls : ℕ → signed-lts.Claims
 signed-calls t = (kind-at-reads.Asked, kind-at-reads.Learnt, product-below t, product.Post, item-reads.Asked, item-reads.Learnt, put-reads.Asked, put-reads.Learnt)
@@ -274,6 +274,18 @@ joined-put-requires t c κs = let s = c .before .before .before .before .before 
 joined-returns : (t : ℕ) → joined-lts.Need-returns (joined-calls t) (joined-at t) joined.Post
 joined-returns t c = let s = c .before .before .before .before .before .before .before .before .before .args in let w = c .before .before .before .before .before .before .before .before .before .pre .1 .2 in let e = sym (c .before .before .before .before .before .before .before .before .kind-at .ensures) in let u = subst (λ (k : ℕ). oneOf k logical ≡ true) e w in λ t op. joined-turn (c .before .before .before .before .before .before .before .before .kind-at .result) e (c .before .before .before .before .before .before .before .operation-of .ensures) u t (subst (operatorOf t) e op) (behind-over relationPart postfix (c .before .before .before .before .before .before .before .before .kind-at .result) (logical-kind _ u) (c .before .before .before .before .before .before .before .before .before .pre .1 .1) (c .before .before .before .before .before .before .before .before .before .pre .1 .0) e (c .before .before .before .before .before .before .item .ensures) (c .before .before .before .relation .ensures) (c .put .ensures))
 
+multiplied-item-requires : (t : ℕ) → multiplied-lts.Need-item-requires (multiplied-calls t) (multiplied-at t) multiplied.Post
+multiplied-item-requires t c κs = let s = c .before .before .args in let w = c .before .before .pre .1 .2 in let i = (kind-inside (s .kinds .now) (s .n) (s .q .at) (kindIn (s .kinds .now) (s .n) (s .q .at)) refl (multiplying-kind _ w)) in omega arith
+
+multiplied-factor-requires : (t : ℕ) → multiplied-lts.Need-factor-requires (multiplied-calls t) (multiplied-at t) multiplied.Post
+multiplied-factor-requires t c κs = let s = c .before .before .before .before .before .args in let w = c .before .before .before .before .before .pre .1 .2 in let i = (kind-inside (s .kinds .now) (s .n) (s .q .at) (kindIn (s .kinds .now) (s .n) (s .q .at)) refl (multiplying-kind _ w)) in let a = operand-asks (s .n) (s .q) (c .before .before .item .result) (s .q) (s .q) (flagIn (s .long .now) (s .q .at)) (c .before .before .before .before .before .pre .1 .1) i (c .before .before .item .ensures) in let m = first-moves (s .n) (s .q) (c .before .before .item .result) (s .q) (s .q) (flagIn (s .long .now) (s .q .at)) (c .before .before .before .before .before .pre .1 .1) i (c .before .before .item .ensures) in omega arith
+
+multiplied-put-requires : (t : ℕ) → multiplied-lts.Need-put-requires (multiplied-calls t) (multiplied-at t) multiplied.Post
+multiplied-put-requires t c κs = let s = c .before .before .before .before .before .before .before .before .args in let w = c .before .before .before .before .before .before .before .before .pre .1 .2 in let i = (kind-inside (s .kinds .now) (s .n) (s .q .at) (kindIn (s .kinds .now) (s .n) (s .q .at)) refl (multiplying-kind _ w)) in (put-room (s .n) (s .q) (c .before .before .before .before .before .item .result) (c .before .before .factor .result) (s .q) (flagIn (s .long .now) (s .q .at)) (c .before .before .before .before .before .before .before .before .pre .1 .1) i (c .before .before .before .before .before .item .ensures) (c .before .before .factor .ensures .moves), omega arith)
+
+multiplied-returns : (t : ℕ) → multiplied-lts.Need-returns (multiplied-calls t) (multiplied-at t) multiplied.Post
+multiplied-returns t c = let s = c .before .before .before .before .before .before .before .before .before .args in let w = c .before .before .before .before .before .before .before .before .before .pre .1 .2 in let e = sym (c .before .before .before .before .before .before .before .before .kind-at .ensures) in let u = subst (λ (k : ℕ). oneOf k multiplying ≡ true) e w in list-turn (c .before .before .before .before .before .before .before .before .kind-at .result) e (c .before .before .before .before .before .before .before .operation-of .ensures) productTail u (behind-over factorPart postfix (c .before .before .before .before .before .before .before .before .kind-at .result) (multiplying-kind _ u) (c .before .before .before .before .before .before .before .before .before .pre .1 .1) (c .before .before .before .before .before .before .before .before .before .pre .1 .0) e (c .before .before .before .before .before .before .item .ensures) (c .before .before .before .factor .ensures) (c .put .ensures))
+
 parenthesised-returns : (t : ℕ) → parenthesised-lts.Need-returns (parenthesised-calls t) (parenthesised-at t) parenthesised.Post
 parenthesised-returns t c = rw (c .refused .ensures) (parens-full (c .before .before .pre .1 .1) (c .before .before .pre .1 .0) (c .before .before .pre .1 .2) _ (c .before .if1 .taken) (c .before .before .pre .1 .3))
 
@@ -310,14 +322,14 @@ primary-returns-4 t c = rw (c .refused .ensures) (primary-refused (c .before .be
 product-loop-holds : (t : ℕ) → product-lts.Need-loop-holds (product-calls t) (product-at t) product.Post product-Inv-loop product-μ-loop
 product-loop-holds t c = turn-none productTail _ (asks-after (c .before .before .before .pre .1 .1) (c .factor .ensures .moves))
 
-product-scaled-requires : (t : ℕ) → product-lts.Need-scaled-requires (product-calls t) (product-at t) product.Post product-Inv-loop product-μ-loop
-product-scaled-requires t c κs = let s = c .before .before .before .before .before .before .before .before .args in let o = c .before .before .before .before .before .factor .ensures .moves in let i = c .before .before .before .before .loop .inv .moves in (omega arith, (c .before .before .before .before .before .before .before .before .pre .1 .0, asks-after (asks-after (c .before .before .before .before .before .before .before .before .pre .1 .1) (c .before .before .before .before .before .factor .ensures .moves)) (c .before .before .before .before .loop .inv .moves), (more-factors-true (c .before .before .before .before .loop .a .fault) (kindIn (s .kinds .now) (s .n) (c .before .before .before .before .loop .a .at)) (sym (c .before .before .before .more-factors .ensures) ∙ c .before .before .if1 .taken)) .1))
+product-multiplied-requires : (t : ℕ) → product-lts.Need-multiplied-requires (product-calls t) (product-at t) product.Post product-Inv-loop product-μ-loop
+product-multiplied-requires t c κs = let s = c .before .before .before .before .before .before .before .before .args in let o = c .before .before .before .before .before .factor .ensures .moves in let i = c .before .before .before .before .loop .inv .moves in (omega arith, (c .before .before .before .before .before .before .before .before .pre .1 .0, asks-after (asks-after (c .before .before .before .before .before .before .before .before .pre .1 .1) (c .before .before .before .before .before .factor .ensures .moves)) (c .before .before .before .before .loop .inv .moves), (more-factors-true (c .before .before .before .before .loop .a .fault) (kindIn (s .kinds .now) (s .n) (c .before .before .before .before .loop .a .at)) (sym (c .before .before .before .more-factors .ensures) ∙ c .before .before .if1 .taken)) .1))
 
 product-loop-less : (t : ℕ) → product-lts.Need-loop-less (product-calls t) (product-at t) product.Post product-Inv-loop product-μ-loop
-product-loop-less t c = let s = c .before .before .before .before .before .before .before .before .before .args in let o = c .before .before .before .before .before .before .factor .ensures .moves in let i = c .before .before .before .before .before .loop .inv .moves in loop-falls (s .n) (c .before .before .before .before .before .loop .a) (c .scaled .result) (omega arith) ((more-factors-true (c .before .before .before .before .before .loop .a .fault) (kindIn (s .kinds .now) (s .n) (c .before .before .before .before .before .loop .a .at)) (sym (c .before .before .before .before .more-factors .ensures) ∙ c .before .before .before .if1 .taken)) .0) (c .scaled .ensures .turn .moves) (c .scaled .ensures .further)
+product-loop-less t c = let s = c .before .before .before .before .before .before .before .before .before .args in let o = c .before .before .before .before .before .before .factor .ensures .moves in let i = c .before .before .before .before .before .loop .inv .moves in loop-falls (s .n) (c .before .before .before .before .before .loop .a) (c .multiplied .result) (omega arith) ((more-factors-true (c .before .before .before .before .before .loop .a .fault) (kindIn (s .kinds .now) (s .n) (c .before .before .before .before .before .loop .a .at)) (sym (c .before .before .before .before .more-factors .ensures) ∙ c .before .before .before .if1 .taken)) .0) (c .multiplied .ensures .turn .moves) (c .multiplied .ensures .further)
 
 product-loop-again : (t : ℕ) → product-lts.Need-loop-again (product-calls t) (product-at t) product.Post product-Inv-loop product-μ-loop
-product-loop-again t c = turn-then (c .before .before .before .before .before .loop .inv) (c .scaled .ensures .turn)
+product-loop-again t c = turn-then (c .before .before .before .before .before .loop .inv) (c .multiplied .ensures .turn)
 
 product-returns : (t : ℕ) → product-lts.Need-returns (product-calls t) (product-at t) product.Post product-Inv-loop product-μ-loop
 product-returns t c = product-read (c .before .before .before .factor .ensures) (c .before .before .loop .inv) (sym (c .before .more-factors .ensures) ∙ c .if1 .left)
@@ -336,18 +348,6 @@ relation-simple-requires-2 t c κs = let s = c .before .before .before .before .
 
 relation-put-requires : (t : ℕ) → relation-lts.Need-put-requires (relation-calls t) (relation-at t) relation.Post
 relation-put-requires t c κs = let s = c .before .before .before .before .before .before .before .before .before .before .before .before .before .args in let h = c .before .before .before .before .before .before .before .before .before .before .before .before .before .pre .1 .1 in let o = c .before .before .before .before .before .before .before .before .before .before .simple .ensures .moves in let i = (kind-inside (s .kinds .now) (s .n) (c .before .before .before .before .before .before .before .before .before .before .simple .result .at) (c .before .before .before .before .before .before .before .before .before .kind-at .result) (sym (c .before .before .before .before .before .before .before .before .before .kind-at .ensures)) (relational-kind _ (sym (c .before .before .before .before .before .before .before .before .is-relational .ensures) ∙ c .before .before .before .before .before .before .before .if1 .taken))) in (put-room (s .n) (c .before .before .before .before .before .before .before .before .before .before .simple .result) (c .before .before .before .before .before .item .result) (c .before .before .simple2 .result) (s .q) (flagIn (s .long .now) (c .before .before .before .before .before .before .before .before .before .before .simple .result .at)) (asks-after (c .before .before .before .before .before .before .before .before .before .before .before .before .before .pre .1 .1) (c .before .before .before .before .before .before .before .before .before .before .simple .ensures .moves)) i (c .before .before .before .before .before .item .ensures) (c .before .before .simple2 .ensures .moves), omega arith)
-
-scaled-item-requires : (t : ℕ) → scaled-lts.Need-item-requires (scaled-calls t) (scaled-at t) scaled.Post
-scaled-item-requires t c κs = let s = c .before .before .args in let w = c .before .before .pre .1 .2 in let i = (kind-inside (s .kinds .now) (s .n) (s .q .at) (kindIn (s .kinds .now) (s .n) (s .q .at)) refl (multiplying-kind _ w)) in omega arith
-
-scaled-factor-requires : (t : ℕ) → scaled-lts.Need-factor-requires (scaled-calls t) (scaled-at t) scaled.Post
-scaled-factor-requires t c κs = let s = c .before .before .before .before .before .args in let w = c .before .before .before .before .before .pre .1 .2 in let i = (kind-inside (s .kinds .now) (s .n) (s .q .at) (kindIn (s .kinds .now) (s .n) (s .q .at)) refl (multiplying-kind _ w)) in let a = operand-asks (s .n) (s .q) (c .before .before .item .result) (s .q) (s .q) (flagIn (s .long .now) (s .q .at)) (c .before .before .before .before .before .pre .1 .1) i (c .before .before .item .ensures) in let m = first-moves (s .n) (s .q) (c .before .before .item .result) (s .q) (s .q) (flagIn (s .long .now) (s .q .at)) (c .before .before .before .before .before .pre .1 .1) i (c .before .before .item .ensures) in omega arith
-
-scaled-put-requires : (t : ℕ) → scaled-lts.Need-put-requires (scaled-calls t) (scaled-at t) scaled.Post
-scaled-put-requires t c κs = let s = c .before .before .before .before .before .before .before .before .args in let w = c .before .before .before .before .before .before .before .before .pre .1 .2 in let i = (kind-inside (s .kinds .now) (s .n) (s .q .at) (kindIn (s .kinds .now) (s .n) (s .q .at)) refl (multiplying-kind _ w)) in (put-room (s .n) (s .q) (c .before .before .before .before .before .item .result) (c .before .before .factor .result) (s .q) (flagIn (s .long .now) (s .q .at)) (c .before .before .before .before .before .before .before .before .pre .1 .1) i (c .before .before .before .before .before .item .ensures) (c .before .before .factor .ensures .moves), omega arith)
-
-scaled-returns : (t : ℕ) → scaled-lts.Need-returns (scaled-calls t) (scaled-at t) scaled.Post
-scaled-returns t c = let s = c .before .before .before .before .before .before .before .before .before .args in let w = c .before .before .before .before .before .before .before .before .before .pre .1 .2 in let e = sym (c .before .before .before .before .before .before .before .before .kind-at .ensures) in let u = subst (λ (k : ℕ). oneOf k multiplying ≡ true) e w in list-turn (c .before .before .before .before .before .before .before .before .kind-at .result) e (c .before .before .before .before .before .before .before .operation-of .ensures) productTail u (behind-over factorPart postfix (c .before .before .before .before .before .before .before .before .kind-at .result) (multiplying-kind _ u) (c .before .before .before .before .before .before .before .before .before .pre .1 .1) (c .before .before .before .before .before .before .before .before .before .pre .1 .0) e (c .before .before .before .before .before .before .item .ensures) (c .before .before .before .factor .ensures) (c .put .ensures))
 
 signed-returns : (t : ℕ) → signed-lts.Need-returns (signed-calls t) (signed-at t) signed.Post
 signed-returns t c = signed-plain (λ z. c .before .before .before .if1 .taken (c .before .before .before .before .kind-at .ensures ∙ z)) (c .product .ensures)
@@ -391,17 +391,17 @@ term-put-requires t c κs = let s = c .before .before .before .before .before .b
 term-returns : (t : ℕ) → term-lts.Need-returns (term-calls t) (term-at t) term.Post
 term-returns t c = let s = c .before .before .before .before .before .before .before .before .before .args in let w = c .before .before .before .before .before .before .before .before .before .pre .1 .2 in let e = sym (c .before .before .before .before .before .before .before .before .kind-at .ensures) in let u = subst (λ (k : ℕ). oneOf k adding ≡ true) e w in list-turn (c .before .before .before .before .before .before .before .before .kind-at .result) e (c .before .before .before .before .before .before .before .operation-of .ensures) sum u (behind-over termPart postfix (c .before .before .before .before .before .before .before .before .kind-at .result) (adding-kind _ u) (c .before .before .before .before .before .before .before .before .before .pre .1 .1) (c .before .before .before .before .before .before .before .before .before .pre .1 .0) e (c .before .before .before .before .before .before .item .ensures) (c .before .before .before .product .ensures) (c .put .ensures))
 
-pub +expression+factor+joined+parenthesised+primary+product+relation+scaled+signed+simple+term-spec : {M : Type 1} → statement M
-+expression+factor+joined+parenthesised+primary+product+relation+scaled+signed+simple+term-spec =
-    close μ-expression μ-factor μ-joined μ-parenthesised μ-primary μ-product μ-relation μ-scaled μ-signed μ-simple μ-term
+pub +expression+factor+joined+multiplied+parenthesised+primary+product+relation+signed+simple+term-spec : {M : Type 1} → statement M
++expression+factor+joined+multiplied+parenthesised+primary+product+relation+signed+simple+term-spec =
+    close μ-expression μ-factor μ-joined μ-multiplied μ-parenthesised μ-primary μ-product μ-relation μ-signed μ-simple μ-term
     (λ t. expression-lts.spec (expression-calls t) (expression-at t) expression.Post expression-Inv-loop expression-μ-loop (λ c κs. omega arith) (λ c κs. omega arith) (λ c κs. search needs) (expression-returns t) (expression-loop-holds t) (λ c κs. omega arith) (expression-joined-requires t) (expression-loop-less t) (expression-loop-again t) (expression-returns-2 t))
     (λ t. factor-lts.spec (factor-calls t) (factor-at t) factor.Post (λ c κs. omega arith) (λ c κs. search needs) (factor-leaf-requires t) (factor-returns t) (λ c κs. search needs) (factor-primary-requires t) (factor-returns-2 t) (factor-item-requires t) (factor-primary-requires-2 t) (factor-put-requires t) (factor-returns-3 t))
     (λ t. joined-lts.spec (joined-calls t) (joined-at t) joined.Post (λ c κs. omega arith) (λ c κs. search needs) (joined-item-requires t) (joined-relation-requires t) (joined-put-requires t) (joined-returns t))
+    (λ t. multiplied-lts.spec (multiplied-calls t) (multiplied-at t) multiplied.Post (λ c κs. omega arith) (λ c κs. search needs) (multiplied-item-requires t) (multiplied-factor-requires t) (multiplied-put-requires t) (multiplied-returns t))
     (λ t. parenthesised-lts.spec (parenthesised-calls t) (parenthesised-at t) parenthesised.Post (λ c κs. search needs) (parenthesised-returns t) (parenthesised-add-expression t) (λ c. omega arith) (parenthesised-expression-requires t) (parenthesised-expect-requires t) (parenthesised-returns-2 t))
     (λ t. primary-lts.spec (primary-calls t) (primary-at t) primary.Post (primary-returns t) (λ c κs. omega arith) (primary-parenthesised-requires t) (primary-returns-2 t) (λ c κs. search needs) (primary-leaf-requires t) (primary-returns-3 t) (λ c κs. search needs) (primary-returns-4 t))
-    (λ t. product-lts.spec (product-calls t) (product-at t) product.Post product-Inv-loop product-μ-loop (λ c κs. omega arith) (product-loop-holds t) (λ c κs. omega arith) (product-scaled-requires t) (product-loop-less t) (product-loop-again t) (product-returns t))
+    (λ t. product-lts.spec (product-calls t) (product-at t) product.Post product-Inv-loop product-μ-loop (λ c κs. omega arith) (product-loop-holds t) (λ c κs. omega arith) (product-multiplied-requires t) (product-loop-less t) (product-loop-again t) (product-returns t))
     (λ t. relation-lts.spec (relation-calls t) (relation-at t) relation.Post (λ c κs. omega arith) (λ c κs. omega arith) (λ c κs. search needs) (λ c κs. search needs) (relation-item-requires t) (relation-simple-requires-2 t) (relation-put-requires t) (relation-returns t) (relation-returns-2 t))
-    (λ t. scaled-lts.spec (scaled-calls t) (scaled-at t) scaled.Post (λ c κs. omega arith) (λ c κs. search needs) (scaled-item-requires t) (scaled-factor-requires t) (scaled-put-requires t) (scaled-returns t))
     (λ t. signed-lts.spec (signed-calls t) (signed-at t) signed.Post (λ c κs. omega arith) (λ c κs. omega arith) (signed-returns t) (signed-item-requires t) (signed-product-requires-2 t) (signed-put-requires t) (signed-returns-2 t))
     (λ t. simple-lts.spec (simple-calls t) (simple-at t) simple.Post simple-Inv-loop simple-μ-loop (λ c κs. omega arith) (simple-loop-holds t) (λ c κs. omega arith) (simple-term-requires t) (simple-loop-less t) (simple-loop-again t) (simple-returns t))
     (λ t. term-lts.spec (term-calls t) (term-at t) term.Post (λ c κs. omega arith) (λ c κs. search needs) (term-item-requires t) (term-product-requires t) (term-put-requires t) (term-returns t))

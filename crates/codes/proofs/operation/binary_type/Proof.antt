@@ -1,4 +1,4 @@
--- `codes::types::binary_type` meets its contract: codes whose operators do the same with types are stretches, computed. Assumes nothing.
+-- `codes::operation::binary_type` meets its contract: codes whose operators do the same with types are stretches, computed. Assumes nothing.
 use mathlib.Core.Path.{refl, _∙_}
 use mathlib.Core.Option.{bind}
 use native.Mathlib.Omega.{arith}
@@ -7,8 +7,8 @@ use Rattle.design.specs.Expression.{sumType, orderType, equalityType, logicalTy
 use Rattle.codes.specs.Types.{binaryOf}
 use Rattle.codes.proofs.Finite.{all}
 use Rattle.codes.proofs.TypeLaws.{agrees, stretch, stretch-none, either}
-use Rattle.codes.proofs.types.binary_type.Statement.{statement}
-use Rattle.codes.proofs.types.binary_type.Tie as tie
+use Rattle.codes.proofs.operation.binary_type.Statement.{statement}
+use Rattle.codes.proofs.operation.binary_type.Tie as tie
 
 equality-requires : tie.Need-equality-requires
 equality-requires c κs = search needs

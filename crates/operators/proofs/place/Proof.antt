@@ -1,0 +1,32 @@
+-- `operators::place` meets its contract: the value takes its place, a refusal leaves the stack. Assumes nothing.
+use mathlib.Core.Path.{sym, _∙_}
+use mir.Syntax.{w32}
+use mir.Val.{SFits}
+use Rattle.operators.proofs.Laws.{placed-value, placed-refusal}
+use borrow.Author.Needs.{needs}
+use Rattle.operators.proofs.place.Statement.{statement}
+use Rattle.operators.proofs.place.Tie as tie
+
+enum-known-c : tie.Need-enum-known-c
+enum-known-c c = search needs
+
+mul-v : tie.Need-mul-v
+mul-v c = search needs
+
+element-set-from-v : tie.Need-element-set-from-v
+element-set-from-v c = search needs
+
+enum-known-c-2 : tie.Need-enum-known-c-2
+enum-known-c-2 c = search needs
+
+returns : tie.Need-returns
+returns c =
+    let fit : SFits w32 (c .before .c .given .0 .0) = search needs in
+    λ o e f. placed-value (c .before .before .before .args .stack .now) (c .before .before .before .args .i) (c .before .c .given .0 .0) o (sym (c .before .c .given .1) ∙ e) fit
+
+returns-2 : tie.Need-returns-2
+returns-2 c = λ o e f. placed-refusal (c .before .before .before .args .stack .now) (c .before .before .before .args .i) (c .before .c2 .given .0 .0) o (sym (c .before .c2 .given .1) ∙ e) f
+
+pub place-spec : {M : Type 1} → statement M
+place-spec =
+    tie.close (tie.spec enum-known-c mul-v element-set-from-v enum-known-c-2 returns returns-2)
