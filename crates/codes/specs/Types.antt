@@ -61,6 +61,6 @@ binaryTypeFor op t = typeAfter (binaryOf op) t
 abbrev pub comparing : List ℕ
 comparing = EQ ∷ NE ∷ LT ∷ LE ∷ GT ∷ GE ∷ []
 
--- the same where the operator takes its operands: "comparisons give boolean", every other operator what it takes
+-- the same where the operator takes its operands: a comparison gives boolean, every other operator the type that it takes
 unfoldable pub resultFor : ℕ → ℕ → ℕ
 resultFor op t = cond (oneOf op comparing) BOOLEAN t
