@@ -30,6 +30,11 @@ pub(crate) fn put2(image: &mut [u8], at: usize, n: u32)
     put(image, at + 1, byte_of(n, 1));
 }
 
+// The last two bytes of a four-byte number.
+const THIRD: usize = 2;
+
+const FOURTH: usize = 3;
+
 // Stores a four-byte number.
 pub(crate) fn put4(image: &mut [u8], at: usize, n: u32)
     requires { ⌜ at < 1000000 ⌝ }
@@ -37,8 +42,8 @@ pub(crate) fn put4(image: &mut [u8], at: usize, n: u32)
 {
     put(image, at, byte_of(n, 0));
     put(image, at + 1, byte_of(n, 1));
-    put(image, at + 2, byte_of(n, 2));
-    put(image, at + 3, byte_of(n, 3));
+    put(image, at + THIRD, byte_of(n, THIRD));
+    put(image, at + FOURTH, byte_of(n, FOURTH));
 }
 
 // Stores the 12 bytes of a line.

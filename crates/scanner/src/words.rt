@@ -8,6 +8,7 @@ ghost use Rattle.language.specs.Lexing.{equal};
 ghost use Rattle.scanner.specs.Kinds.{Kinds};
 ghost use Rattle.scanner.specs.Reserved.{spelledKind, reservedKind, ofSize};
 use crate::bytes;
+use crate::kinds;
 use codes::token;
 
 fn both(a: bool, b: bool) -> bool
@@ -20,7 +21,7 @@ fn both(a: bool, b: bool) -> bool
 }
 
 // "no doubled or last underscore".
-pub(crate) fn well_made(table: &[u8; 256], word: &[u8]) -> bool
+pub(crate) fn well_made(table: &[u8; kinds::BYTES], word: &[u8]) -> bool
     requires { ⌜ Kinds (now table) ⌝ }
     ensures { λ r. ⌜ r ≡ wellMade false (now (word .entry)) ⌝ }
 {
