@@ -9,7 +9,8 @@ ghost use lib.IntN.{ℤ, pos};
 ghost use Rattle.design.specs.Types.{std-logic, integer, plain, boolean};
 ghost use Rattle.design.specs.Expression.{Out, fault};
 ghost use Rattle.semantics.specs.Evaluation.{bitOf, differ};
-ghost use Rattle.codes.specs.Operation.{PLUS, AND, unaryFor, binaryFor};
+ghost use Rattle.codes.specs.Operation.{PLUS, MINUS, AND, unaryFor, binaryFor};
+ghost use Rattle.codes.specs.Types.{tagOf};
 ghost use Rattle.codes.specs.Limit.{ITEMS};
 ghost use Rattle.signed.specs.Signed.{checkedOf};
 ghost use Rattle.signed.specs.declared.Checked.the-variants.{Value};
@@ -62,12 +63,20 @@ fn multiplied(op: u8, x: i32, y: i32) -> Checked
     }
 }
 
+// + and - of two integers.
+fn sum(op: u8, x: i32, y: i32) -> Checked
+    requires { ⌜ (PLUS ≤ op) × (op ≤ MINUS) ⌝ }
+    ensures { λ r. ⌜ r ≡ checkedOf (binaryBy (binaryFor op) (some (plain integer)) x y) ⌝ }
+{
+    signed::sum(x, op == operation::MINUS, y)
+}
+
 // Two integers. * / mod rem come last, in one arm, so that no other operator pays for them.
 fn integers(op: u8, x: i32, y: i32) -> Checked
     ensures { λ r. ⌜ r ≡ checkedOf (binaryBy (binaryFor op) (some (plain integer)) x y) ⌝ }
 {
     match op {
-        operation::PLUS | operation::MINUS => signed::sum(x, op == operation::MINUS, y),
+        operation::PLUS | operation::MINUS => sum(op, x, y),
         operation::EQ => logic(signed::equal(x, y)),
         operation::NE => logic(!signed::equal(x, y)),
         operation::LT => logic(signed::less(x, y)),
@@ -169,13 +178,39 @@ pub fn apply_unary(stack: &mut [i32; limit::ITEMS], i: usize, op: u8, t: u8) -> 
     place(stack, i, c)
 }
 
-// Applies an operator of two operands of the type t, which stand at i and behind it on a stack: its value takes the left one's place. Answers 0, or the
-// refusal's number.
-pub fn apply_binary(stack: &mut [i32; limit::ITEMS], i: usize, op: u8, t: u8) -> u8
+// Applies an operator of two operands of the type t, which stand at i and behind it, by the table.
+fn apply_by_table(stack: &mut [i32; limit::ITEMS], i: usize, op: u8, t: u8) -> u8
     requires { ⌜ (length (now stack) ≡ ITEMS) × (i + 1 < ITEMS) ⌝ }
     ensures { λ r. ⌜ Applied (binaryOn op t (getD (now (stack .entry)) i (pos 0)) (getD (now (stack .entry)) (i + 1) (pos 0))) (now (stack .entry)) i
         (now (stack .exit)) r ⌝ }
 {
     let c = binary(op, t, stack[i], stack[i + 1]);
     place(stack, i, c)
+}
+
+// The same for + and - of integers, without a look at the table.
+fn apply_sum(stack: &mut [i32; limit::ITEMS], i: usize, op: u8) -> u8
+    requires { ⌜ (length (now stack) ≡ ITEMS) × (i + 1 < ITEMS) × (PLUS ≤ op) × (op ≤ MINUS) ⌝ }
+    ensures { λ r. ⌜ Applied (binaryOn op (tagOf (plain integer)) (getD (now (stack .entry)) i (pos 0)) (getD (now (stack .entry)) (i + 1) (pos 0))) (now (stack .entry)) i
+        (now (stack .exit)) r ⌝ }
+{
+    let c = sum(op, stack[i], stack[i + 1]);
+    place(stack, i, c)
+}
+
+// Applies an operator of two operands of the type t, which stand at i and behind it on a stack: its value takes the left one's place. Answers 0, or the
+// refusal's number. Both evaluators call this; most operators are sums, and these, being short, become part of the evaluators' loops, which the table is too
+// long for.
+pub fn apply_binary(stack: &mut [i32; limit::ITEMS], i: usize, op: u8, t: u8) -> u8
+    requires { ⌜ (length (now stack) ≡ ITEMS) × (i + 1 < ITEMS) ⌝ }
+    ensures { λ r. ⌜ Applied (binaryOn op t (getD (now (stack .entry)) i (pos 0)) (getD (now (stack .entry)) (i + 1) (pos 0))) (now (stack .entry)) i
+        (now (stack .exit)) r ⌝ }
+{
+    if t != types::INTEGER {
+        return apply_by_table(stack, i, op, t);
+    }
+    match op {
+        operation::PLUS | operation::MINUS => apply_sum(stack, i, op),
+        _ => apply_by_table(stack, i, op, t),
+    }
 }

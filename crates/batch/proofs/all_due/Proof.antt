@@ -8,24 +8,15 @@ use Rattle.batch.proofs.DueLaws.{first-not, second-not, first-two}
 use Rattle.batch.proofs.all_due.Statement.{statement}
 use Rattle.batch.proofs.all_due.Tie as tie
 
-due-requires : tie.Need-due-requires
-due-requires c κs = search needs
-
 returns : tie.Need-returns
 returns c =
     let a = c .before .before .args in
     first-not (eqb (a .inputs) (a .count * a .width .inputs)) (eqb (a .outputs) (a .count * a .width .outputs)) (eqb (a .answers) (a .count * 3)) (sym (c .before .due .ensures) ∙ not-true _ (c .if1 .taken))
 
-due-requires-2 : tie.Need-due-requires-2
-due-requires-2 c κs = search needs
-
 returns-2 : tie.Need-returns-2
 returns-2 c =
     let a = c .before .before .before .before .args in
     second-not (eqb (a .inputs) (a .count * a .width .inputs)) (eqb (a .outputs) (a .count * a .width .outputs)) (eqb (a .answers) (a .count * 3)) (sym (c .before .due2 .ensures) ∙ not-true _ (c .if2 .taken))
-
-due-requires-3 : tie.Need-due-requires-3
-due-requires-3 c κs = search needs
 
 returns-3 : tie.Need-returns-3
 returns-3 c =
@@ -34,4 +25,4 @@ returns-3 c =
     (sym (c .before .before .before .before .due .ensures) ∙ not-false _ (c .before .before .before .if1 .left)) (sym (c .before .before .due2 .ensures) ∙ not-false _ (c .before .if2 .left))
 
 pub all-due-spec : {M : Type 1} → statement M
-all-due-spec = tie.close (tie.spec due-requires returns due-requires-2 returns-2 due-requires-3 returns-3)
+all-due-spec = tie.close (tie.spec (λ c κs. search needs) returns (λ c κs. search needs) returns-2 (λ c κs. search needs) returns-3)

@@ -6,29 +6,8 @@ use Rattle.batch.proofs.CallLaws.{closed}
 use Rattle.batch.proofs.cycles.Statement.{statement}
 use Rattle.batch.proofs.cycles.Tie as tie
 
-open-requires : tie.Need-open-requires
-open-requires c κs = search needs
-
-enum-known-opened : tie.Need-enum-known-opened
-enum-known-opened c = search needs
-
 opened-cycles-requires : tie.Need-opened-cycles-requires
 opened-cycles-requires c κs = sym (ap openTold (c .before .before .before .opened .given .1)) ∙ c .before .before .before .before .before .«open» .ensures
-
-enum-known-opened-2 : tie.Need-enum-known-opened-2
-enum-known-opened-2 c = search needs
-
-refused-requires : tie.Need-refused-requires
-refused-requires c κs = search needs
-
-same-length : tie.Need-same-length
-same-length c = search needs
-
-same-length-2 : tie.Need-same-length-2
-same-length-2 c = search needs
-
-returns : tie.Need-returns
-returns c = search needs
 
 returns-2 : tie.Need-returns-2
 returns-2 c =
@@ -40,12 +19,12 @@ pub cycles-spec : {M : Type 1} → statement M
 cycles-spec =
     tie.close
     (tie.spec
-    open-requires
-    enum-known-opened
+    (λ c κs. search needs)
+    (λ c. search needs)
     opened-cycles-requires
-    enum-known-opened-2
-    refused-requires
-    same-length
-    same-length-2
-    returns
+    (λ c. search needs)
+    (λ c κs. search needs)
+    (λ c. search needs)
+    (λ c. search needs)
+    (λ c. search needs)
     returns-2)

@@ -7,17 +7,11 @@ use Rattle.batch.proofs.due.Tie as tie
 returns : tie.Need-returns
 returns c = due-none (c .before .args .len) (c .before .args .count) (c .before .args .width) (c .if1 .taken)
 
-rem-if2 : tie.Need-rem-if2
-rem-if2 c = search needs
-
 returns-2 : tie.Need-returns-2
 returns-2 c = due-rest (c .before .before .args .len) (c .before .before .args .count) (c .before .before .args .width) (c .if2 .taken)
-
-div-result : tie.Need-div-result
-div-result c = search needs
 
 returns-3 : tie.Need-returns-3
 returns-3 c = due-whole (c .before .before .args .len) (c .before .before .args .count) (c .before .before .args .width) (search needs) (c .if2 .left)
 
 pub due-spec : {M : Type 1} → statement M
-due-spec = tie.close (tie.spec returns rem-if2 returns-2 div-result returns-3)
+due-spec = tie.close (tie.spec returns (λ c. search needs) returns-2 (λ c. search needs) returns-3)

@@ -5,15 +5,6 @@ use Rattle.batch.proofs.CallLaws.{not-due, lengths, taken}
 use Rattle.batch.proofs.opened_cycles.Statement.{statement}
 use Rattle.batch.proofs.opened_cycles.Tie as tie
 
-widths-of-requires : tie.Need-widths-of-requires
-widths-of-requires c κs = search needs
-
-all-due-requires : tie.Need-all-due-requires
-all-due-requires c κs = search needs
-
-refused-requires : tie.Need-refused-requires
-refused-requires c κs = search needs
-
 returns : tie.Need-returns
 returns c =
     let z = c .before .before .before .before .before .before in
@@ -25,12 +16,6 @@ rows-requires c κs =
     let l = lengths (z .args .image .now) (z .args .s) (z .args .count) (z .args .inputs .now) (z .args .outputs .now) (z .args .answers .now) (z .args .at) (z .pre) (c .before .before .before .before .widths-of .result) (c .before .before .before .before .widths-of .ensures) _ (c .before .before .before .all-due .ensures) (not-false _ (c .before .before .if1 .left)) in
     (z .pre, l .0, l .1, l .2)
 
-same-length : tie.Need-same-length
-same-length c = search needs
-
-same-length-2 : tie.Need-same-length-2
-same-length-2 c = search needs
-
 returns-2 : tie.Need-returns-2
 returns-2 c =
     let z = c .before .before .before .before .before .before .before .before .before .before .before .before in
@@ -40,11 +25,11 @@ pub opened-cycles-spec : {M : Type 1} → statement M
 opened-cycles-spec =
     tie.close
     (tie.spec
-    widths-of-requires
-    all-due-requires
-    refused-requires
+    (λ c κs. search needs)
+    (λ c κs. search needs)
+    (λ c κs. search needs)
     returns
     rows-requires
-    same-length
-    same-length-2
+    (λ c. search needs)
+    (λ c. search needs)
     returns-2)

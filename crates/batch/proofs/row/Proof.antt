@@ -9,42 +9,6 @@ use Rattle.batch.proofs.RowLaws.{steps}
 use Rattle.batch.proofs.row.Statement.{statement}
 use Rattle.batch.proofs.row.Tie as tie
 
-add-input : tie.Need-add-input
-add-input c = search needs
-
-add-output : tie.Need-add-output
-add-output c = search needs
-
-add-answer : tie.Need-add-answer
-add-answer c = search needs
-
-mul-cycle-opened : tie.Need-mul-cycle-opened
-mul-cycle-opened c = search needs
-
-sub-cycle-opened : tie.Need-sub-cycle-opened
-sub-cycle-opened c = search needs
-
-part-cycle-opened-start : tie.Need-part-cycle-opened-start
-part-cycle-opened-start c = search needs
-
-part-cycle-opened-end : tie.Need-part-cycle-opened-end
-part-cycle-opened-end c = search needs
-
-mul-cycle-opened-2 : tie.Need-mul-cycle-opened-2
-mul-cycle-opened-2 c = search needs
-
-sub-cycle-opened-2 : tie.Need-sub-cycle-opened-2
-sub-cycle-opened-2 c = search needs
-
-part-cycle-opened-start-2 : tie.Need-part-cycle-opened-start-2
-part-cycle-opened-start-2 c = search needs
-
-part-cycle-opened-end-2 : tie.Need-part-cycle-opened-end-2
-part-cycle-opened-end-2 c = search needs
-
-cycle-opened-requires : tie.Need-cycle-opened-requires
-cycle-opened-requires c κs = search needs
-
 cycled-requires : tie.Need-cycled-requires
 cycled-requires c κs =
     let a = c .before .before .before .before .before .before .before .before .before .before .args in
@@ -56,30 +20,6 @@ mul-put c =
     let z = c .before .before .before .before .before .before .before .before .before .before .before in
     scaled-fits (z .args .p .answer) (length (z .args .answers .now)) 4 (omega (arith, z .pre .3)) (search (z .good .1 .1 .1 .1 .1 .1 .0))
 
-sub-put : tie.Need-sub-put
-sub-put c = search needs
-
-part-put-start : tie.Need-part-put-start
-part-put-start c = search needs
-
-part-put-end : tie.Need-part-put-end
-part-put-end c = search needs
-
-put-requires : tie.Need-put-requires
-put-requires c κs = search needs
-
-is-performed-requires : tie.Need-is-performed-requires
-is-performed-requires c κs = search needs
-
-either-requires : tie.Need-either-requires
-either-requires c κs = search needs
-
-same-length : tie.Need-same-length
-same-length c = search needs
-
-same-length-2 : tie.Need-same-length-2
-same-length-2 c = search needs
-
 returns : tie.Need-returns
 returns c =
     let z = c .before .before .before .before .before .before .before .before .before .before .before .before .before .before .before .before .before in
@@ -90,26 +30,26 @@ pub row-spec : {M : Type 1} → statement M
 row-spec =
     tie.close
     (tie.spec
-    add-input
-    add-output
-    add-answer
-    mul-cycle-opened
-    sub-cycle-opened
-    part-cycle-opened-start
-    part-cycle-opened-end
-    mul-cycle-opened-2
-    sub-cycle-opened-2
-    part-cycle-opened-start-2
-    part-cycle-opened-end-2
-    cycle-opened-requires
+    (λ c. search needs)
+    (λ c. search needs)
+    (λ c. search needs)
+    (λ c. search needs)
+    (λ c. search needs)
+    (λ c. search needs)
+    (λ c. search needs)
+    (λ c. search needs)
+    (λ c. search needs)
+    (λ c. search needs)
+    (λ c. search needs)
+    (λ c κs. search needs)
     cycled-requires
     mul-put
-    sub-put
-    part-put-start
-    part-put-end
-    put-requires
-    is-performed-requires
-    either-requires
-    same-length
-    same-length-2
+    (λ c. search needs)
+    (λ c. search needs)
+    (λ c. search needs)
+    (λ c κs. search needs)
+    (λ c κs. search needs)
+    (λ c κs. search needs)
+    (λ c. search needs)
+    (λ c. search needs)
     returns)

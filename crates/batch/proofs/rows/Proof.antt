@@ -29,9 +29,6 @@ row-requires c κs =
     let r = rest-room (z .args .image .now) (z .args .width) _ (z .args .count) (z .args .inputs .now) (z .args .outputs .now) (z .args .answers .now) (l .left) (l .p) (l .outputs) (l .answers) h (l .inv .2) (l .inv .0) (l .inv .1) in
     (z .pre .0, r .0, r .1, r .2)
 
-sub-left : tie.Need-sub-left Inv-loop μ-loop
-sub-left c = search needs
-
 loop-less : tie.Need-loop-less Inv-loop μ-loop
 loop-less c = omega arith
 
@@ -43,12 +40,6 @@ loop-again c =
     let g : 0 < l .left = omega arith in
     (search needs, search needs, rest-again (z .args .image .now) (z .args .width) _ (z .args .count) (z .args .inputs .now) (z .args .outputs .now) (z .args .answers .now) h (l .left) (l .p) _ _ _ _ _ g (l .inv .2) (l .inv .0) (l .inv .1) (c .before .before .before .row .ensures))
 
-same-length : tie.Need-same-length Inv-loop μ-loop
-same-length c = search needs
-
-same-length-2 : tie.Need-same-length-2 Inv-loop μ-loop
-same-length-2 c = search needs
-
 returns : tie.Need-returns Inv-loop μ-loop
 returns c =
     let z = c .before .before .before .before in
@@ -58,4 +49,4 @@ returns c =
 pub rows-spec : {M : Type 1} → statement M
 rows-spec =
     tie.close
-    (tie.spec Inv-loop μ-loop loop-holds row-requires sub-left loop-less loop-again same-length same-length-2 returns)
+    (tie.spec Inv-loop μ-loop loop-holds row-requires (λ c. search needs) loop-less loop-again (λ c. search needs) (λ c. search needs) returns)

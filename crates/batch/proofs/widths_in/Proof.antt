@@ -4,14 +4,8 @@ use Rattle.batch.proofs.RowLaws.{section-widths}
 use Rattle.batch.proofs.widths_in.Statement.{statement}
 use Rattle.batch.proofs.widths_in.Tie as tie
 
-count-requires : tie.Need-count-requires
-count-requires c κs = search needs
-
-count-requires-2 : tie.Need-count-requires-2
-count-requires-2 c κs = search needs
-
 returns : tie.Need-returns
 returns c = section-widths (c .before .before .before .args .signature .now) _ _ (c .before .count .ensures .0) (c .count2 .ensures .0)
 
 pub widths-in-spec : {M : Type 1} → statement M
-widths-in-spec = tie.close (tie.spec count-requires count-requires-2 returns)
+widths-in-spec = tie.close (tie.spec (λ c κs. search needs) (λ c κs. search needs) returns)

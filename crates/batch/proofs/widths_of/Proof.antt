@@ -16,9 +16,6 @@ part-widths-in-start c = let p = placed (c .before .args .image .now) (c .before
 part-widths-in-end : tie.Need-part-widths-in-end
 part-widths-in-end c = let p = placed (c .before .args .image .now) (c .before .args .at) (c .before .pre) in omega arith
 
-widths-in-requires : tie.Need-widths-in-requires
-widths-in-requires c κs = search needs
-
 returns : tie.Need-returns
 returns c =
     let a = c .before .before .before .args in
@@ -27,4 +24,4 @@ returns c =
 pub widths-of-spec : {M : Type 1} → statement M
 widths-of-spec =
     tie.close
-    (tie.spec sub-widths-in part-widths-in-start part-widths-in-end widths-in-requires returns)
+    (tie.spec sub-widths-in part-widths-in-start part-widths-in-end (λ c κs. search needs) returns)

@@ -6,17 +6,11 @@ use borrow.Author.Needs.{needs}
 use Rattle.bench.proofs.add.Statement.{statement}
 use Rattle.bench.proofs.add.Tie as tie
 
-sub-if1 : tie.Need-sub-if1
-sub-if1 c = search needs
-
 returns : tie.Need-returns
 returns c = sym (told-high _ (omega arith))
-
-add-result : tie.Need-add-result
-add-result c = search needs
 
 returns-2 : tie.Need-returns-2
 returns-2 c = sym (told-low _ (omega arith))
 
 pub add-spec : {M : Type 1} → statement M
-add-spec = tie.close (tie.spec sub-if1 returns add-result returns-2)
+add-spec = tie.close (tie.spec (λ c. search needs) returns (λ c. search needs) returns-2)

@@ -5,33 +5,6 @@ use borrow.Author.Needs.{needs}
 use Rattle.bench.proofs.checked_row.Statement.{statement}
 use Rattle.bench.proofs.checked_row.Tie as tie
 
-add-end : tie.Need-add-end
-add-end c = search needs
-
-mul-cycle : tie.Need-mul-cycle
-mul-cycle c = search needs
-
-sub-cycle : tie.Need-sub-cycle
-sub-cycle c = search needs
-
-part-cycle-start : tie.Need-part-cycle-start
-part-cycle-start c = search needs
-
-part-cycle-end : tie.Need-part-cycle-end
-part-cycle-end c = search needs
-
-cycle-requires : tie.Need-cycle-requires
-cycle-requires c κs = search needs
-
-lines-of-requires : tie.Need-lines-of-requires
-lines-of-requires c κs = search needs
-
-add-requires : tie.Need-add-requires
-add-requires c κs = search needs
-
-same-length : tie.Need-same-length
-same-length c = search needs
-
 returns : tie.Need-returns
 returns c =
     let a = c .before .before .before .before .before .before .before .before .before .args in
@@ -41,13 +14,13 @@ pub checked-row-spec : {M : Type 1} → statement M
 checked-row-spec =
     tie.close
     (tie.spec
-    add-end
-    mul-cycle
-    sub-cycle
-    part-cycle-start
-    part-cycle-end
-    cycle-requires
-    lines-of-requires
-    add-requires
-    same-length
+    (λ c. search needs)
+    (λ c. search needs)
+    (λ c. search needs)
+    (λ c. search needs)
+    (λ c. search needs)
+    (λ c κs. search needs)
+    (λ c κs. search needs)
+    (λ c κs. search needs)
+    (λ c. search needs)
     returns)

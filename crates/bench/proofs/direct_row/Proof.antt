@@ -5,33 +5,6 @@ use borrow.Author.Needs.{needs}
 use Rattle.bench.proofs.direct_row.Statement.{statement}
 use Rattle.bench.proofs.direct_row.Tie as tie
 
-add-end : tie.Need-add-end
-add-end c = search needs
-
-mul-run : tie.Need-mul-run
-mul-run c = search needs
-
-sub-run : tie.Need-sub-run
-sub-run c = search needs
-
-part-run-start : tie.Need-part-run-start
-part-run-start c = search needs
-
-part-run-end : tie.Need-part-run-end
-part-run-end c = search needs
-
-run-requires : tie.Need-run-requires
-run-requires c κs = search needs
-
-lines-of-requires : tie.Need-lines-of-requires
-lines-of-requires c κs = search needs
-
-add-requires : tie.Need-add-requires
-add-requires c κs = search needs
-
-same-length : tie.Need-same-length
-same-length c = search needs
-
 returns : tie.Need-returns
 returns c =
     let a = c .before .before .before .before .before .before .before .before .before .args in
@@ -41,13 +14,13 @@ pub direct-row-spec : {M : Type 1} → statement M
 direct-row-spec =
     tie.close
     (tie.spec
-    add-end
-    mul-run
-    sub-run
-    part-run-start
-    part-run-end
-    run-requires
-    lines-of-requires
-    add-requires
-    same-length
+    (λ c. search needs)
+    (λ c. search needs)
+    (λ c. search needs)
+    (λ c. search needs)
+    (λ c. search needs)
+    (λ c κs. search needs)
+    (λ c κs. search needs)
+    (λ c κs. search needs)
+    (λ c. search needs)
     returns)

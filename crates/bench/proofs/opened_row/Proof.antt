@@ -5,33 +5,6 @@ use borrow.Author.Needs.{needs}
 use Rattle.bench.proofs.opened_row.Statement.{statement}
 use Rattle.bench.proofs.opened_row.Tie as tie
 
-add-end : tie.Need-add-end
-add-end c = search needs
-
-mul-cycle-opened : tie.Need-mul-cycle-opened
-mul-cycle-opened c = search needs
-
-sub-cycle-opened : tie.Need-sub-cycle-opened
-sub-cycle-opened c = search needs
-
-part-cycle-opened-start : tie.Need-part-cycle-opened-start
-part-cycle-opened-start c = search needs
-
-part-cycle-opened-end : tie.Need-part-cycle-opened-end
-part-cycle-opened-end c = search needs
-
-cycle-opened-requires : tie.Need-cycle-opened-requires
-cycle-opened-requires c κs = search needs
-
-lines-of-requires : tie.Need-lines-of-requires
-lines-of-requires c κs = search needs
-
-add-requires : tie.Need-add-requires
-add-requires c κs = search needs
-
-same-length : tie.Need-same-length
-same-length c = search needs
-
 returns : tie.Need-returns
 returns c =
     let a = c .before .before .before .before .before .before .before .before .before .args in
@@ -41,13 +14,13 @@ pub opened-row-spec : {M : Type 1} → statement M
 opened-row-spec =
     tie.close
     (tie.spec
-    add-end
-    mul-cycle-opened
-    sub-cycle-opened
-    part-cycle-opened-start
-    part-cycle-opened-end
-    cycle-opened-requires
-    lines-of-requires
-    add-requires
-    same-length
+    (λ c. search needs)
+    (λ c. search needs)
+    (λ c. search needs)
+    (λ c. search needs)
+    (λ c. search needs)
+    (λ c κs. search needs)
+    (λ c κs. search needs)
+    (λ c κs. search needs)
+    (λ c. search needs)
     returns)

@@ -18,12 +18,6 @@ abbrev μ-loop : tie.MeasureT-loop
 loop-holds : tie.Need-loop-holds Inv-loop μ-loop
 loop-holds c = (refl, rest-first (cycleOf (c .before .args .image .now)) (c .before .args .inputs .now) (c .before .args .width) _ (c .before .args .count) (c .before .args .row .now))
 
-sub-more : tie.Need-sub-more Inv-loop μ-loop
-sub-more c = search needs
-
-more-requires : tie.Need-more-requires Inv-loop μ-loop
-more-requires c κs = search needs
-
 opened-row-requires : tie.Need-opened-row-requires Inv-loop μ-loop
 opened-row-requires c κs = (c .before .before .before .before .before .pre, omega (arith, more-room (c .before .before .before .loop .left) (c .before .before .before .before .before .args .width) (length (c .before .before .before .before .before .args .inputs .now) - c .before .before .before .loop .from) (sym (c .before .before .more .ensures) ∙ c .before .if1 .taken)))
 
@@ -39,9 +33,6 @@ loop-less c = omega (arith, more-left (c .before .before .before .before .before
 loop-again : tie.Need-loop-again Inv-loop μ-loop
 loop-again c = (search needs, rest-again (cycleOf (c .before .before .before .before .before .before .before .args .image .now)) (c .before .before .before .before .before .before .before .args .inputs .now) (c .before .before .before .before .before .before .before .args .width) _ (c .before .before .before .before .before .before .before .args .count) (c .before .before .before .before .before .before .before .args .row .now) _ _ _ _ _ _ (sym (c .before .before .before .before .more .ensures) ∙ c .before .before .before .if1 .taken) (c .before .before .before .before .before .loop .inv .1) (c .before .opened-row .ensures))
 
-same-length : tie.Need-same-length Inv-loop μ-loop
-same-length c = search needs
-
 returns : tie.Need-returns Inv-loop μ-loop
 returns c = rest-end (cycleOf (c .before .before .before .before .args .image .now)) (c .before .before .before .before .args .inputs .now) (c .before .before .before .before .args .width) _ (c .before .before .before .before .args .count) (c .before .before .before .before .args .row .now) _ _ _ _ (sym (c .before .more .ensures) ∙ c .if1 .left) (c .before .before .loop .inv .1)
 
@@ -52,12 +43,12 @@ opened-rows-spec =
     Inv-loop
     μ-loop
     loop-holds
-    sub-more
-    more-requires
+    (λ c. search needs)
+    (λ c κs. search needs)
     opened-row-requires
     add-from
     sub-left
     loop-less
     loop-again
-    same-length
+    (λ c. search needs)
     returns)

@@ -7,23 +7,8 @@ use Rattle.answers.specs.Answers.{openTold, numberOf, placeOf}
 use Rattle.bench.proofs.rabtishu_bench_opened.Statement.{statement}
 use Rattle.bench.proofs.rabtishu_bench_opened.Tie as tie
 
-fresh-requires : tie.Need-fresh-requires
-fresh-requires c κs = search needs
-
-open-requires : tie.Need-open-requires
-open-requires c κs = search needs
-
-enum-known-opened : tie.Need-enum-known-opened
-enum-known-opened c = search needs
-
 opened-rows-requires : tie.Need-opened-rows-requires
 opened-rows-requires c κs = sym (ap openTold (c .before .before .opened .given .1)) ∙ c .before .before .before .before .«open» .ensures
-
-enum-told : tie.Need-enum-told
-enum-told c = search needs
-
-same-length : tie.Need-same-length
-same-length c = search needs
 
 returns : tie.Need-returns
 returns c =
@@ -39,11 +24,11 @@ pub rabtishu-bench-opened-spec : {M : Type 1} → statement M
 rabtishu-bench-opened-spec =
     tie.close
     (tie.spec
-    fresh-requires
-    open-requires
-    enum-known-opened
+    (λ c κs. search needs)
+    (λ c κs. search needs)
+    (λ c. search needs)
     opened-rows-requires
-    enum-told
-    same-length
+    (λ c. search needs)
+    (λ c. search needs)
     returns
     returns-2)

@@ -11,49 +11,19 @@ Inv-loop text k₀ k = Unit {0}
 abbrev μ-loop : tie.MeasureT-loop
 μ-loop text k₀ k = length text + 1 - k
 
-returns : tie.Need-returns Inv-loop μ-loop
-returns c = search needs
-
-slice-aggregate-words : tie.Need-slice-aggregate-words Inv-loop μ-loop
-slice-aggregate-words c = search needs
-
-words-requires : tie.Need-words-requires Inv-loop μ-loop
-words-requires c κs = search needs
-
-loop-holds : tie.Need-loop-holds Inv-loop μ-loop
-loop-holds c = search needs
-
-print-token-requires : tie.Need-print-token-requires Inv-loop μ-loop
-print-token-requires c κs = search needs
-
-add-k : tie.Need-add-k Inv-loop μ-loop
-add-k c = search needs
-
-loop-less : tie.Need-loop-less Inv-loop μ-loop
-loop-less c = search needs
-
-loop-again : tie.Need-loop-again Inv-loop μ-loop
-loop-again c = search needs
-
-line-requires : tie.Need-line-requires Inv-loop μ-loop
-line-requires c κs = search needs
-
-returns-2 : tie.Need-returns-2 Inv-loop μ-loop
-returns-2 c = search needs
-
 pub print-tokens-spec : {M : Type 1} → statement M
 print-tokens-spec =
     tie.close
     (tie.spec
     Inv-loop
     μ-loop
-    returns
-    slice-aggregate-words
-    words-requires
-    loop-holds
-    print-token-requires
-    add-k
-    loop-less
-    loop-again
-    line-requires
-    returns-2)
+    (λ c. search needs)
+    (λ c. search needs)
+    (λ c κs. search needs)
+    (λ c. search needs)
+    (λ c κs. search needs)
+    (λ c. search needs)
+    (λ c. search needs)
+    (λ c. search needs)
+    (λ c κs. search needs)
+    (λ c. search needs))

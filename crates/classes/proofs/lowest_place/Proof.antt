@@ -5,23 +5,11 @@ use Rattle.classes.proofs.Whole.{judged-some, judged-none}
 use Rattle.classes.proofs.lowest_place.Statement.{statement}
 use Rattle.classes.proofs.lowest_place.Tie as tie
 
-clamp-requires : tie.Need-clamp-requires
-clamp-requires c κs = search needs
-
-block-requires : tie.Need-block-requires
-block-requires c κs = search needs
-
 returns : tie.Need-returns
 returns c = judged-some (c .before .before .before .clamp .ensures) (c .before .before .block .ensures) (c .before .before .before .before .args .process) (c .if1 .taken)
-
-place-at-requires : tie.Need-place-at-requires
-place-at-requires c κs = search needs
-
-offence-requires : tie.Need-offence-requires
-offence-requires c κs = search needs
 
 returns-2 : tie.Need-returns-2
 returns-2 c = judged-none (c .before .before .before .before .before .before .clamp .ensures) (c .before .before .before .before .before .block .ensures) (c .before .before .before .before .before .before .before .args .process) (c .before .before .before .if1 .left) refl (c .before .place-at .ensures) (c .offence .ensures)
 
 pub lowest-place-spec : {M : Type 1} → statement M
-lowest-place-spec = tie.close (tie.spec clamp-requires block-requires returns place-at-requires offence-requires returns-2)
+lowest-place-spec = tie.close (tie.spec (λ c κs. search needs) (λ c κs. search needs) returns (λ c κs. search needs) (λ c κs. search needs) returns-2)

@@ -5,12 +5,6 @@ use borrow.Author.Needs.{needs}
 use Rattle.clock.proofs.clock_owner.Statement.{statement}
 use Rattle.clock.proofs.clock_owner.Tie as tie
 
-first-wait-requires : tie.Need-first-wait-requires
-first-wait-requires c κs = search needs
-
-owner-at-requires : tie.Need-owner-at-requires
-owner-at-requires c κs = search needs
-
 returns : tie.Need-returns
 returns c = owns (c .before .before .before .args .rows .now) (c .before .before .before .args .s) (c .before .before .before .args .owners .now) (c .before .before .before .args .n) _ (owner-there (c .before .before .before .args .rows .now) (c .before .before .before .args .s) (c .before .before .before .args .owners .now) (c .before .before .before .args .n) _ (c .before .before .first-wait .ensures) _ (c .before .if1 .taken) (c .owner-at .ensures))
 
@@ -18,4 +12,4 @@ returns-2 : tie.Need-returns-2
 returns-2 c = owns (c .before .before .args .rows .now) (c .before .before .args .s) (c .before .before .args .owners .now) (c .before .before .args .n) _ (owner-none (c .before .before .args .rows .now) (c .before .before .args .s) (c .before .before .args .owners .now) (c .before .before .args .n) _ (c .before .first-wait .ensures) (c .if1 .left))
 
 pub clock-owner-spec : {M : Type 1} → statement M
-clock-owner-spec = tie.close (tie.spec first-wait-requires owner-at-requires returns returns-2)
+clock-owner-spec = tie.close (tie.spec (λ c κs. search needs) (λ c κs. search needs) returns returns-2)

@@ -4,12 +4,6 @@ use borrow.Author.Needs.{needs}
 use Rattle.clock.proofs.is_clock.Statement.{statement}
 use Rattle.clock.proofs.is_clock.Tie as tie
 
-mode-at-requires : tie.Need-mode-at-requires
-mode-at-requires c κs = search needs
-
-type-at-requires : tie.Need-type-at-requires
-type-at-requires c κs = search needs
-
 returns : tie.Need-returns
 returns c = clock-input (c .before .before .before .args .decls .now) (c .before .before .before .args .d) (c .before .before .before .args .o) _ (c .before .before .mode-at .ensures) _ (c .before .if1 .taken) (c .type-at .ensures)
 
@@ -17,4 +11,4 @@ returns-2 : tie.Need-returns-2
 returns-2 c = clock-other (c .before .before .args .decls .now) (c .before .before .args .d) (c .before .before .args .o) _ (c .before .mode-at .ensures) (c .if1 .left)
 
 pub is-clock-spec : {M : Type 1} → statement M
-is-clock-spec = tie.close (tie.spec mode-at-requires type-at-requires returns returns-2)
+is-clock-spec = tie.close (tie.spec (λ c κs. search needs) (λ c κs. search needs) returns returns-2)

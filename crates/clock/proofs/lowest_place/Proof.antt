@@ -6,42 +6,15 @@ use borrow.Author.Needs.{needs}
 use Rattle.clock.proofs.lowest_place.Statement.{statement}
 use Rattle.clock.proofs.lowest_place.Tie as tie
 
-first-wait-requires : tie.Need-first-wait-requires
-first-wait-requires c κs = search needs
-
 returns : tie.Need-returns
 returns c = judges (c .before .before .args .rows .now) (c .before .before .args .s) (c .before .before .args .codes .now) (c .before .before .args .indices .now) (c .before .before .args .k) (c .before .before .args .places .now) (c .before .before .args .owners .now) (c .before .before .args .n) (c .before .before .args .decls .now) (c .before .before .args .d) _
     (judge-none (c .before .before .args .rows .now) (c .before .before .args .s) (c .before .before .args .codes .now) (c .before .before .args .indices .now) (c .before .before .args .k) (c .before .before .args .places .now) (c .before .before .args .owners .now) (c .before .before .args .n) (c .before .before .args .decls .now) (c .before .before .args .d) _
     (c .before .first-wait .ensures) (c .if1 .taken))
 
-owner-at-requires : tie.Need-owner-at-requires
-owner-at-requires c κs = search needs
-
-strays-requires : tie.Need-strays-requires
-strays-requires c κs = search needs
-
-is-clock-requires : tie.Need-is-clock-requires
-is-clock-requires c κs = search needs
-
-reads-requires : tie.Need-reads-requires
-reads-requires c κs = search needs
-
-lower-requires : tie.Need-lower-requires
-lower-requires c κs = search needs
-
 returns-2 : tie.Need-returns-2
 returns-2 c = judges (c .before .before .before .before .before .before .before .before .args .rows .now) (c .before .before .before .before .before .before .before .before .args .s) (c .before .before .before .before .before .before .before .before .args .codes .now) (c .before .before .before .before .before .before .before .before .args .indices .now) (c .before .before .before .before .before .before .before .before .args .k) (c .before .before .before .before .before .before .before .before .args .places .now) (c .before .before .before .before .before .before .before .before .args .owners .now) (c .before .before .before .before .before .before .before .before .args .n) (c .before .before .before .before .before .before .before .before .args .decls .now) (c .before .before .before .before .before .before .before .before .args .d) _
     (judge-reads (c .before .before .before .before .before .before .before .before .args .rows .now) (c .before .before .before .before .before .before .before .before .args .s) (c .before .before .before .before .before .before .before .before .args .codes .now) (c .before .before .before .before .before .before .before .before .args .indices .now) (c .before .before .before .before .before .before .before .before .args .k) (c .before .before .before .before .before .before .before .before .args .places .now) (c .before .before .before .before .before .before .before .before .args .owners .now) (c .before .before .before .before .before .before .before .before .args .n) (c .before .before .before .before .before .before .before .before .args .decls .now) (c .before .before .before .before .before .before .before .before .args .d) _
     (c .before .before .before .before .before .before .before .first-wait .ensures) (c .before .before .before .before .before .before .if1 .left) _ _ (c .before .before .before .before .before .owner-at .ensures) (c .before .before .before .before .strays .ensures) _ _ (sym (c .before .before .if2 .taken) ∙ c .before .before .before .is-clock .ensures) (c .before .reads .ensures) (c .lower .ensures))
-
-place-at-requires : tie.Need-place-at-requires
-place-at-requires c κs = search needs
-
-offence-requires : tie.Need-offence-requires
-offence-requires c κs = search needs
-
-lower-requires-2 : tie.Need-lower-requires-2
-lower-requires-2 c κs = search needs
 
 returns-3 : tie.Need-returns-3
 returns-3 c = judges (c .before .before .before .before .before .before .before .before .before .args .rows .now) (c .before .before .before .before .before .before .before .before .before .args .s) (c .before .before .before .before .before .before .before .before .before .args .codes .now) (c .before .before .before .before .before .before .before .before .before .args .indices .now) (c .before .before .before .before .before .before .before .before .before .args .k) (c .before .before .before .before .before .before .before .before .before .args .places .now) (c .before .before .before .before .before .before .before .before .before .args .owners .now) (c .before .before .before .before .before .before .before .before .before .args .n) (c .before .before .before .before .before .before .before .before .before .args .decls .now) (c .before .before .before .before .before .before .before .before .before .args .d) _
@@ -52,15 +25,15 @@ pub lowest-place-spec : {M : Type 1} → statement M
 lowest-place-spec =
     tie.close
     (tie.spec
-    first-wait-requires
+    (λ c κs. search needs)
     returns
-    owner-at-requires
-    strays-requires
-    is-clock-requires
-    reads-requires
-    lower-requires
+    (λ c κs. search needs)
+    (λ c κs. search needs)
+    (λ c κs. search needs)
+    (λ c κs. search needs)
+    (λ c κs. search needs)
     returns-2
-    place-at-requires
-    offence-requires
-    lower-requires-2
+    (λ c κs. search needs)
+    (λ c κs. search needs)
+    (λ c κs. search needs)
     returns-3)

@@ -8,30 +8,9 @@ use borrow.Author.Needs.{needs}
 use Rattle.clock.proofs.read_at.Statement.{statement}
 use Rattle.clock.proofs.read_at.Tie as tie
 
-element-copy-out-if1 : tie.Need-element-copy-out-if1
-element-copy-out-if1 c = search needs
-
 returns : tie.Need-returns
 unfolding readAt
 returns c = none-there _ _ _ (c .if1 .taken)
-
-mul-wide : tie.Need-mul-wide
-mul-wide c = search needs
-
-element-copy-out-wide : tie.Need-element-copy-out-wide
-element-copy-out-wide c = search needs
-
-wide-requires : tie.Need-wide-requires
-wide-requires c κs = search needs
-
-owner-at-requires : tie.Need-owner-at-requires
-owner-at-requires c κs = search needs
-
-place-at-requires : tie.Need-place-at-requires
-place-at-requires c κs = search needs
-
-offence-requires : tie.Need-offence-requires
-offence-requires c κs = search needs
 
 returns-2 : tie.Need-returns-2
 unfolding readAt
@@ -41,12 +20,12 @@ pub read-at-spec : {M : Type 1} → statement M
 read-at-spec =
     tie.close
     (tie.spec
-    element-copy-out-if1
+    (λ c. search needs)
     returns
-    mul-wide
-    element-copy-out-wide
-    wide-requires
-    owner-at-requires
-    place-at-requires
-    offence-requires
+    (λ c. search needs)
+    (λ c. search needs)
+    (λ c κs. search needs)
+    (λ c κs. search needs)
+    (λ c κs. search needs)
+    (λ c κs. search needs)
     returns-2)

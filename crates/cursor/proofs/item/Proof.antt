@@ -9,9 +9,6 @@ use Rattle.cursor.proofs.item.Tie as tie
 returns : tie.Need-returns
 returns c = item-stays (c .before .before .args .q) _ (c .if1 .taken)
 
-element-copy-out-if2 : tie.Need-element-copy-out-if2
-element-copy-out-if2 c = search needs
-
 returns-2 : tie.Need-returns-2
 returns-2 c = c .refused .ensures ∙ item-long (c .before .before .before .before .before .args .q) _ (c .before .before .before .if1 .left) (eq-eqb _ _ (c .before .if2 .taken))
 
@@ -24,4 +21,4 @@ returns-4 c = item-taken (c .before .before .before .before .before .before .bef
 pub item-spec : {M : Type 1} → statement M
 item-spec =
     tie.close
-    (tie.spec returns element-copy-out-if2 (λ c κs. search needs) returns-2 (λ c κs. search needs) returns-3 (λ c. search needs) (λ c. search needs) returns-4)
+    (tie.spec returns (λ c. search needs) (λ c κs. search needs) returns-2 (λ c κs. search needs) returns-3 (λ c. search needs) (λ c. search needs) returns-4)

@@ -4,9 +4,6 @@ use borrow.Author.Tests.{lt-ltb, le-ltb}
 use Rattle.cursor.proofs.kind_at.Statement.{statement}
 use Rattle.cursor.proofs.kind_at.Tie as tie
 
-element-copy-out-result : tie.Need-element-copy-out-result
-element-copy-out-result c = search needs
-
 returns : tie.Need-returns
 returns c = rw (lt-ltb (c .before .before .args .at) (c .before .before .args .n) (c .before .if1 .taken))
 
@@ -14,4 +11,4 @@ returns-2 : tie.Need-returns-2
 returns-2 c = rw (le-ltb (c .before .args .at) (c .before .args .n) (c .if1 .left))
 
 pub kind-at-spec : {M : Type 1} → statement M
-kind-at-spec = tie.close (tie.spec element-copy-out-result returns returns-2)
+kind-at-spec = tie.close (tie.spec (λ c. search needs) returns returns-2)

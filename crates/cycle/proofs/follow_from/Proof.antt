@@ -7,42 +7,6 @@ use Rattle.cycle.proofs.Runs.{run-read}
 use Rattle.cycle.proofs.follow_from.Statement.{statement}
 use Rattle.cycle.proofs.follow_from.Tie as tie
 
-first-line-requires : tie.Need-first-line-requires
-first-line-requires c κs = search needs
-
-cast-x : tie.Need-cast-x
-cast-x c = search needs
-
-field-requires : tie.Need-field-requires
-field-requires c κs = search needs
-
-add-limit : tie.Need-add-limit
-add-limit c = search needs
-
-slice-aggregate-variable-types : tie.Need-slice-aggregate-variable-types
-slice-aggregate-variable-types c = search needs
-
-variable-types-requires : tie.Need-variable-types-requires
-variable-types-requires c κs = search needs
-
-input-types-requires : tie.Need-input-types-requires
-input-types-requires c κs = search needs
-
-slice-aggregate-first : tie.Need-slice-aggregate-first
-slice-aggregate-first c = search needs
-
-first-requires : tie.Need-first-requires
-first-requires c κs = search needs
-
-follow-requires : tie.Need-follow-requires
-follow-requires c κs = search needs
-
-same-length : tie.Need-same-length
-same-length c = search needs
-
-same-length-2 : tie.Need-same-length-2
-same-length-2 c = search needs
-
 returns : tie.Need-returns
 returns c t h ok =
     let a = c .before .before .before .before .before .before .before .before .before .before .before .before .before .before .before .before .args in
@@ -57,16 +21,16 @@ pub follow-from-spec : {M : Type 1} → statement M
 follow-from-spec =
     tie.close
     (tie.spec
-    first-line-requires
-    cast-x
-    field-requires
-    add-limit
-    slice-aggregate-variable-types
-    variable-types-requires
-    input-types-requires
-    slice-aggregate-first
-    first-requires
-    follow-requires
-    same-length
-    same-length-2
+    (λ c κs. search needs)
+    (λ c. search needs)
+    (λ c κs. search needs)
+    (λ c. search needs)
+    (λ c. search needs)
+    (λ c κs. search needs)
+    (λ c κs. search needs)
+    (λ c. search needs)
+    (λ c κs. search needs)
+    (λ c κs. search needs)
+    (λ c. search needs)
+    (λ c. search needs)
     returns)

@@ -5,17 +5,8 @@ use Rattle.cycle.proofs.Calls.{state-moves}
 use Rattle.cycle.proofs.judged.Statement.{statement}
 use Rattle.cycle.proofs.judged.Tie as tie
 
-state-ok-requires : tie.Need-state-ok-requires
-state-ok-requires c κs = search needs
-
-run-requires : tie.Need-run-requires
-run-requires c κs = search needs
-
 returns : tie.Need-returns
 returns c t o h right = c .run .ensures t o h right (sym (c .before .before .state-ok .ensures t (c .before .before .before .before .before .before .args .code .now) (h .opens)) ∙ c .before .if1 .taken)
-
-refused-requires : tie.Need-refused-requires
-refused-requires c κs = search needs
 
 returns-2 : tie.Need-returns-2
 returns-2 c t o h right =
@@ -23,4 +14,4 @@ returns-2 c t o h right =
 
 pub judged-spec : {M : Type 1} → statement M
 judged-spec =
-    tie.close (tie.spec state-ok-requires run-requires returns refused-requires returns-2)
+    tie.close (tie.spec (λ c κs. search needs) (λ c κs. search needs) returns (λ c κs. search needs) returns-2)

@@ -5,14 +5,8 @@ use borrow.Author.Needs.{needs}
 use Rattle.encoder.proofs.write.Statement.{statement}
 use Rattle.encoder.proofs.write.Tie as tie
 
-within-requires : tie.Need-within-requires
-within-requires c κs = search needs
-
 write-counted-requires : tie.Need-write-counted-requires
 write-counted-requires c κs = counts-bounds (c .before .before .before .before .before .before .before .args .k) (c .before .before .before .before .before .before .before .args .n) (c .before .before .before .before .before .before .before .args .i) (c .before .before .before .before .before .before .before .args .o) (c .before .before .before .before .before .before .before .args .v) (sym (c .before .before .within .ensures) ∙ c .before .if1 .taken)
-
-same-length : tie.Need-same-length
-same-length c = search needs
 
 returns : tie.Need-returns
 returns c = (c .before .before .write-counted .ensures, λ h. no-count (sym (c .before .before .before .before .before .within .ensures) ∙ c .before .before .before .before .if1 .taken) h)
@@ -21,4 +15,4 @@ returns-2 : tie.Need-returns-2
 returns-2 c = (λ p b m w. no-count (counts-held (c .before .before .before .before .before .before .args .k) (c .before .before .before .before .before .before .args .n) (c .before .before .before .before .before .before .args .i) (c .before .before .before .before .before .before .args .o) (c .before .before .before .before .before .before .args .v) b m w) (sym (c .before .within .ensures) ∙ c .if1 .left), λ h. (refl, refl))
 
 pub write-spec : {M : Type 1} → statement M
-write-spec = tie.close (tie.spec within-requires write-counted-requires same-length returns returns-2)
+write-spec = tie.close (tie.spec (λ c κs. search needs) write-counted-requires (λ c. search needs) returns returns-2)

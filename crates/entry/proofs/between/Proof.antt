@@ -7,35 +7,11 @@ use borrow.Author.Needs.{needs}
 use Rattle.entry.proofs.between.Statement.{statement}
 use Rattle.entry.proofs.between.Tie as tie
 
-sub-result : tie.Need-sub-result
-sub-result c = search needs
-
-part-result-start : tie.Need-part-result-start
-part-result-start c = search needs
-
-part-result-end : tie.Need-part-result-end
-part-result-end c = search needs
-
 returns : tie.Need-returns
 returns c = not-lent (c .before .before .args .bytes) _ (c .before .before .args .start) (c .before .before .args .end) (crossed (now (c .before .before .args .bytes)) (c .before .before .args .start) (c .before .before .args .end) (c .before .if1 .taken)) refl refl (omega arith)
 
-sub-result-2 : tie.Need-sub-result-2
-sub-result-2 c = search needs
-
-part-result-start-2 : tie.Need-part-result-start-2
-part-result-start-2 c = search needs
-
-part-result-end-2 : tie.Need-part-result-end-2
-part-result-end-2 c = search needs
-
 returns-2 : tie.Need-returns-2
 returns-2 c = not-lent (c .before .before .before .args .bytes) _ (c .before .before .before .args .start) (c .before .before .before .args .end) (beyond (now (c .before .before .before .args .bytes)) (c .before .before .before .args .start) (c .before .before .before .args .end) (c .before .before .if1 .left) (c .before .if2 .taken)) refl refl (omega arith)
-
-part-result-start-3 : tie.Need-part-result-start-3
-part-result-start-3 c = search needs
-
-part-result-end-3 : tie.Need-part-result-end-3
-part-result-end-3 c = search needs
 
 returns-3 : tie.Need-returns-3
 returns-3 c = lent (c .before .before .before .args .bytes) _ (c .before .before .before .args .start) (c .before .before .before .args .end) (c .before .before .if1 .left) (c .before .if2 .left) refl refl (omega arith)
@@ -44,14 +20,14 @@ pub between-spec : {M : Type 1} → statement M
 between-spec =
     tie.close
     (tie.spec
-    sub-result
-    part-result-start
-    part-result-end
+    (λ c. search needs)
+    (λ c. search needs)
+    (λ c. search needs)
     returns
-    sub-result-2
-    part-result-start-2
-    part-result-end-2
+    (λ c. search needs)
+    (λ c. search needs)
+    (λ c. search needs)
     returns-2
-    part-result-start-3
-    part-result-end-3
+    (λ c. search needs)
+    (λ c. search needs)
     returns-3)

@@ -6,21 +6,6 @@ use Rattle.answers.specs.Answers.{openTold}
 use Rattle.entry.proofs.find.Statement.{statement}
 use Rattle.entry.proofs.find.Tie as tie
 
-open-requires : tie.Need-open-requires
-open-requires c κs = search needs
-
-enum-known-o : tie.Need-enum-known-o
-enum-known-o c = search needs
-
-enum-known-o-2 : tie.Need-enum-known-o-2
-enum-known-o-2 c = search needs
-
-number-requires : tie.Need-number-requires
-number-requires c κs = search needs
-
-place-requires : tie.Need-place-requires
-place-requires c κs = search needs
-
 returns : tie.Need-returns
 returns c = found-image (c .before .before .before .before .before .args .bytes .now) _ (sym (ap openTold (c .before .o .given .1)) ∙ c .before .before .before .«open» .ensures)
 
@@ -31,10 +16,10 @@ pub find-spec : {M : Type 1} → statement M
 find-spec =
     tie.close
     (tie.spec
-    open-requires
-    enum-known-o
-    enum-known-o-2
-    number-requires
-    place-requires
+    (λ c κs. search needs)
+    (λ c. search needs)
+    (λ c. search needs)
+    (λ c κs. search needs)
+    (λ c κs. search needs)
     returns
     returns-2)

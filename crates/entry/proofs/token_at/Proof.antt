@@ -4,14 +4,8 @@ use borrow.Author.Needs.{needs}
 use Rattle.entry.proofs.token_at.Statement.{statement}
 use Rattle.entry.proofs.token_at.Tie as tie
 
-token-length-requires : tie.Need-token-length-requires
-token-length-requires c κs = search needs
-
-part-requires : tie.Need-part-requires
-part-requires c κs = search needs
-
 returns : tie.Need-returns
 returns c = token-lent _ _ _ _ (c .before .token-length .ensures) (c .part .ensures)
 
 pub token-at-spec : {M : Type 1} → statement M
-token-at-spec = tie.close (tie.spec token-length-requires part-requires returns)
+token-at-spec = tie.close (tie.spec (λ c κs. search needs) (λ c κs. search needs) returns)

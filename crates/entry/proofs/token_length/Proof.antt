@@ -5,11 +5,8 @@ use borrow.Author.Needs.{needs}
 use Rattle.entry.proofs.token_length.Statement.{statement}
 use Rattle.entry.proofs.token_length.Tie as tie
 
-token-at-requires : tie.Need-token-at-requires
-token-at-requires c κs = search needs
-
 returns : tie.Need-returns
 returns c = ap length (c .token-at .ensures)
 
 pub token-length-spec : {M : Type 1} → statement M
-token-length-spec = tie.close (tie.spec token-at-requires returns)
+token-length-spec = tie.close (tie.spec (λ c κs. search needs) returns)

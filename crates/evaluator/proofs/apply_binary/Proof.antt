@@ -23,18 +23,6 @@ returns c =
     let s = c .before .args in
     stopped (s .stack .now) (s .tags .now) (s .depth) 13 (c .before .pre) (binary-short (s .stack .now) (s .tags .now) (s .depth) (s .at) (binaryFor (s .op)) (c .if1 .taken))
 
-sub-j : tie.Need-sub-j
-sub-j c = search needs
-
-sub-i : tie.Need-sub-i
-sub-i c = search needs
-
-element-copy-out-t : tie.Need-element-copy-out-t
-element-copy-out-t c = search needs
-
-element-copy-out-if2 : tie.Need-element-copy-out-if2
-element-copy-out-if2 c = search needs
-
 returns-2 : tie.Need-returns-2
 returns-2 c =
     let s = c .before .before .before .before .args in
@@ -48,9 +36,6 @@ returns-2 c =
     (sym (binary-more a t (s .depth) (s .at) (binaryFor (s .op)) h
     ∙ ap (λ (o : Out Cell). pushed o (s .at) (cellsOf a t i)) (types-differ (s .op) (typeOn (getD t i 0)) (typeOn (getD t j 0)) (getD a i (pos 0)) (getD a j (pos 0))
     (λ q. c .if2 .taken (m .kinds i (omega arith) ∙ (q ∙ sym (m .kinds j (omega arith))))))))
-
-apply-binary-requires : tie.Need-apply-binary-requires
-apply-binary-requires c κs = search needs
 
 returns-3 : tie.Need-returns-3
 returns-3 c =
@@ -68,15 +53,6 @@ returns-3 c =
     (binary-more a t (s .depth) (s .at) (binaryFor (s .op)) h)
     (rw (← c .before .before .before .if2 .left) (binary-told (s .op) (getD t i 0) (resultFor (s .op) (getD t i 0)) (typeOn (getD t i 0)) x y (m .kinds i (omega arith)) refl))
     (rw k at (c .before .apply-binary .ensures)) (c .if3 .taken) (room-less (s .depth) i (omega arith) m)
-
-result-type-requires : tie.Need-result-type-requires
-result-type-requires c κs = search needs
-
-element-write-tags : tie.Need-element-write-tags
-element-write-tags c = search needs
-
-add-t19 : tie.Need-add-t19
-add-t19 c = search needs
 
 returns-4 : tie.Need-returns-4
 returns-4 c =
@@ -100,14 +76,14 @@ apply-binary-spec =
     tie.close
     (tie.spec
     returns
-    sub-j
-    sub-i
-    element-copy-out-t
-    element-copy-out-if2
+    (λ c. search needs)
+    (λ c. search needs)
+    (λ c. search needs)
+    (λ c. search needs)
     returns-2
-    apply-binary-requires
+    (λ c κs. search needs)
     returns-3
-    result-type-requires
-    element-write-tags
-    add-t19
+    (λ c κs. search needs)
+    (λ c. search needs)
+    (λ c. search needs)
     returns-4)

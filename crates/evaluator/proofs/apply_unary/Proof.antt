@@ -20,12 +20,6 @@ returns c =
     let s = c .before .args in
     stopped (s .stack .now) (s .tags .now) (s .depth) 13 (c .before .pre) (unary-short (s .stack .now) (s .tags .now) (s .depth) (s .at) (unaryFor (s .op)) (c .if1 .taken))
 
-element-copy-out-t : tie.Need-element-copy-out-t
-element-copy-out-t c = search needs
-
-apply-unary-requires : tie.Need-apply-unary-requires
-apply-unary-requires c κs = search needs
-
 returns-2 : tie.Need-returns-2
 returns-2 c =
     let s = c .before .before .before .before .before .args in
@@ -37,15 +31,6 @@ returns-2 c =
     (unary-more a t (s .depth) (s .at) (unaryFor (s .op)) (c .before .before .before .before .if1 .left))
     (unary-told (s .op) (getD t i 0) (resultFor (s .op) (getD t i 0)) (typeOn (getD t i 0)) (getD a i (pos 0)) (m .kinds i (omega (arith, c .before .before .before .before .if1 .left))) refl)
     (c .before .apply-unary .ensures) (c .if2 .taken) (room-less (s .depth) i (omega arith) m)
-
-result-type-requires : tie.Need-result-type-requires
-result-type-requires c κs = search needs
-
-element-write-tags : tie.Need-element-write-tags
-element-write-tags c = search needs
-
-add-t16 : tie.Need-add-t16
-add-t16 c = search needs
 
 returns-3 : tie.Need-returns-3
 returns-3 c =
@@ -64,10 +49,10 @@ apply-unary-spec =
     tie.close
     (tie.spec
     returns
-    element-copy-out-t
-    apply-unary-requires
+    (λ c. search needs)
+    (λ c κs. search needs)
     returns-2
-    result-type-requires
-    element-write-tags
-    add-t16
+    (λ c κs. search needs)
+    (λ c. search needs)
+    (λ c. search needs)
     returns-3)

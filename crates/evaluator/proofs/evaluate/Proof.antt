@@ -12,26 +12,11 @@ returns c =
     let M = machineFor (s .input-types .now) (s .variable-types .now) (s .inputs .now) (s .variables .now) in
     (part-outside M (s .code .now) (s .start) (s .size) (let h = c .if1 .taken in omega arith), c .before .before .before .before .pre)
 
-sub-if2 : tie.Need-sub-if2
-sub-if2 c = search needs
-
 returns-2 : tie.Need-returns-2
 returns-2 c =
     let s = c .before .before .before .before .before .args in
     let M = machineFor (s .input-types .now) (s .variable-types .now) (s .inputs .now) (s .variables .now) in
     (part-outside M (s .code .now) (s .start) (s .size) (let h = c .if2 .taken in omega arith), c .before .before .before .before .before .pre)
-
-add-end : tie.Need-add-end
-add-end c = search needs
-
-sub-run : tie.Need-sub-run
-sub-run c = search needs
-
-part-run-start : tie.Need-part-run-start
-part-run-start c = search needs
-
-part-run-end : tie.Need-part-run-end
-part-run-end c = search needs
 
 run-requires : tie.Need-run-requires
 run-requires c κs = c .before .before .before .before .before .before .before .before .pre
@@ -47,11 +32,11 @@ evaluate-spec =
     tie.close
     (tie.spec
     returns
-    sub-if2
+    (λ c. search needs)
     returns-2
-    add-end
-    sub-run
-    part-run-start
-    part-run-end
+    (λ c. search needs)
+    (λ c. search needs)
+    (λ c. search needs)
+    (λ c. search needs)
     run-requires
     returns-3)

@@ -7,24 +7,6 @@ use borrow.Author.Needs.{needs}
 use Rattle.evaluator.proofs.keep.Statement.{statement}
 use Rattle.evaluator.proofs.keep.Tie as tie
 
-enum-known-e : tie.Need-enum-known-e
-enum-known-e c = search needs
-
-mul-v : tie.Need-mul-v
-mul-v c = search needs
-
-element-set-from-v : tie.Need-element-set-from-v
-element-set-from-v c = search needs
-
-element-write-tags : tie.Need-element-write-tags
-element-write-tags c = search needs
-
-add-t11 : tie.Need-add-t11
-add-t11 c = search needs
-
-enum-known-e-2 : tie.Need-enum-known-e-2
-enum-known-e-2 c = search needs
-
 returns : tie.Need-returns
 returns c =
     let s = c .before .before .before .before .args in
@@ -41,11 +23,11 @@ pub keep-spec : {M : Type 1} → statement M
 keep-spec =
     tie.close
     (tie.spec
-    enum-known-e
-    mul-v
-    element-set-from-v
-    element-write-tags
-    add-t11
-    enum-known-e-2
+    (λ c. search needs)
+    (λ c. search needs)
+    (λ c. search needs)
+    (λ c. search needs)
+    (λ c. search needs)
+    (λ c. search needs)
     returns
     returns-2)

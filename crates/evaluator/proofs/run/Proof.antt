@@ -36,9 +36,6 @@ returns c =
 step-requires : tie.Need-step-requires Inv-loop μ-loop
 step-requires c κs = (c .before .before .before .before .loop .inv .room, c .before .before .before .loop-test .taken)
 
-enum-known-next : tie.Need-enum-known-next Inv-loop μ-loop
-enum-known-next c = search needs
-
 sub-left : tie.Need-sub-left Inv-loop μ-loop
 sub-left c = let h = c .before .before .before .before .before .before .if1 .left in omega arith
 
@@ -53,21 +50,12 @@ loop-again c =
     left-again M (s .code .now) (m .stack) (m .tags) (m .depth) (m .at) (m .left) _ _ (c .before .before .before .step .result) (c .before .next .given .0 .0) (c .before .next .given .0 .1 .0) (m .inv) (c .before .before .before .before .before .before .if1 .left) (c .before .before .before .before .before .before .before .loop-test .taken)
     (c .before .before .before .step .ensures) (c .before .next .given .1)
 
-enum-known-next-2 : tie.Need-enum-known-next-2 Inv-loop μ-loop
-enum-known-next-2 c = search needs
-
 returns-2 : tie.Need-returns-2 Inv-loop μ-loop
 returns-2 c =
     let s = c .before .before .before .before .before .before .before .before .before .before .before .before .args in
     let m = c .before .before .before .before .before .before .before .before .loop in
     let M = machineFor (s .input-types .now) (s .variable-types .now) (s .inputs .now) (s .variables .now) in
     (left-stop M (s .code .now) (m .stack) (m .tags) (m .depth) (m .at) (m .left) _ _ (c .before .before .before .step .result) (c .before .next2 .given .0 .0) (m .inv) (c .before .before .before .before .before .before .if1 .left) (c .before .before .before .before .before .before .before .loop-test .taken) (c .before .before .before .step .ensures) (c .before .next2 .given .1), room-less _ 0 (omega arith) (c .before .before .before .step .ensures .room))
-
-element-copy-out-t22 : tie.Need-element-copy-out-t22 Inv-loop μ-loop
-element-copy-out-t22 c = search needs
-
-element-copy-out-t25 : tie.Need-element-copy-out-t25 Inv-loop μ-loop
-element-copy-out-t25 c = search needs
 
 returns-3 : tie.Need-returns-3 Inv-loop μ-loop
 returns-3 c =
@@ -93,13 +81,13 @@ run-spec =
     loop-holds
     returns
     step-requires
-    enum-known-next
+    (λ c. search needs)
     sub-left
     loop-less
     loop-again
-    enum-known-next-2
+    (λ c. search needs)
     returns-2
-    element-copy-out-t22
-    element-copy-out-t25
+    (λ c. search needs)
+    (λ c. search needs)
     returns-3
     returns-4)

@@ -6,17 +6,11 @@ use borrow.Author.Needs.{needs}
 use Rattle.exports.proofs.rabtishu_compile.Statement.{statement}
 use Rattle.exports.proofs.rabtishu_compile.Tie as tie
 
-compile-requires : tie.Need-compile-requires
-compile-requires c κs = search needs
-
 compiled-requires : tie.Need-compiled-requires
 compiled-requires c κs = compile-narrow _ _ (c .before .before .compile .result) (c .before .before .compile .ensures .0)
-
-same-length : tie.Need-same-length
-same-length c = search needs
 
 returns : tie.Need-returns
 returns c = (c .compiled .ensures ∙ ap numbersOf (c .before .before .before .compile .ensures .0), c .before .before .before .compile .ensures .1)
 
 pub rabtishu-compile-spec : {M : Type 1} → statement M
-rabtishu-compile-spec = tie.close (tie.spec compile-requires compiled-requires same-length returns)
+rabtishu-compile-spec = tie.close (tie.spec (λ c κs. search needs) compiled-requires (λ c. search needs) returns)

@@ -7,38 +7,17 @@ use borrow.Author.Needs.{needs}
 use Rattle.exports.proofs.rabtishu_cycles.Statement.{statement}
 use Rattle.exports.proofs.rabtishu_cycles.Tie as tie
 
-to-state-requires : tie.Need-to-state-requires
-to-state-requires c κs = search needs
-
-cycles-requires : tie.Need-cycles-requires
-cycles-requires c κs = search needs
-
 batched-requires : tie.Need-batched-requires
 batched-requires c κs =
     let z = c .before .before .before .before .before .before .before .before .before .before in
     let h = all-bytes (z .args .image .now) (λ k. omega (arith, c .before .before .before .before .before .before .before .before .before .shared-slice-known .given k)) in
     batch-narrow (z .args .image .now) h (c .before .before .before .before .before .before .to-state .result) (z .args .count) (z .args .inputs .now) (z .args .outputs .now) (z .args .answers .now) (c .before .before .before .cycles .result .answer) (c .before .before .before .cycles .ensures .answer)
 
-from-state-requires : tie.Need-from-state-requires
-from-state-requires c κs = search needs
-
-same-length : tie.Need-same-length
-same-length c = search needs
-
-same-length-2 : tie.Need-same-length-2
-same-length-2 c = search needs
-
 returns : tie.Need-returns
 returns c =
     let z = c .before .before .before .before .before .before .before .before .before .before .before .before .before .before in
     let y = c .before .before .before .before .before .before .before .cycles in
     rows-stored (z .args .image .now) (z .args .state .now) (z .args .count) (z .args .inputs .now) (z .args .outputs .now) (z .args .answers .now) _ (y .result) _ _ _ _ (c .before .before .before .before .before .before .before .before .before .before .to-state .ensures) (y .ensures) (c .before .before .before .batched .ensures) (c .before .before .if1 .taken) (c .from-state .ensures)
-
-same-length-3 : tie.Need-same-length-3
-same-length-3 c = search needs
-
-same-length-4 : tie.Need-same-length-4
-same-length-4 c = search needs
 
 returns-2 : tie.Need-returns-2
 returns-2 c =
@@ -50,13 +29,13 @@ pub rabtishu-cycles-spec : {M : Type 1} → statement M
 rabtishu-cycles-spec =
     tie.close
     (tie.spec
-    to-state-requires
-    cycles-requires
+    (λ c κs. search needs)
+    (λ c κs. search needs)
     batched-requires
-    from-state-requires
-    same-length
-    same-length-2
+    (λ c κs. search needs)
+    (λ c. search needs)
+    (λ c. search needs)
     returns
-    same-length-3
-    same-length-4
+    (λ c. search needs)
+    (λ c. search needs)
     returns-2)

@@ -6,17 +6,8 @@ use borrow.Author.Needs.{needs}
 use Rattle.exports.proofs.rabtishu_direct_fresh.Statement.{statement}
 use Rattle.exports.proofs.rabtishu_direct_fresh.Tie as tie
 
-fresh-requires : tie.Need-fresh-requires
-fresh-requires c κs = search needs
-
 started-requires : tie.Need-started-requires
 started-requires c κs = direct-fresh-narrow (c .before .before .args .text .now) (c .fresh .result .answer) (c .fresh .ensures .0)
-
-is-fresh-requires : tie.Need-is-fresh-requires
-is-fresh-requires c κs = search needs
-
-from-state-requires : tie.Need-from-state-requires
-from-state-requires c κs = search needs
 
 returns : tie.Need-returns
 returns c =
@@ -34,9 +25,9 @@ pub rabtishu-direct-fresh-spec : {M : Type 1} → statement M
 rabtishu-direct-fresh-spec =
     tie.close
     (tie.spec
-    fresh-requires
+    (λ c κs. search needs)
     started-requires
-    is-fresh-requires
-    from-state-requires
+    (λ c κs. search needs)
+    (λ c κs. search needs)
     returns
     returns-2)

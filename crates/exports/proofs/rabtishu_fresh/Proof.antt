@@ -8,19 +8,10 @@ use borrow.Author.Needs.{needs}
 use Rattle.exports.proofs.rabtishu_fresh.Statement.{statement}
 use Rattle.exports.proofs.rabtishu_fresh.Tie as tie
 
-fresh-requires : tie.Need-fresh-requires
-fresh-requires c κs = search needs
-
 started-requires : tie.Need-started-requires
 started-requires c κs =
     let b = c .before .before .args .image .now in
     fresh-narrow b (all-bytes b (λ k. omega (arith, c .before .shared-slice-known .given k))) (c .fresh .result .answer) (c .fresh .ensures .0)
-
-is-fresh-requires : tie.Need-is-fresh-requires
-is-fresh-requires c κs = search needs
-
-from-state-requires : tie.Need-from-state-requires
-from-state-requires c κs = search needs
 
 returns : tie.Need-returns
 returns c =
@@ -38,9 +29,9 @@ pub rabtishu-fresh-spec : {M : Type 1} → statement M
 rabtishu-fresh-spec =
     tie.close
     (tie.spec
-    fresh-requires
+    (λ c κs. search needs)
     started-requires
-    is-fresh-requires
-    from-state-requires
+    (λ c κs. search needs)
+    (λ c κs. search needs)
     returns
     returns-2)

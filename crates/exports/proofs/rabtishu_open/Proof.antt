@@ -12,9 +12,6 @@ use borrow.Author.Needs.{needs}
 use Rattle.exports.proofs.rabtishu_open.Statement.{statement}
 use Rattle.exports.proofs.rabtishu_open.Tie as tie
 
-open-requires : tie.Need-open-requires
-open-requires c κs = search needs
-
 opened-requires : tie.Need-opened-requires
 opened-requires c κs =
     let b = c .before .before .args .image .now in
@@ -26,4 +23,4 @@ returns c =
     c .opened .ensures ∙ (ap (λ (t : Told Sections). numbersOf (uncounted t)) (c .before .«open» .ensures) ∙ opened-numbers b (openOf b))
 
 pub rabtishu-open-spec : {M : Type 1} → statement M
-rabtishu-open-spec = tie.close (tie.spec open-requires opened-requires returns)
+rabtishu-open-spec = tie.close (tie.spec (λ c κs. search needs) opened-requires returns)

@@ -5,11 +5,8 @@ use borrow.Author.Needs.{needs}
 use Rattle.exports.proofs.rabtishu_token_at.Statement.{statement}
 use Rattle.exports.proofs.rabtishu_token_at.Tie as tie
 
-token-at-requires : tie.Need-token-at-requires
-token-at-requires c κs = search needs
-
 returns : tie.Need-returns
 returns c = ap length (c .token-at .ensures)
 
 pub rabtishu-token-at-spec : {M : Type 1} → statement M
-rabtishu-token-at-spec = tie.close (tie.spec token-at-requires returns)
+rabtishu-token-at-spec = tie.close (tie.spec (λ c κs. search needs) returns)

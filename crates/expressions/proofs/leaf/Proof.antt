@@ -20,17 +20,11 @@ use Rattle.expressions.proofs.leaf.Tie as tie
 returns : tie.Need-returns
 returns c parens low = reads-stays primaryPart postfix (number noToken) _ (c .before .before .pre .0) (c .if1 .taken)
 
-kind-at-requires : tie.Need-kind-at-requires
-kind-at-requires c κs = search needs
-
 item-requires : tie.Need-item-requires
 item-requires c κs =
     let s = c .before .before .before .args in
     let i = kind-inside (s .kinds .now) (s .n) (s .q .at) (kindIn (s .kinds .now) (s .n) (s .q .at)) refl (some-kind operands (lit< tt, (lit< tt, (lit< tt, (lit< tt, tt)))) _ (c .before .before .before .pre .1)) in
     omega arith
-
-leaf-code-requires : tie.Need-leaf-code-requires
-leaf-code-requires c κs = search needs
 
 put-requires : tie.Need-put-requires
 put-requires c κs =
@@ -46,4 +40,4 @@ returns-2 c parens low =
     primary-leaf (c .before .before .before .before .before .before .before .before .pre .0) low (c .before .before .before .before .before .before .if1 .left) (k .result) (subst (λ (j : ℕ). oneOf j operands ≡ true) (sym (k .ensures)) (c .before .before .before .before .before .before .before .before .pre .1)) (sym (k .ensures)) _ _ (c .before .before .before .before .item .ensures) (rw (c .before .leaf-code .ensures) at (c .put .ensures))
 
 pub leaf-spec : {M : Type 1} → statement M
-leaf-spec = tie.close (tie.spec returns kind-at-requires item-requires leaf-code-requires put-requires returns-2)
+leaf-spec = tie.close (tie.spec returns (λ c κs. search needs) item-requires (λ c κs. search needs) put-requires returns-2)

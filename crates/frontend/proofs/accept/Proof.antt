@@ -5,21 +5,6 @@ use borrow.Author.Needs.{needs}
 use Rattle.frontend.proofs.accept.Statement.{statement}
 use Rattle.frontend.proofs.accept.Tie as tie
 
-lex-requires : tie.Need-lex-requires
-lex-requires c κs = search needs
-
-enum-known-lexed : tie.Need-enum-known-lexed
-enum-known-lexed c = search needs
-
-mark-requires : tie.Need-mark-requires
-mark-requires c κs = search needs
-
-parsed-text-requires : tie.Need-parsed-text-requires
-parsed-text-requires c κs = search needs
-
-enum-known-lexed-2 : tie.Need-enum-known-lexed-2
-enum-known-lexed-2 c = search needs
-
 returns : tie.Need-returns
 returns c = λ z. front-lexed _ _ _ _ _ _ _ _ _ _ (c .parsed-text .result) _ _ (c .before .before .before .before .before .before .before .before .before .before .before .before .before .before .before .before .before .before .before .lexed .given .1) (c .before .before .before .before .before .before .before .before .before .before .before .before .before .before .before .before .before .before .before .before .before .lex .ensures) (c .before .before .before .before .before .before .before .before .before .before .before .before .before .mark .ensures) refl refl refl refl (λ l ts t w h. c .parsed-text .ensures z l ts t w h)
 
@@ -30,10 +15,10 @@ pub accept-spec : {M : Type 1} → statement M
 accept-spec =
     tie.close
     (tie.spec
-    lex-requires
-    enum-known-lexed
-    mark-requires
-    parsed-text-requires
-    enum-known-lexed-2
+    (λ c κs. search needs)
+    (λ c. search needs)
+    (λ c κs. search needs)
+    (λ c κs. search needs)
+    (λ c. search needs)
     returns
     returns-2)

@@ -5,24 +5,6 @@ use borrow.Author.Needs.{needs}
 use Rattle.frontend.proofs.parsed_text.Statement.{statement}
 use Rattle.frontend.proofs.parsed_text.Tie as tie
 
-parse-requires : tie.Need-parse-requires
-parse-requires c κs = search needs
-
-enum-known-parsing : tie.Need-enum-known-parsing
-enum-known-parsing c = search needs
-
-ruled-text-requires : tie.Need-ruled-text-requires
-ruled-text-requires c κs = search needs
-
-enum-known-parsing-2 : tie.Need-enum-known-parsing-2
-enum-known-parsing-2 c = search needs
-
-place-of-requires : tie.Need-place-of-requires
-place-of-requires c κs = search needs
-
-unread-requires : tie.Need-unread-requires
-unread-requires c κs = search needs
-
 returns : tie.Need-returns
 returns c = λ z w ts T Q h. front-tree _ ts (c .before .before .before .before .before .before .before .before .before .before .before .before .before .before .before .before .before .parse .ensures .reads ts (T .short) h) T (c .ruled-text .result) _ _ (c .before .before .before .before .before .before .before .before .before .before .before .before .before .before .before .parsing .given .1) Q refl refl refl refl (λ t i. c .ruled-text .ensures z w ts t i)
 
@@ -33,11 +15,11 @@ pub parsed-text-spec : {M : Type 1} → statement M
 parsed-text-spec =
     tie.close
     (tie.spec
-    parse-requires
-    enum-known-parsing
-    ruled-text-requires
-    enum-known-parsing-2
-    place-of-requires
-    unread-requires
+    (λ c κs. search needs)
+    (λ c. search needs)
+    (λ c κs. search needs)
+    (λ c. search needs)
+    (λ c κs. search needs)
+    (λ c κs. search needs)
     returns
     returns-2)

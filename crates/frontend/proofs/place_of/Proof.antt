@@ -9,12 +9,6 @@ use borrow.Author.Needs.{needs}
 use Rattle.frontend.proofs.place_of.Statement.{statement}
 use Rattle.frontend.proofs.place_of.Tie as tie
 
-place-at-requires : tie.Need-place-at-requires
-place-at-requires c κs = search needs
-
-cast-result : tie.Need-cast-result
-cast-result c = search needs
-
 returns : tie.Need-returns
 returns c = picked (ltb (c .before .before .args .i) (c .before .before .args .n)) _ (c .before .before .args .length) _ (lt-ltb _ _ (c .before .if1 .taken)) (c .place-at .ensures)
 
@@ -22,4 +16,4 @@ returns-2 : tie.Need-returns-2
 returns-2 c = passed (ltb (c .before .args .i) (c .before .args .n)) (numberIn (now (c .before .args .starts)) (c .before .args .n) (c .before .args .i)) (c .before .args .length) _ (le-ltb _ _ (c .if1 .left)) refl
 
 pub place-of-spec : {M : Type 1} → statement M
-place-of-spec = tie.close (tie.spec place-at-requires cast-result returns returns-2)
+place-of-spec = tie.close (tie.spec (λ c κs. search needs) (λ c. search needs) returns returns-2)

@@ -5,21 +5,6 @@ use borrow.Author.Needs.{needs}
 use Rattle.frontend.proofs.ruled_text.Statement.{statement}
 use Rattle.frontend.proofs.ruled_text.Tie as tie
 
-resolve-requires : tie.Need-resolve-requires
-resolve-requires c κs = search needs
-
-judge-requires : tie.Need-judge-requires
-judge-requires c κs = search needs
-
-enum-told : tie.Need-enum-told
-enum-told c = search needs
-
-lay-out-requires : tie.Need-lay-out-requires
-lay-out-requires c κs = search needs
-
-enum-known-ruling : tie.Need-enum-known-ruling
-enum-known-ruling c = search needs
-
 returns : tie.Need-returns
 returns c = λ z w ts t i. front-free (c .before .before .before .before .before .before .before .before .before .before .before .before .judge .ensures) (c .before .before .before .before .before .before .before .before .before .before .before .before .before .before .resolve .ensures) w ts t i _ (c .before .before .before .before .before .before .before .before .before .before .enum-told .given .1) (c .lay-out .ensures z)
 
@@ -30,10 +15,10 @@ pub ruled-text-spec : {M : Type 1} → statement M
 ruled-text-spec =
     tie.close
     (tie.spec
-    resolve-requires
-    judge-requires
-    enum-told
-    lay-out-requires
-    enum-known-ruling
+    (λ c κs. search needs)
+    (λ c κs. search needs)
+    (λ c. search needs)
+    (λ c κs. search needs)
+    (λ c. search needs)
     returns
     returns-2)

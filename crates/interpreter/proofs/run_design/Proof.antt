@@ -5,39 +5,6 @@ use borrow.Author.Needs.{needs}
 use Rattle.interpreter.proofs.run_design.Statement.{statement}
 use Rattle.interpreter.proofs.run_design.Tie as tie
 
-sub-advance : tie.Need-sub-advance
-sub-advance c = search needs
-
-part-advance-start : tie.Need-part-advance-start
-part-advance-start c = search needs
-
-part-advance-end : tie.Need-part-advance-end
-part-advance-end c = search needs
-
-sub-advance-2 : tie.Need-sub-advance-2
-sub-advance-2 c = search needs
-
-part-advance-start-2 : tie.Need-part-advance-start-2
-part-advance-start-2 c = search needs
-
-part-advance-end-2 : tie.Need-part-advance-end-2
-part-advance-end-2 c = search needs
-
-sub-advance-3 : tie.Need-sub-advance-3
-sub-advance-3 c = search needs
-
-part-advance-start-3 : tie.Need-part-advance-start-3
-part-advance-start-3 c = search needs
-
-part-advance-end-3 : tie.Need-part-advance-end-3
-part-advance-end-3 c = search needs
-
-advance-requires : tie.Need-advance-requires
-advance-requires c κs = search needs
-
-same-length : tie.Need-same-length
-same-length c = search needs
-
 returns : tie.Need-returns
 returns c =
     λ p ps qs h w.
@@ -48,15 +15,15 @@ pub run-design-spec : {M : Type 1} → statement M
 run-design-spec =
     tie.close
     (tie.spec
-    sub-advance
-    part-advance-start
-    part-advance-end
-    sub-advance-2
-    part-advance-start-2
-    part-advance-end-2
-    sub-advance-3
-    part-advance-start-3
-    part-advance-end-3
-    advance-requires
-    same-length
+    (λ c. search needs)
+    (λ c. search needs)
+    (λ c. search needs)
+    (λ c. search needs)
+    (λ c. search needs)
+    (λ c. search needs)
+    (λ c. search needs)
+    (λ c. search needs)
+    (λ c. search needs)
+    (λ c κs. search needs)
+    (λ c. search needs)
     returns)

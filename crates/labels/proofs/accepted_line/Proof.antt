@@ -5,24 +5,6 @@ use borrow.Author.Needs.{needs}
 use Rattle.labels.proofs.accepted_line.Statement.{statement}
 use Rattle.labels.proofs.accepted_line.Tie as tie
 
-lex-requires : tie.Need-lex-requires
-lex-requires c κs = search needs
-
-enum-known-lexed : tie.Need-enum-known-lexed
-enum-known-lexed c = search needs
-
-mark-requires : tie.Need-mark-requires
-mark-requires c κs = search needs
-
-parsed-line-requires : tie.Need-parsed-line-requires
-parsed-line-requires c κs = search needs
-
-enum-told : tie.Need-enum-told
-enum-told c = search needs
-
-blank-requires : tie.Need-blank-requires
-blank-requires c κs = search needs
-
 returns : tie.Need-returns
 returns c = λ p v. line-lexed _ _ _ _ _ _ _ _ _ _ _ _ p v (c .before .before .before .before .before .before .before .before .before .before .before .lexed .given .1) (c .before .before .before .before .before .before .before .before .before .before .before .before .before .lex .ensures) (c .before .before .before .before .before .mark .ensures) refl refl refl refl (c .parsed-line .ensures)
 
@@ -33,11 +15,11 @@ pub accepted-line-spec : {M : Type 1} → statement M
 accepted-line-spec =
     tie.close
     (tie.spec
-    lex-requires
-    enum-known-lexed
-    mark-requires
-    parsed-line-requires
-    enum-told
-    blank-requires
+    (λ c κs. search needs)
+    (λ c. search needs)
+    (λ c κs. search needs)
+    (λ c κs. search needs)
+    (λ c. search needs)
+    (λ c κs. search needs)
     returns
     returns-2)

@@ -5,21 +5,6 @@ use borrow.Author.Needs.{needs}
 use Rattle.labels.proofs.parsed_line.Statement.{statement}
 use Rattle.labels.proofs.parsed_line.Tie as tie
 
-parse-requires : tie.Need-parse-requires
-parse-requires c κs = search needs
-
-enum-known-parsing : tie.Need-enum-known-parsing
-enum-known-parsing c = search needs
-
-declared-line-requires : tie.Need-declared-line-requires
-declared-line-requires c κs = search needs
-
-enum-told : tie.Need-enum-told
-enum-told c = search needs
-
-blank-requires : tie.Need-blank-requires
-blank-requires c κs = search needs
-
 returns : tie.Need-returns
 returns c = λ ts t T Q h a. line-tree ts t (c .before .before .before .before .before .parse .ensures .reads ts (T .short) h) T a (c .before .before .before .parsing .given .1) Q refl refl refl refl (c .declared-line .ensures)
 
@@ -30,10 +15,10 @@ pub parsed-line-spec : {M : Type 1} → statement M
 parsed-line-spec =
     tie.close
     (tie.spec
-    parse-requires
-    enum-known-parsing
-    declared-line-requires
-    enum-told
-    blank-requires
+    (λ c κs. search needs)
+    (λ c. search needs)
+    (λ c κs. search needs)
+    (λ c. search needs)
+    (λ c κs. search needs)
     returns
     returns-2)

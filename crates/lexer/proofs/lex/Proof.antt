@@ -19,33 +19,12 @@ abbrev μ-loop : tie.MeasureT-loop
 returns : tie.Need-returns Inv-loop μ-loop
 returns c = too-long _ _ _ _ (c .if1 .taken)
 
-table-requires : tie.Need-table-requires Inv-loop μ-loop
-table-requires c κs = search needs
-
 loop-holds : tie.Need-loop-holds Inv-loop μ-loop
 loop-holds c = fill-first _ _ _ _
-
-shared-slice-read-is-blank : tie.Need-shared-slice-read-is-blank Inv-loop μ-loop
-shared-slice-read-is-blank c = search needs
-
-is-blank-requires : tie.Need-is-blank-requires Inv-loop μ-loop
-is-blank-requires c κs = search needs
-
-add-i : tie.Need-add-i Inv-loop μ-loop
-add-i c = search needs
-
-loop-less : tie.Need-loop-less Inv-loop μ-loop
-loop-less c = search needs
 
 loop-again : tie.Need-loop-again Inv-loop μ-loop
 loop-again c = fill-gap _ _ _ _ _ _ _ _ _ (c .before .before .before .before .before .loop .inv) _
     (blank-gapped _ _ (c .before .before .before .before .loop-test .taken) (flag (c .before .is-blank .ensures) (c .if2 .taken)))
-
-piece-at-requires : tie.Need-piece-at-requires Inv-loop μ-loop
-piece-at-requires c κs = search needs
-
-enum-known-end : tie.Need-enum-known-end Inv-loop μ-loop
-enum-known-end c = search needs
 
 loop-less-2 : tie.Need-loop-less-2 Inv-loop μ-loop
 loop-less-2 c = let g = gapped _ _ _ (c .before .before .before .before .before .before .before .before .before .loop-test .taken) (c .before .before .before .piece-at .ensures) _
@@ -55,21 +34,6 @@ loop-again-2 : tie.Need-loop-again-2 Inv-loop μ-loop
 loop-again-2 c = fill-gap _ _ _ _ _ _ _ _ _ (c .before .before .before .before .before .before .before .before .before .before .loop .inv) _
     (gapped _ _ _ (c .before .before .before .before .before .before .before .before .before .loop-test .taken) (c .before .before .before .piece-at .ensures) _ (c .before .end .given .1))
 
-enum-known-kind : tie.Need-enum-known-kind Inv-loop μ-loop
-enum-known-kind c = search needs
-
-element-write-kinds : tie.Need-element-write-kinds Inv-loop μ-loop
-element-write-kinds c = search needs
-
-cast-starts : tie.Need-cast-starts Inv-loop μ-loop
-cast-starts c = search needs
-
-mul-starts : tie.Need-mul-starts Inv-loop μ-loop
-mul-starts c = search needs
-
-element-write-starts : tie.Need-element-write-starts Inv-loop μ-loop
-element-write-starts c = search needs
-
 sub-sizes : tie.Need-sub-sizes Inv-loop μ-loop
 sub-sizes c = let g = tokened _ _ _ (c .before .before .before .before .before .before .before .before .before .loop-test .taken) (c .before .before .before .piece-at .ensures) _ _
     (c .before .kind .given .1) in omega arith
@@ -77,15 +41,6 @@ sub-sizes c = let g = tokened _ _ _ (c .before .before .before .before .before .
 cast-sizes : tie.Need-cast-sizes Inv-loop μ-loop
 cast-sizes c = let g = tokened _ _ _ (c .before .before .before .before .before .before .before .before .before .loop-test .taken) (c .before .before .before .piece-at .ensures) _ _
     (c .before .kind .given .1) in omega arith
-
-mul-sizes : tie.Need-mul-sizes Inv-loop μ-loop
-mul-sizes c = search needs
-
-element-write-sizes : tie.Need-element-write-sizes Inv-loop μ-loop
-element-write-sizes c = search needs
-
-add-n : tie.Need-add-n Inv-loop μ-loop
-add-n c = search needs
 
 loop-less-3 : tie.Need-loop-less-3 Inv-loop μ-loop
 loop-less-3 c = let g = tokened _ _ _ (c .before .before .before .before .before .before .before .before .before .loop-test .taken) (c .before .before .before .piece-at .ensures) _ _
@@ -95,9 +50,6 @@ loop-again-3 : tie.Need-loop-again-3 Inv-loop μ-loop
 loop-again-3 c =
     fill-token _ _ _ _ _ _ _ _ _ (c .before .before .before .before .before .before .before .before .before .before .loop .inv) _ _
     (tokened _ _ _ (c .before .before .before .before .before .before .before .before .before .loop-test .taken) (c .before .before .before .piece-at .ensures) _ _ (c .before .kind .given .1))
-
-enum-told : tie.Need-enum-told Inv-loop μ-loop
-enum-told c = search needs
 
 returns-2 : tie.Need-returns-2 Inv-loop μ-loop
 returns-2 c = fill-stop _ _ _ _ _ _ _ _ _ (c .before .before .before .before .before .before .before .before .before .loop .inv) (c .before .before .before .before .before .before .before .before .before .before .before .if1 .left)
@@ -113,29 +65,29 @@ lex-spec =
     Inv-loop
     μ-loop
     returns
-    table-requires
+    (λ c κs. search needs)
     loop-holds
-    shared-slice-read-is-blank
-    is-blank-requires
-    add-i
-    loop-less
+    (λ c. search needs)
+    (λ c κs. search needs)
+    (λ c. search needs)
+    (λ c. search needs)
     loop-again
-    piece-at-requires
-    enum-known-end
+    (λ c κs. search needs)
+    (λ c. search needs)
     loop-less-2
     loop-again-2
-    enum-known-kind
-    element-write-kinds
-    cast-starts
-    mul-starts
-    element-write-starts
+    (λ c. search needs)
+    (λ c. search needs)
+    (λ c. search needs)
+    (λ c. search needs)
+    (λ c. search needs)
     sub-sizes
     cast-sizes
-    mul-sizes
-    element-write-sizes
-    add-n
+    (λ c. search needs)
+    (λ c. search needs)
+    (λ c. search needs)
     loop-less-3
     loop-again-3
-    enum-told
+    (λ c. search needs)
     returns-2
     returns-3)

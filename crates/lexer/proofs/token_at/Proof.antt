@@ -16,24 +16,12 @@ Inv-loop text place table i₀ i = (i ≤ length text) × (tokenFrom (drop i tex
 abbrev μ-loop : tie.MeasureT-loop
 μ-loop text place table i₀ i = length text - i
 
-table-requires : tie.Need-table-requires Inv-loop μ-loop
-table-requires c κs = search needs
-
 loop-holds : tie.Need-loop-holds Inv-loop μ-loop
 unfolding tokenAt
 loop-holds c = (search needs, refl)
 
-empty-requires : tie.Need-empty-requires Inv-loop μ-loop
-empty-requires c κs = search needs
-
 returns : tie.Need-returns Inv-loop μ-loop
 returns c = (c .empty .ensures) ∙ (sym (token-past _ 0 _ _ (c .before .if1 .taken)) ∙ c .before .before .before .loop .inv .1)
-
-piece-at-requires : tie.Need-piece-at-requires Inv-loop μ-loop
-piece-at-requires c κs = search needs
-
-enum-known-end : tie.Need-enum-known-end Inv-loop μ-loop
-enum-known-end c = search needs
 
 loop-less : tie.Need-loop-less Inv-loop μ-loop
 loop-less c = let g = gapped _ _ _ (c .before .before .before .before .before .before .loop-test .taken) (c .before .before .before .piece-at .ensures) _
@@ -42,9 +30,6 @@ loop-less c = let g = gapped _ _ _ (c .before .before .before .before .before .b
 loop-again : tie.Need-loop-again Inv-loop μ-loop
 loop-again c = let g = gapped _ _ _ (c .before .before .before .before .before .before .loop-test .taken) (c .before .before .before .piece-at .ensures) _
     (c .before .end .given .1) in (g .within, sym (g .hands _) ∙ c .before .before .before .before .before .before .before .loop .inv .1)
-
-enum-known-end-2 : tie.Need-enum-known-end-2 Inv-loop μ-loop
-enum-known-end-2 c = search needs
 
 between-requires : tie.Need-between-requires Inv-loop μ-loop
 between-requires c κs =
@@ -66,18 +51,9 @@ loop-again-2 c = let g = tokened _ _ _ (c .before .before .before .before .befor
     (c .before .before .before .before .piece-at .ensures) _ _ (c .before .before .end2 .given .1) in
     (g .within, sym (g .hands _ ∙ rw (ne-eqb _ _ (c .if2 .left))) ∙ c .before .before .before .before .before .before .before .before .loop .inv .1)
 
-enum-told : tie.Need-enum-told Inv-loop μ-loop
-enum-told c = search needs
-
-empty-requires-2 : tie.Need-empty-requires-2 Inv-loop μ-loop
-empty-requires-2 c κs = search needs
-
 returns-3 : tie.Need-returns-3 Inv-loop μ-loop
 returns-3 c = let g = stopped _ _ _ (c .before .before .before .before .before .before .loop-test .taken) (c .before .before .before .piece-at .ensures)
     (c .before .enum-told .given .1) in (c .empty2 .ensures) ∙ (sym (g .hands _) ∙ c .before .before .before .before .before .before .before .loop .inv .1)
-
-empty-requires-3 : tie.Need-empty-requires-3 Inv-loop μ-loop
-empty-requires-3 c κs = search needs
 
 returns-4 : tie.Need-returns-4 Inv-loop μ-loop
 returns-4 c = (c .empty3 .ensures) ∙ (sym (nothing-left _ _ (c .before .loop-test .left) .2 _) ∙ c .before .before .loop .inv .1)
@@ -88,21 +64,21 @@ token-at-spec =
     (tie.spec
     Inv-loop
     μ-loop
-    table-requires
+    (λ c κs. search needs)
     loop-holds
-    empty-requires
+    (λ c κs. search needs)
     returns
-    piece-at-requires
-    enum-known-end
+    (λ c κs. search needs)
+    (λ c. search needs)
     loop-less
     loop-again
-    enum-known-end-2
+    (λ c. search needs)
     between-requires
     returns-2
     loop-less-2
     loop-again-2
-    enum-told
-    empty-requires-2
+    (λ c. search needs)
+    (λ c κs. search needs)
     returns-3
-    empty-requires-3
+    (λ c κs. search needs)
     returns-4)

@@ -15,9 +15,6 @@ returns-2 : tie.Need-returns-2
 unfolding flagOf
 returns-2 c = let h : c .before .before .before .args .size ≤ 32 = omega arith in rw (eq-eqb _ _ (c .before .if1 .taken), le-ltb _ _ h)
 
-number-flag-requires : tie.Need-number-flag-requires
-number-flag-requires c κs = search needs
-
 returns-3 : tie.Need-returns-3
 unfolding flagOf
 returns-3 c = rw (ne-eqb _ _ (c .before .before .if1 .left), eq-eqb _ _ (c .before .if3 .taken)) (c .number-flag .ensures)
@@ -27,4 +24,4 @@ unfolding flagOf
 returns-4 c = rw (ne-eqb _ _ (c .before .if1 .left), ne-eqb _ _ (c .if3 .left))
 
 pub flag-spec : {M : Type 1} → statement M
-flag-spec = tie.close (tie.spec returns returns-2 number-flag-requires returns-3 returns-4)
+flag-spec = tie.close (tie.spec returns returns-2 (λ c κs. search needs) returns-3 returns-4)

@@ -12,38 +12,8 @@ Inv-loop text kinds starts sizes n long₀ end i₀ long i = Marks text kinds st
 abbrev μ-loop : tie.MeasureT-loop
 μ-loop text kinds starts sizes n long₀ end i₀ long i = end - i
 
-at-most-requires : tie.Need-at-most-requires Inv-loop μ-loop
-at-most-requires c κs = search needs
-
 loop-holds : tie.Need-loop-holds Inv-loop μ-loop
 loop-holds c = mark-first _ _ _ _ _ _ _ (c .at-most .ensures)
-
-element-copy-out-flag : tie.Need-element-copy-out-flag Inv-loop μ-loop
-element-copy-out-flag c = search needs
-
-mul-flag : tie.Need-mul-flag Inv-loop μ-loop
-mul-flag c = search needs
-
-element-copy-out-flag-2 : tie.Need-element-copy-out-flag-2 Inv-loop μ-loop
-element-copy-out-flag-2 c = search needs
-
-mul-flag-2 : tie.Need-mul-flag-2 Inv-loop μ-loop
-mul-flag-2 c = search needs
-
-element-copy-out-flag-3 : tie.Need-element-copy-out-flag-3 Inv-loop μ-loop
-element-copy-out-flag-3 c = search needs
-
-flag-requires : tie.Need-flag-requires Inv-loop μ-loop
-flag-requires c κs = search needs
-
-element-write-long : tie.Need-element-write-long Inv-loop μ-loop
-element-write-long c = search needs
-
-add-i : tie.Need-add-i Inv-loop μ-loop
-add-i c = search needs
-
-loop-less : tie.Need-loop-less Inv-loop μ-loop
-loop-less c = search needs
 
 loop-again : tie.Need-loop-again Inv-loop μ-loop
 loop-again c = mark-again _ _ _ _ _ _ (c .before .before .before .before .before .loop .inv) (c .before .before .before .before .loop-test .taken) (c .flag .ensures)
@@ -57,16 +27,16 @@ mark-spec =
     (tie.spec
     Inv-loop
     μ-loop
-    at-most-requires
+    (λ c κs. search needs)
     loop-holds
-    element-copy-out-flag
-    mul-flag
-    element-copy-out-flag-2
-    mul-flag-2
-    element-copy-out-flag-3
-    flag-requires
-    element-write-long
-    add-i
-    loop-less
+    (λ c. search needs)
+    (λ c. search needs)
+    (λ c. search needs)
+    (λ c. search needs)
+    (λ c. search needs)
+    (λ c κs. search needs)
+    (λ c. search needs)
+    (λ c. search needs)
+    (λ c. search needs)
     loop-again
     returns)

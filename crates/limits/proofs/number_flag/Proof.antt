@@ -7,9 +7,6 @@ use borrow.Author.Needs.{needs}
 use Rattle.limits.proofs.number_flag.Statement.{statement}
 use Rattle.limits.proofs.number_flag.Tie as tie
 
-number-value-requires : tie.Need-number-value-requires
-number-value-requires c κs = search needs
-
 returns : tie.Need-returns
 returns c = let h : 2147483647 < c .before .number-value .result = omega arith in rw (sym (c .before .number-value .ensures), lt-ltb _ _ h)
 
@@ -17,4 +14,4 @@ returns-2 : tie.Need-returns-2
 returns-2 c = let h : c .before .number-value .result ≤ 2147483647 = omega arith in rw (sym (c .before .number-value .ensures), le-ltb _ _ h)
 
 pub number-flag-spec : {M : Type 1} → statement M
-number-flag-spec = tie.close (tie.spec number-value-requires returns returns-2)
+number-flag-spec = tie.close (tie.spec (λ c κs. search needs) returns returns-2)

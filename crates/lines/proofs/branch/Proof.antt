@@ -8,18 +8,6 @@ use Rattle.lines.proofs.branch.Lts as lts
 use Rattle.lines.proofs.field.Reads as field-reads
 use Rattle.signed.proofs.is_one.Reads as is-one-reads
 
--- src/lib.rt:55:8
-is-one-requires : tie.Need-is-one-requires
-is-one-requires c κs = search needs
-
--- src/lib.rt:56:9
-field-requires : tie.Need-field-requires
-field-requires c κs = search needs
-
--- src/lib.rt:58:9
-field-requires-2 : tie.Need-field-requires-2
-field-requires-2 c κs = search needs
-
 -- src/lib.rt:52:1
 returns : tie.Need-returns
 returns c = when-true _ _ _ _ _ (rw (toZ-ofZ (c .before .before .before .before .fits .v)) at (c .before .before .is-one .ensures)) (c .before .if1 .taken) (c .field .ensures .0)
@@ -28,4 +16,4 @@ returns-2 : tie.Need-returns-2
 returns-2 c = when-false _ _ _ _ _ (rw (toZ-ofZ (c .before .before .before .before .fits .v)) at (c .before .before .is-one .ensures)) (c .before .if1 .left) (c .field2 .ensures .0)
 
 pub branch-spec : {M : Type 1} → statement M
-branch-spec = tie.close (tie.spec is-one-requires field-requires field-requires-2 returns returns-2)
+branch-spec = tie.close (tie.spec (λ c κs. search needs) (λ c κs. search needs) (λ c κs. search needs) returns returns-2)

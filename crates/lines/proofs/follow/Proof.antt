@@ -33,30 +33,14 @@ sub-left : tie.Need-sub-left Inv-loop μ-loop
 sub-left c = let h = c .before .before .before .before .before .before .before .loop-test .taken in omega arith
 
 -- src/lib.rt:142:45
-enum-told : tie.Need-enum-told Inv-loop μ-loop
-enum-told c = search needs
-
--- src/lib.rt:142:45
 sub-t24 : tie.Need-sub-t24 Inv-loop μ-loop
 sub-t24 c = let h = c .before .before .before .before .before .before .before .before .before .before .loop .inv .0 .few in omega arith
-
--- src/lib.rt:142:17
-same-length : tie.Need-same-length Inv-loop μ-loop
-same-length c = search needs
-
--- src/lib.rt:142:17
-same-length-2 : tie.Need-same-length-2 Inv-loop μ-loop
-same-length-2 c = search needs
 
 -- src/lib.rt:142:17
 returns : tie.Need-returns Inv-loop μ-loop
 returns c =
     let t = c .before .before .before .before .before .before .before .before .before .loop-test .taken in
     rest-wait (c .before .before .before .before .before .before .before .before .before .before .before .before .before .before .before .args .lines .now) (c .before .before .before .before .before .before .before .before .before .before .before .before .before .before .before .args .code .now) (c .before .before .before .before .before .before .before .before .before .before .before .before .before .before .before .args .input-types .now) (c .before .before .before .before .before .before .before .before .before .before .before .before .before .before .before .args .variable-types .now) (c .before .before .before .before .before .before .before .before .before .before .before .before .before .before .before .args .inputs .now) (c .before .before .before .before .before .before .before .before .before .before .before .before .before .before .before .args .most) (c .before .before .before .before .before .before .before .before .before .before .before .before .before .before .before .args .first) (c .before .before .before .before .before .before .before .before .before .before .before .before .before .before .before .args .outputs .now) (c .before .before .before .before .before .before .before .before .before .before .before .before .before .before .before .args .variables .now) (c .before .before .before .before .before .before .before .before .before .before .loop .x) (c .before .before .before .before .before .before .before .before .before .before .loop .outputs) (c .before .before .before .before .before .before .before .before .before .before .loop .variables) (c .before .before .before .before .before .before .before .before .before .before .loop .left) (c .before .before .before .before .perform .result) _ _ _ (c .before .before .before .before .before .before .before .before .before .before .loop .inv .0) (λ z. omega arith) (c .before .before .before .before .perform .ensures .0, (c .before .before .before .before .perform .ensures .1 .0, c .before .before .before .before .perform .ensures .1 .1 .0)) (c .enum-told .given .1) refl
-
--- src/lib.rt:144:24
-enum-known-m : tie.Need-enum-known-m Inv-loop μ-loop
-enum-known-m c = search needs
 
 -- src/lib.rt:137:5
 loop-less : tie.Need-loop-less Inv-loop μ-loop
@@ -68,31 +52,11 @@ loop-again c =
     let t = c .before .before .before .before .before .before .before .before .before .before .loop-test .taken in
     (rest-again (c .before .before .before .before .before .before .before .before .before .before .before .before .before .before .before .before .args .lines .now) (c .before .before .before .before .before .before .before .before .before .before .before .before .before .before .before .before .args .code .now) (c .before .before .before .before .before .before .before .before .before .before .before .before .before .before .before .before .args .input-types .now) (c .before .before .before .before .before .before .before .before .before .before .before .before .before .before .before .before .args .variable-types .now) (c .before .before .before .before .before .before .before .before .before .before .before .before .before .before .before .before .args .inputs .now) (c .before .before .before .before .before .before .before .before .before .before .before .before .before .before .before .before .args .most) (c .before .before .before .before .before .before .before .before .before .before .before .before .before .before .before .before .args .first) (c .before .before .before .before .before .before .before .before .before .before .before .before .before .before .before .before .args .outputs .now) (c .before .before .before .before .before .before .before .before .before .before .before .before .before .before .before .before .args .variables .now) (c .before .before .before .before .before .before .before .before .before .before .before .loop .x) (c .before .before .before .before .before .before .before .before .before .before .before .loop .outputs) (c .before .before .before .before .before .before .before .before .before .before .before .loop .variables) (c .before .before .before .before .before .before .before .before .before .before .before .loop .left) (c .before .before .before .before .before .perform .result) _ _ _ (c .before .before .before .before .before .before .before .before .before .before .before .loop .inv .0) (λ z. omega arith) (c .before .before .before .before .before .perform .ensures .0, (c .before .before .before .before .before .perform .ensures .1 .0, c .before .before .before .before .before .perform .ensures .1 .1 .0)) (c .before .m .given .1), (search needs, search needs, c .before .before .before .before .before .perform .ensures .1 .1 .1))
 
--- src/lib.rt:147:27
-enum-known-m-2 : tie.Need-enum-known-m-2 Inv-loop μ-loop
-enum-known-m-2 c = search needs
-
--- src/lib.rt:148:17
-same-length-3 : tie.Need-same-length-3 Inv-loop μ-loop
-same-length-3 c = search needs
-
--- src/lib.rt:148:17
-same-length-4 : tie.Need-same-length-4 Inv-loop μ-loop
-same-length-4 c = search needs
-
 -- src/lib.rt:148:17
 returns-2 : tie.Need-returns-2 Inv-loop μ-loop
 returns-2 c =
     let t = c .before .before .before .before .before .before .before .before .before .before .loop-test .taken in
     rest-stopped (c .before .before .before .before .before .before .before .before .before .before .before .before .before .before .before .before .args .lines .now) (c .before .before .before .before .before .before .before .before .before .before .before .before .before .before .before .before .args .code .now) (c .before .before .before .before .before .before .before .before .before .before .before .before .before .before .before .before .args .input-types .now) (c .before .before .before .before .before .before .before .before .before .before .before .before .before .before .before .before .args .variable-types .now) (c .before .before .before .before .before .before .before .before .before .before .before .before .before .before .before .before .args .inputs .now) (c .before .before .before .before .before .before .before .before .before .before .before .before .before .before .before .before .args .most) (c .before .before .before .before .before .before .before .before .before .before .before .before .before .before .before .before .args .first) (c .before .before .before .before .before .before .before .before .before .before .before .before .before .before .before .before .args .outputs .now) (c .before .before .before .before .before .before .before .before .before .before .before .before .before .before .before .before .args .variables .now) (c .before .before .before .before .before .before .before .before .before .before .before .loop .x) (c .before .before .before .before .before .before .before .before .before .before .before .loop .outputs) (c .before .before .before .before .before .before .before .before .before .before .before .loop .variables) (c .before .before .before .before .before .before .before .before .before .before .before .loop .left) (c .before .before .before .before .before .perform .result) _ _ _ (c .before .before .before .before .before .before .before .before .before .before .before .loop .inv .0) (λ z. omega arith) (c .before .before .before .before .before .perform .ensures .0, (c .before .before .before .before .before .perform .ensures .1 .0, c .before .before .before .before .before .perform .ensures .1 .1 .0)) (c .before .m2 .given .1)
-
--- src/lib.rt:120:1
-same-length-5 : tie.Need-same-length-5 Inv-loop μ-loop
-same-length-5 c = search needs
-
--- src/lib.rt:120:1
-same-length-6 : tie.Need-same-length-6 Inv-loop μ-loop
-same-length-6 c = search needs
 
 -- src/lib.rt:120:1
 returns-3 : tie.Need-returns-3 Inv-loop μ-loop
@@ -109,18 +73,18 @@ follow-spec =
     loop-holds
     perform-requires
     sub-left
-    enum-told
+    (λ c. search needs)
     sub-t24
-    same-length
-    same-length-2
+    (λ c. search needs)
+    (λ c. search needs)
     returns
-    enum-known-m
+    (λ c. search needs)
     loop-less
     loop-again
-    enum-known-m-2
-    same-length-3
-    same-length-4
+    (λ c. search needs)
+    (λ c. search needs)
+    (λ c. search needs)
     returns-2
-    same-length-5
-    same-length-6
+    (λ c. search needs)
+    (λ c. search needs)
     returns-3)

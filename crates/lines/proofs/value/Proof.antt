@@ -7,22 +7,6 @@ use Rattle.lines.proofs.value.Lts as lts
 use Rattle.evaluator.proofs.evaluate.Reads as evaluate-reads
 use Rattle.lines.proofs.field.Reads as field-reads
 
--- src/lib.rt:66:17
-field-requires : tie.Need-field-requires
-field-requires c κs = search needs
-
--- src/lib.rt:66:17
-cast-start : tie.Need-cast-start
-cast-start c = search needs
-
--- src/lib.rt:67:16
-field-requires-2 : tie.Need-field-requires-2
-field-requires-2 c κs = search needs
-
--- src/lib.rt:67:16
-cast-size : tie.Need-cast-size
-cast-size c = search needs
-
 -- src/lib.rt:68:5
 evaluate-requires : tie.Need-evaluate-requires
 evaluate-requires c κs = c .before .before .before .before .before .before .before .before .pre
@@ -34,4 +18,4 @@ returns c = (part-read _ _ _ _ _ _ _ _ _ _ (c .before .before .before .before .f
 pub value-spec : {M : Type 1} → statement M
 value-spec =
     tie.close
-    (tie.spec field-requires cast-start field-requires-2 cast-size evaluate-requires returns)
+    (tie.spec (λ c κs. search needs) (λ c. search needs) (λ c κs. search needs) (λ c. search needs) evaluate-requires returns)

@@ -7,21 +7,6 @@ use borrow.Author.Needs.{needs}
 use Rattle.loader.proofs.open.Statement.{statement}
 use Rattle.loader.proofs.open.Tie as tie
 
-has-sections-requires : tie.Need-has-sections-requires
-has-sections-requires c κs = search needs
-
-long-requires : tie.Need-long-requires
-long-requires c κs = search needs
-
-add-lines : tie.Need-add-lines
-add-lines c = search needs
-
-long-requires-2 : tie.Need-long-requires-2
-long-requires-2 c κs = search needs
-
-add-code : tie.Need-add-code
-add-code c = search needs
-
 open-sections-requires : tie.Need-open-sections-requires
 open-sections-requires c κs =
     let has-sections = c .before .before .before .has-sections in
@@ -37,9 +22,6 @@ open-sections-requires c κs =
       ),
     )
 
-returns : tie.Need-returns
-returns c = search needs
-
 returns-2 : tie.Need-returns-2
 returns-2 c = open-11 (c .before .before .before .args .image .now) (sym (c .before .has-sections .ensures) ∙ (c .if1 .left))
 
@@ -47,11 +29,11 @@ pub open-spec : {M : Type 1} → statement M
 open-spec =
     tie.close
     (tie.spec
-    has-sections-requires
-    long-requires
-    add-lines
-    long-requires-2
-    add-code
+    (λ c κs. search needs)
+    (λ c κs. search needs)
+    (λ c. search needs)
+    (λ c κs. search needs)
+    (λ c. search needs)
     open-sections-requires
-    returns
+    (λ c. search needs)
     returns-2)

@@ -8,12 +8,6 @@ use borrow.Author.Needs.{needs}
 use Rattle.loader.proofs.open_sections.Statement.{statement}
 use Rattle.loader.proofs.open_sections.Tie as tie
 
-sub-has-signature : tie.Need-sub-has-signature
-sub-has-signature c = search needs
-
-part-has-signature-start : tie.Need-part-has-signature-start
-part-has-signature-start c = search needs
-
 part-has-signature-end : tie.Need-part-has-signature-end
 part-has-signature-end c =
     let args = c .before .args in
@@ -23,15 +17,6 @@ part-has-signature-end c =
     let k = (pre .1 .1) in
     omega arith
 
-has-signature-requires : tie.Need-has-signature-requires
-has-signature-requires c κs = search needs
-
-sub-judge : tie.Need-sub-judge
-sub-judge c = search needs
-
-part-judge-start : tie.Need-part-judge-start
-part-judge-start c = search needs
-
 part-judge-end : tie.Need-part-judge-end
 part-judge-end c =
     let args = c .before .before .before .before .args in
@@ -40,12 +25,6 @@ part-judge-end c =
     let l = (pre .1 .0) in
     let k = (pre .1 .1) in
     omega arith
-
-sub-judge-2 : tie.Need-sub-judge-2
-sub-judge-2 c = search needs
-
-part-judge-start-2 : tie.Need-part-judge-start-2
-part-judge-start-2 c = search needs
 
 part-judge-end-2 : tie.Need-part-judge-end-2
 part-judge-end-2 c =
@@ -74,9 +53,6 @@ part-judge-start-3 c =
     let k = (pre .1 .1) in
     omega arith
 
-part-judge-end-3 : tie.Need-part-judge-end-3
-part-judge-end-3 c = search needs
-
 judge-requires : tie.Need-judge-requires
 judge-requires c κs =
     let has-signature = c .before .before .before .before .has-signature in
@@ -90,9 +66,6 @@ judge-requires c κs =
 
 enum-told : tie.Need-enum-told
 enum-told c = search needs
-
-enum-known-judged : tie.Need-enum-known-judged
-enum-known-judged c = search needs
 
 returns : tie.Need-returns
 returns c =
@@ -133,22 +106,22 @@ pub open-sections-spec : {M : Type 1} → statement M
 open-sections-spec =
     tie.close
     (tie.spec
-    sub-has-signature
-    part-has-signature-start
+    (λ c. search needs)
+    (λ c. search needs)
     part-has-signature-end
-    has-signature-requires
-    sub-judge
-    part-judge-start
+    (λ c κs. search needs)
+    (λ c. search needs)
+    (λ c. search needs)
     part-judge-end
-    sub-judge-2
-    part-judge-start-2
+    (λ c. search needs)
+    (λ c. search needs)
     part-judge-end-2
     sub-judge-3
     part-judge-start-3
-    part-judge-end-3
+    (λ c. search needs)
     judge-requires
     enum-told
-    enum-known-judged
+    (λ c. search needs)
     returns
     returns-2
     returns-3)

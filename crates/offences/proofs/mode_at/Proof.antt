@@ -4,18 +4,6 @@ use borrow.Author.Needs.{needs}
 use Rattle.offences.proofs.mode_at.Statement.{statement}
 use Rattle.offences.proofs.mode_at.Tie as tie
 
-mul-result : tie.Need-mul-result
-mul-result c = search needs
-
-add-result : tie.Need-add-result
-add-result c = search needs
-
-mul-result-2 : tie.Need-mul-result-2
-mul-result-2 c = search needs
-
-element-copy-out-result : tie.Need-element-copy-out-result
-element-copy-out-result c = search needs
-
 returns : tie.Need-returns
 returns c = rw (lt-ltb (c .before .before .before .args .o) (c .before .before .before .args .d) (c .before .before .if1 .taken), lt-ltb (c .before .before .before .args .o) 65 (c .before .if2 .taken))
 
@@ -29,10 +17,10 @@ pub mode-at-spec : {M : Type 1} → statement M
 mode-at-spec =
     tie.close
     (tie.spec
-    mul-result
-    add-result
-    mul-result-2
-    element-copy-out-result
+    (λ c. search needs)
+    (λ c. search needs)
+    (λ c. search needs)
+    (λ c. search needs)
     returns
     returns-2
     returns-3)

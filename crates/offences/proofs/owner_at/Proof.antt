@@ -5,12 +5,6 @@ use borrow.Author.Needs.{needs}
 use Rattle.offences.proofs.owner_at.Statement.{statement}
 use Rattle.offences.proofs.owner_at.Tie as tie
 
-element-copy-out-wide-byte : tie.Need-element-copy-out-wide-byte
-element-copy-out-wide-byte c = search needs
-
-wide-byte-requires : tie.Need-wide-byte-requires
-wide-byte-requires c κs = search needs
-
 returns : tie.Need-returns
 returns c = c .wide-byte .ensures ∙ rw (lt-ltb (c .before .before .before .before .args .i) (c .before .before .before .before .args .n) (c .before .before .before .if1 .taken), lt-ltb (c .before .before .before .before .args .i) 16384 (c .before .before .if2 .taken))
 
@@ -22,4 +16,4 @@ returns-3 c = rw (le-ltb (c .before .args .i) (c .before .args .n) (c .if1 .left
 
 pub owner-at-spec : {M : Type 1} → statement M
 owner-at-spec =
-    tie.close (tie.spec element-copy-out-wide-byte wide-byte-requires returns returns-2 returns-3)
+    tie.close (tie.spec (λ c. search needs) (λ c κs. search needs) returns returns-2 returns-3)

@@ -6,12 +6,6 @@ use Rattle.operands.specs.Told.{leafTag}
 use Rattle.operands.proofs.leaf_type.Statement.{statement}
 use Rattle.operands.proofs.leaf_type.Tie as tie
 
-name-type-requires : tie.Need-name-type-requires
-name-type-requires c κs = search needs
-
-name-type-requires-2 : tie.Need-name-type-requires-2
-name-type-requires-2 c κs = search needs
-
 returns : tie.Need-returns
 unfolding leafTag
 returns c = rw (c .match .keys1)
@@ -37,8 +31,8 @@ pub leaf-type-spec : {M : Type 1} → statement M
 leaf-type-spec =
     tie.close
     (tie.spec
-    name-type-requires
-    name-type-requires-2
+    (λ c κs. search needs)
+    (λ c κs. search needs)
     returns
     returns-2
     returns-3

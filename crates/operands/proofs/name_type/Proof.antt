@@ -6,15 +6,6 @@ use Rattle.operands.proofs.Cases.{name-inside, name-past}
 use Rattle.operands.proofs.name_type.Statement.{statement}
 use Rattle.operands.proofs.name_type.Tie as tie
 
-to-bits-requires : tie.Need-to-bits-requires
-to-bits-requires c κs = search needs
-
-cast-k : tie.Need-cast-k
-cast-k c = search needs
-
-element-copy-out-result : tie.Need-element-copy-out-result
-element-copy-out-result c = search needs
-
 returns : tie.Need-returns
 returns c = name-inside (c .before .before .before .args .named .now) (unsigned32 (c .before .before .before .args .arg)) (rw (toZ-ofZ (c .before .before .before .fits .arg)) at (c .before .before .to-bits .ensures)) (c .before .if1 .taken)
 
@@ -23,4 +14,4 @@ returns-2 c = name-past (c .before .before .args .named .now) (unsigned32 (c .be
 
 pub name-type-spec : {M : Type 1} → statement M
 name-type-spec =
-    tie.close (tie.spec to-bits-requires cast-k element-copy-out-result returns returns-2)
+    tie.close (tie.spec (λ c κs. search needs) (λ c. search needs) (λ c. search needs) returns returns-2)

@@ -13,9 +13,6 @@ Inv-loop ops k inputs variables args₀ n t₀ j₀ args t j = (n ≡ min k 1638
 abbrev μ-loop : tie.MeasureT-loop
 μ-loop ops k inputs variables args₀ n t₀ j₀ args t j = n - j
 
-at-most-requires : tie.Need-at-most-requires Inv-loop μ-loop
-at-most-requires c κs = search needs
-
 loop-holds : tie.Need-loop-holds Inv-loop μ-loop
 loop-holds c = (c .at-most .ensures, telling-first _ _ _ _ _)
 
@@ -45,7 +42,7 @@ tell-spec =
     (tie.spec
     Inv-loop
     μ-loop
-    at-most-requires
+    (λ c κs. search needs)
     loop-holds
     element-copy-out-told
     told-requires

@@ -10,18 +10,6 @@ use borrow.Author.Needs.{needs}
 use Rattle.operators.proofs.apply_unary.Statement.{statement}
 use Rattle.operators.proofs.apply_unary.Tie as tie
 
-mul-unary : tie.Need-mul-unary
-mul-unary c = search needs
-
-element-copy-out-unary : tie.Need-element-copy-out-unary
-element-copy-out-unary c = search needs
-
-unary-requires : tie.Need-unary-requires
-unary-requires c κs = search needs
-
-place-requires : tie.Need-place-requires
-place-requires c κs = search needs
-
 returns : tie.Need-returns
 returns c =
     let s = c .before .before .before .before .args in
@@ -31,4 +19,4 @@ returns c =
 
 pub apply-unary-spec : {M : Type 1} → statement M
 apply-unary-spec =
-    tie.close (tie.spec mul-unary element-copy-out-unary unary-requires place-requires returns)
+    tie.close (tie.spec (λ c. search needs) (λ c. search needs) (λ c κs. search needs) (λ c κs. search needs) returns)

@@ -6,15 +6,6 @@ use borrow.Author.Needs.{needs}
 use Rattle.operators.proofs.binary.Statement.{statement}
 use Rattle.operators.proofs.binary.Tie as tie
 
-bits-requires : tie.Need-bits-requires
-bits-requires c κs = search needs
-
-integers-requires : tie.Need-integers-requires
-integers-requires c κs = search needs
-
-logical-requires : tie.Need-logical-requires
-logical-requires c κs = search needs
-
 returns : tie.Need-returns
 returns c =
     let s = c .before .before in
@@ -37,9 +28,9 @@ pub binary-spec : {M : Type 1} → statement M
 binary-spec =
     tie.close
     (tie.spec
-    bits-requires
-    integers-requires
-    logical-requires
+    (λ c κs. search needs)
+    (λ c κs. search needs)
+    (λ c κs. search needs)
     returns
     returns-2
     returns-3

@@ -11,21 +11,6 @@ use borrow.Author.Needs.{needs}
 use Rattle.operators.proofs.bits.Statement.{statement}
 use Rattle.operators.proofs.bits.Tie as tie
 
-equal-requires : tie.Need-equal-requires
-equal-requires c κs = search needs
-
-logic-requires : tie.Need-logic-requires
-logic-requires c κs = search needs
-
-equal-requires-2 : tie.Need-equal-requires-2
-equal-requires-2 c κs = search needs
-
-logic-requires-2 : tie.Need-logic-requires-2
-logic-requires-2 c κs = search needs
-
-logical-requires : tie.Need-logical-requires
-logical-requires c κs = search needs
-
 returns : tie.Need-returns
 unfolding binaryType equalityType applyBinary binaryResult
 returns c =
@@ -50,11 +35,11 @@ pub bits-spec : {M : Type 1} → statement M
 bits-spec =
     tie.close
     (tie.spec
-    equal-requires
-    logic-requires
-    equal-requires-2
-    logic-requires-2
-    logical-requires
+    (λ c κs. search needs)
+    (λ c κs. search needs)
+    (λ c κs. search needs)
+    (λ c κs. search needs)
+    (λ c κs. search needs)
     returns
     returns-2
     returns-3)

@@ -7,49 +7,10 @@ use Rattle.design.specs.Types.{integer, plain}
 use Rattle.design.specs.Expression.{equal, unequal, less, at-most, greater, at-least, orderType, equalityType, binaryType}
 use Rattle.semantics.specs.Evaluation.{bitOf, binaryResult, applyBinary}
 use Rattle.signed.specs.declared.Checked.the-variants.{Value}
-use Rattle.operators.proofs.Laws.{binary-arm, sum-arm, past, either}
+use Rattle.operators.proofs.Laws.{binary-arm, past, either}
 use borrow.Author.Needs.{needs}
 use Rattle.operators.proofs.integers.Statement.{statement}
 use Rattle.operators.proofs.integers.Tie as tie
-
-equal-requires : tie.Need-equal-requires
-equal-requires c κs = search needs
-
-logic-requires : tie.Need-logic-requires
-logic-requires c κs = search needs
-
-equal-requires-2 : tie.Need-equal-requires-2
-equal-requires-2 c κs = search needs
-
-logic-requires-2 : tie.Need-logic-requires-2
-logic-requires-2 c κs = search needs
-
-less-requires : tie.Need-less-requires
-less-requires c κs = search needs
-
-logic-requires-3 : tie.Need-logic-requires-3
-logic-requires-3 c κs = search needs
-
-at-most-requires : tie.Need-at-most-requires
-at-most-requires c κs = search needs
-
-logic-requires-4 : tie.Need-logic-requires-4
-logic-requires-4 c κs = search needs
-
-less-requires-2 : tie.Need-less-requires-2
-less-requires-2 c κs = search needs
-
-logic-requires-5 : tie.Need-logic-requires-5
-logic-requires-5 c κs = search needs
-
-at-most-requires-2 : tie.Need-at-most-requires-2
-at-most-requires-2 c κs = search needs
-
-logic-requires-6 : tie.Need-logic-requires-6
-logic-requires-6 c κs = search needs
-
-sum-requires : tie.Need-sum-requires
-sum-requires c κs = search needs
 
 multiplied-requires : tie.Need-multiplied-requires
 multiplied-requires c κs =
@@ -101,10 +62,7 @@ returns-6 c =
     (c .logic6 .ensures ∙ ap (λ (b : Bool). Value (bitOf b)) (simp (toZ-ofZ (s .fits .x), toZ-ofZ (s .fits .y)) at (c .before .at-most2 .ensures)))
 
 returns-7 : tie.Need-returns-7
-returns-7 c =
-    let s = c .before .before .before .before in
-    sum-arm (s .args .op) (s .args .x) (s .args .y) (c .before .before .if1 .left) (c .before .if2 .taken)
-    (simp (toZ-ofZ (s .fits .x), toZ-ofZ (s .fits .y)) at (c .sum .ensures))
+returns-7 c = let s = c .before .before .before .before in simp (toZ-ofZ (s .fits .x), toZ-ofZ (s .fits .y)) at (c .sum .ensures)
 
 returns-8 : tie.Need-returns-8
 returns-8 c = let s = c .before .before .before in simp (toZ-ofZ (s .fits .x), toZ-ofZ (s .fits .y)) at (c .multiplied .ensures)
@@ -113,19 +71,19 @@ pub integers-spec : {M : Type 1} → statement M
 integers-spec =
     tie.close
     (tie.spec
-    equal-requires
-    logic-requires
-    equal-requires-2
-    logic-requires-2
-    less-requires
-    logic-requires-3
-    at-most-requires
-    logic-requires-4
-    less-requires-2
-    logic-requires-5
-    at-most-requires-2
-    logic-requires-6
-    sum-requires
+    (λ c κs. search needs)
+    (λ c κs. search needs)
+    (λ c κs. search needs)
+    (λ c κs. search needs)
+    (λ c κs. search needs)
+    (λ c κs. search needs)
+    (λ c κs. search needs)
+    (λ c κs. search needs)
+    (λ c κs. search needs)
+    (λ c κs. search needs)
+    (λ c κs. search needs)
+    (λ c κs. search needs)
+    (λ c κs. search needs)
     multiplied-requires
     returns
     returns-2

@@ -11,42 +11,6 @@ use borrow.Author.Needs.{needs}
 use Rattle.operators.proofs.logical.Statement.{statement}
 use Rattle.operators.proofs.logical.Tie as tie
 
-is-one-requires : tie.Need-is-one-requires
-is-one-requires c κs = search needs
-
-is-one-requires-2 : tie.Need-is-one-requires-2
-is-one-requires-2 c κs = search needs
-
-both-requires : tie.Need-both-requires
-both-requires c κs = search needs
-
-logic-requires : tie.Need-logic-requires
-logic-requires c κs = search needs
-
-is-one-requires-3 : tie.Need-is-one-requires-3
-is-one-requires-3 c κs = search needs
-
-is-one-requires-4 : tie.Need-is-one-requires-4
-is-one-requires-4 c κs = search needs
-
-either-requires : tie.Need-either-requires
-either-requires c κs = search needs
-
-logic-requires-2 : tie.Need-logic-requires-2
-logic-requires-2 c κs = search needs
-
-is-one-requires-5 : tie.Need-is-one-requires-5
-is-one-requires-5 c κs = search needs
-
-is-one-requires-6 : tie.Need-is-one-requires-6
-is-one-requires-6 c κs = search needs
-
-differs-requires : tie.Need-differs-requires
-differs-requires c κs = search needs
-
-logic-requires-3 : tie.Need-logic-requires-3
-logic-requires-3 c κs = search needs
-
 returns : tie.Need-returns
 unfolding binaryType logicalType applyBinary binaryResult
 returns c =
@@ -84,18 +48,18 @@ pub logical-spec : {M : Type 1} → statement M
 logical-spec =
     tie.close
     (tie.spec
-    is-one-requires
-    is-one-requires-2
-    both-requires
-    logic-requires
-    is-one-requires-3
-    is-one-requires-4
-    either-requires
-    logic-requires-2
-    is-one-requires-5
-    is-one-requires-6
-    differs-requires
-    logic-requires-3
+    (λ c κs. search needs)
+    (λ c κs. search needs)
+    (λ c κs. search needs)
+    (λ c κs. search needs)
+    (λ c κs. search needs)
+    (λ c κs. search needs)
+    (λ c κs. search needs)
+    (λ c κs. search needs)
+    (λ c κs. search needs)
+    (λ c κs. search needs)
+    (λ c κs. search needs)
+    (λ c κs. search needs)
     returns
     returns-2
     returns-3

@@ -8,18 +8,6 @@ use borrow.Author.Needs.{needs}
 use Rattle.operators.proofs.multiplied.Statement.{statement}
 use Rattle.operators.proofs.multiplied.Tie as tie
 
-multiply-requires : tie.Need-multiply-requires
-multiply-requires c κs = search needs
-
-divide-requires : tie.Need-divide-requires
-divide-requires c κs = search needs
-
-modulus-requires : tie.Need-modulus-requires
-modulus-requires c κs = search needs
-
-remainder-requires : tie.Need-remainder-requires
-remainder-requires c κs = search needs
-
 returns : tie.Need-returns
 unfolding binaryType sumType applyBinary binaryResult
 returns c =
@@ -58,10 +46,10 @@ pub multiplied-spec : {M : Type 1} → statement M
 multiplied-spec =
     tie.close
     (tie.spec
-    multiply-requires
-    divide-requires
-    modulus-requires
-    remainder-requires
+    (λ c κs. search needs)
+    (λ c κs. search needs)
+    (λ c κs. search needs)
+    (λ c κs. search needs)
     returns
     returns-2
     returns-3

@@ -8,9 +8,6 @@ use borrow.Author.Needs.{needs}
 use Rattle.operators.proofs.one_integer.Statement.{statement}
 use Rattle.operators.proofs.one_integer.Tie as tie
 
-negate-requires : tie.Need-negate-requires
-negate-requires c κs = search needs
-
 returns : tie.Need-returns
 unfolding unaryType sumType applyUnary unaryResult
 returns c = let s = c .before .before in unary-arm sign (plain integer) (s .args .op) (s .args .x) (c .before .match .keys1) (rw (toZ-ofZ (s .fits .x)) at (c .negate .ensures))
@@ -19,4 +16,4 @@ returns-2 : tie.Need-returns-2
 returns-2 c = integer-other (c .before .args .op) (c .before .args .x) (c .match .rest .1)
 
 pub one-integer-spec : {M : Type 1} → statement M
-one-integer-spec = tie.close (tie.spec negate-requires returns returns-2)
+one-integer-spec = tie.close (tie.spec (λ c κs. search needs) returns returns-2)

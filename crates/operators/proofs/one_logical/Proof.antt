@@ -11,12 +11,6 @@ use borrow.Author.Needs.{needs}
 use Rattle.operators.proofs.one_logical.Statement.{statement}
 use Rattle.operators.proofs.one_logical.Tie as tie
 
-is-one-requires : tie.Need-is-one-requires
-is-one-requires c κs = search needs
-
-logic-requires : tie.Need-logic-requires
-logic-requires c κs = search needs
-
 returns : tie.Need-returns
 unfolding unaryType logicalType applyUnary unaryResult
 returns c =
@@ -28,4 +22,4 @@ returns-2 : tie.Need-returns-2
 returns-2 c = truth-other (c .before .args .op) (c .before .args .x) (c .match .rest .1)
 
 pub one-logical-spec : {M : Type 1} → statement M
-one-logical-spec = tie.close (tie.spec is-one-requires logic-requires returns returns-2)
+one-logical-spec = tie.close (tie.spec (λ c κs. search needs) (λ c κs. search needs) returns returns-2)

@@ -7,18 +7,6 @@ use borrow.Author.Needs.{needs}
 use Rattle.operators.proofs.place.Statement.{statement}
 use Rattle.operators.proofs.place.Tie as tie
 
-enum-known-c : tie.Need-enum-known-c
-enum-known-c c = search needs
-
-mul-v : tie.Need-mul-v
-mul-v c = search needs
-
-element-set-from-v : tie.Need-element-set-from-v
-element-set-from-v c = search needs
-
-enum-known-c-2 : tie.Need-enum-known-c-2
-enum-known-c-2 c = search needs
-
 returns : tie.Need-returns
 returns c =
     let fit : SFits w32 (c .before .c .given .0 .0) = search needs in
@@ -29,4 +17,4 @@ returns-2 c = λ o e f. placed-refusal (c .before .before .before .args .stack .
 
 pub place-spec : {M : Type 1} → statement M
 place-spec =
-    tie.close (tie.spec enum-known-c mul-v element-set-from-v enum-known-c-2 returns returns-2)
+    tie.close (tie.spec (λ c. search needs) (λ c. search needs) (λ c. search needs) (λ c. search needs) returns returns-2)

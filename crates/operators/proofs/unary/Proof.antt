@@ -7,15 +7,6 @@ use borrow.Author.Needs.{needs}
 use Rattle.operators.proofs.unary.Statement.{statement}
 use Rattle.operators.proofs.unary.Tie as tie
 
-one-logical-requires : tie.Need-one-logical-requires
-one-logical-requires c κs = search needs
-
-one-integer-requires : tie.Need-one-integer-requires
-one-integer-requires c κs = search needs
-
-one-logical-requires-2 : tie.Need-one-logical-requires-2
-one-logical-requires-2 c κs = search needs
-
 returns : tie.Need-returns
 returns c =
     let s = c .before .before in
@@ -38,9 +29,9 @@ pub unary-spec : {M : Type 1} → statement M
 unary-spec =
     tie.close
     (tie.spec
-    one-logical-requires
-    one-integer-requires
-    one-logical-requires-2
+    (λ c κs. search needs)
+    (λ c κs. search needs)
+    (λ c κs. search needs)
     returns
     returns-2
     returns-3

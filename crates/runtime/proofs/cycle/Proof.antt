@@ -8,20 +8,8 @@ use Rattle.runtime.proofs.Whole.{refused-advance, whole}
 use Rattle.runtime.proofs.cycle.Statement.{statement}
 use Rattle.runtime.proofs.cycle.Tie as tie
 
-open-requires : tie.Need-open-requires
-open-requires c κs = search needs
-
-enum-known-opened : tie.Need-enum-known-opened
-enum-known-opened c = search needs
-
 cycle-opened-requires : tie.Need-cycle-opened-requires
 cycle-opened-requires c κs = sym (ap openTold (c .before .before .opened .given .1)) ∙ c .before .before .before .before .«open» .ensures
-
-enum-known-opened-2 : tie.Need-enum-known-opened-2
-enum-known-opened-2 c = search needs
-
-same-length : tie.Need-same-length
-same-length c = search needs
 
 returns : tie.Need-returns
 returns c =
@@ -38,10 +26,10 @@ pub cycle-spec : {M : Type 1} → statement M
 cycle-spec =
     tie.close
     (tie.spec
-    open-requires
-    enum-known-opened
+    (λ c κs. search needs)
+    (λ c. search needs)
     cycle-opened-requires
-    enum-known-opened-2
-    same-length
+    (λ c. search needs)
+    (λ c. search needs)
     returns
     returns-2)

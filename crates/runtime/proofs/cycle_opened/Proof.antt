@@ -34,12 +34,6 @@ part-advance-start-3 c = let p = placed (c .before .before .before .args .image 
 part-advance-end-3 : tie.Need-part-advance-end-3
 part-advance-end-3 c = let p = placed (c .before .before .before .args .image .now) (c .before .before .before .args .at) (c .before .before .before .pre) in omega arith
 
-advance-requires : tie.Need-advance-requires
-advance-requires c κs = search needs
-
-same-length : tie.Need-same-length
-same-length c = search needs
-
 returns : tie.Need-returns
 returns c =
     let a = c .before .before .before .before .before .before .before .args in
@@ -58,6 +52,6 @@ cycle-opened-spec =
     sub-advance-3
     part-advance-start-3
     part-advance-end-3
-    advance-requires
-    same-length
+    (λ c κs. search needs)
+    (λ c. search needs)
     returns)

@@ -6,20 +6,8 @@ use Rattle.runtime.proofs.Start.{fresh-answer, fresh-refused}
 use Rattle.runtime.proofs.fresh.Statement.{statement}
 use Rattle.runtime.proofs.fresh.Tie as tie
 
-open-requires : tie.Need-open-requires
-open-requires c κs = search needs
-
-enum-known-opened : tie.Need-enum-known-opened
-enum-known-opened c = search needs
-
 fresh-on-sections-requires : tie.Need-fresh-on-sections-requires
 fresh-on-sections-requires c κs = sym (ap openTold (c .before .opened .given .1)) ∙ c .before .before .before .«open» .ensures
-
-enum-known-opened-2 : tie.Need-enum-known-opened-2
-enum-known-opened-2 c = search needs
-
-blank-requires : tie.Need-blank-requires
-blank-requires c κs = search needs
 
 returns : tie.Need-returns
 returns c =
@@ -33,10 +21,10 @@ pub fresh-spec : {M : Type 1} → statement M
 fresh-spec =
     tie.close
     (tie.spec
-    open-requires
-    enum-known-opened
+    (λ c κs. search needs)
+    (λ c. search needs)
     fresh-on-sections-requires
-    enum-known-opened-2
-    blank-requires
+    (λ c. search needs)
+    (λ c κs. search needs)
     returns
     returns-2)

@@ -16,9 +16,6 @@ part-fresh-start c = let p = placed (c .before .args .image .now) (c .before .ar
 part-fresh-end : tie.Need-part-fresh-end
 part-fresh-end c = let p = placed (c .before .args .image .now) (c .before .args .at) (c .before .pre) in omega arith
 
-fresh-requires : tie.Need-fresh-requires
-fresh-requires c κs = search needs
-
 returns : tie.Need-returns
 returns c =
     let a = c .before .before .before .args in
@@ -26,4 +23,4 @@ returns c =
 
 pub fresh-on-sections-spec : {M : Type 1} → statement M
 fresh-on-sections-spec =
-    tie.close (tie.spec sub-fresh part-fresh-start part-fresh-end fresh-requires returns)
+    tie.close (tie.spec sub-fresh part-fresh-start part-fresh-end (λ c κs. search needs) returns)

@@ -4,17 +4,8 @@ use borrow.Author.Needs.{needs}
 use Rattle.scope.proofs.differs.Statement.{statement}
 use Rattle.scope.proofs.differs.Tie as tie
 
-same-at-requires : tie.Need-same-at-requires
-same-at-requires c κs = search needs
-
-place-at-requires : tie.Need-place-at-requires
-place-at-requires c κs = search needs
-
-offence-requires : tie.Need-offence-requires
-offence-requires c κs = search needs
-
 returns : tie.Need-returns
 returns c = differs-is (c .before .before .before .before .args .text .now) (c .before .before .before .before .args .starts .now) (c .before .before .before .before .args .sizes .now) (c .before .before .before .before .args .n) (c .before .before .before .before .args .a) (c .before .before .before .before .args .b) _ _ _ (c .before .before .same-at .ensures) (c .before .place-at .ensures) (c .offence .ensures)
 
 pub differs-spec : {M : Type 1} → statement M
-differs-spec = tie.close (tie.spec same-at-requires place-at-requires offence-requires returns)
+differs-spec = tie.close (tie.spec (λ c κs. search needs) (λ c κs. search needs) (λ c κs. search needs) returns)

@@ -6,27 +6,6 @@ use borrow.Author.Needs.{needs}
 use Rattle.scope.proofs.lowest_place.Statement.{statement}
 use Rattle.scope.proofs.lowest_place.Tie as tie
 
-heads-differ-requires : tie.Need-heads-differ-requires
-heads-differ-requires c κs = search needs
-
-doubled-requires : tie.Need-doubled-requires
-doubled-requires c κs = search needs
-
-targets-requires : tie.Need-targets-requires
-targets-requires c κs = search needs
-
-reads-requires : tie.Need-reads-requires
-reads-requires c κs = search needs
-
-lower-requires : tie.Need-lower-requires
-lower-requires c κs = search needs
-
-lower-requires-2 : tie.Need-lower-requires-2
-lower-requires-2 c κs = search needs
-
-lower-requires-3 : tie.Need-lower-requires-3
-lower-requires-3 c κs = search needs
-
 returns : tie.Need-returns
 unfolding namesIn
 returns c = judges (c .before .before .before .before .before .before .before .before .args .text .now) (c .before .before .before .before .before .before .before .before .args .starts .now) (c .before .before .before .before .before .before .before .before .args .sizes .now) (c .before .before .before .before .before .before .before .before .args .n) (c .before .before .before .before .before .before .before .before .args .h) (c .before .before .before .before .before .before .before .before .args .rows .now) (c .before .before .before .before .before .before .before .before .args .s) (c .before .before .before .before .before .before .before .before .args .codes .now) (c .before .before .before .before .before .before .before .before .args .indices .now) (c .before .before .before .before .before .before .before .before .args .k) (c .before .before .before .before .before .before .before .before .args .decls .now) (c .before .before .before .before .before .before .before .before .args .d) (c .before .before .before .before .before .before .before .before .args .owners .now) _
@@ -36,11 +15,11 @@ pub lowest-place-spec : {M : Type 1} → statement M
 lowest-place-spec =
     tie.close
     (tie.spec
-    heads-differ-requires
-    doubled-requires
-    targets-requires
-    reads-requires
-    lower-requires
-    lower-requires-2
-    lower-requires-3
+    (λ c κs. search needs)
+    (λ c κs. search needs)
+    (λ c κs. search needs)
+    (λ c κs. search needs)
+    (λ c κs. search needs)
+    (λ c κs. search needs)
+    (λ c κs. search needs)
     returns)

@@ -4,14 +4,8 @@ use borrow.Author.Needs.{needs}
 use Rattle.scope.proofs.names.Statement.{statement}
 use Rattle.scope.proofs.names.Tie as tie
 
-lowest-place-requires : tie.Need-lowest-place-requires
-lowest-place-requires c κs = search needs
-
-found-requires : tie.Need-found-requires
-found-requires c κs = search needs
-
 returns : tie.Need-returns
 returns c = finds (c .before .lowest-place .ensures) (c .found .ensures)
 
 pub names-spec : {M : Type 1} → statement M
-names-spec = tie.close (tie.spec lowest-place-requires found-requires returns)
+names-spec = tie.close (tie.spec (λ c κs. search needs) (λ c κs. search needs) returns)

@@ -13,44 +13,14 @@ Inv-loop text starts sizes n decls d i end j₀ j = Owning text starts sizes n d
 abbrev μ-loop : tie.MeasureT-loop
 μ-loop text starts sizes n decls d i end j₀ j = end - j
 
-at-most-requires : tie.Need-at-most-requires Inv-loop μ-loop
-at-most-requires c κs = search needs
-
 loop-holds : tie.Need-loop-holds Inv-loop μ-loop
 loop-holds c = owning-first _ _ _ _ _ _ _
-
-mul-wide : tie.Need-mul-wide Inv-loop μ-loop
-mul-wide c = search needs
-
-mul-wide-2 : tie.Need-mul-wide-2 Inv-loop μ-loop
-mul-wide-2 c = search needs
-
-element-copy-out-wide : tie.Need-element-copy-out-wide Inv-loop μ-loop
-element-copy-out-wide c = search needs
-
-wide-requires : tie.Need-wide-requires Inv-loop μ-loop
-wide-requires c κs = search needs
-
-same-at-requires : tie.Need-same-at-requires Inv-loop μ-loop
-same-at-requires c κs = search needs
-
-cast-result : tie.Need-cast-result Inv-loop μ-loop
-cast-result c = search needs
 
 returns : tie.Need-returns Inv-loop μ-loop
 returns c = owning-found _ _ _ _ _ _ _ _ _ _ (c .before .before .before .before .loop-test .taken) (c .before .before .wide .ensures) (c .before .same-at .ensures) (c .before .before .before .before .before .loop .inv) (c .if1 .taken) ∙ ap (ownerFrom _ _ _ _ _ _ 0) (c .before .before .before .before .before .before .at-most .ensures)
 
-add-j : tie.Need-add-j Inv-loop μ-loop
-add-j c = search needs
-
-loop-less : tie.Need-loop-less Inv-loop μ-loop
-loop-less c = search needs
-
 loop-again : tie.Need-loop-again Inv-loop μ-loop
 loop-again c = owning-again _ _ _ _ _ _ _ _ _ _ (c .before .before .before .before .loop-test .taken) (c .before .before .wide .ensures) (c .before .same-at .ensures) (c .before .before .before .before .before .loop .inv) (c .if1 .left)
-
-cast-result-2 : tie.Need-cast-result-2 Inv-loop μ-loop
-cast-result-2 c = search needs
 
 returns-2 : tie.Need-returns-2 Inv-loop μ-loop
 returns-2 c = owning-stop _ _ _ _ _ _ _ _ (c .loop-test .left) (c .before .loop .inv) ∙ ap (ownerFrom _ _ _ _ _ _ 0) (c .before .before .at-most .ensures)
@@ -61,17 +31,17 @@ owner-of-spec =
     (tie.spec
     Inv-loop
     μ-loop
-    at-most-requires
+    (λ c κs. search needs)
     loop-holds
-    mul-wide
-    mul-wide-2
-    element-copy-out-wide
-    wide-requires
-    same-at-requires
-    cast-result
+    (λ c. search needs)
+    (λ c. search needs)
+    (λ c. search needs)
+    (λ c κs. search needs)
+    (λ c κs. search needs)
+    (λ c. search needs)
     returns
-    add-j
-    loop-less
+    (λ c. search needs)
+    (λ c. search needs)
     loop-again
-    cast-result-2
+    (λ c. search needs)
     returns-2)

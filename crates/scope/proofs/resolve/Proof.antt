@@ -14,20 +14,8 @@ Inv-loop text kinds starts sizes n decls d owners₀ end i₀ owners i = Filling
 abbrev μ-loop : tie.MeasureT-loop
 μ-loop text kinds starts sizes n decls d owners₀ end i₀ owners i = end - i
 
-at-most-requires : tie.Need-at-most-requires Inv-loop μ-loop
-at-most-requires c κs = search needs
-
 loop-holds : tie.Need-loop-holds Inv-loop μ-loop
 loop-holds c = filling-first _ _ _ _
-
-settle-requires : tie.Need-settle-requires Inv-loop μ-loop
-settle-requires c κs = search needs
-
-add-i : tie.Need-add-i Inv-loop μ-loop
-add-i c = search needs
-
-loop-less : tie.Need-loop-less Inv-loop μ-loop
-loop-less c = search needs
 
 loop-again : tie.Need-loop-again Inv-loop μ-loop
 loop-again c = filling-again _ _ _ _ _ _ _ (c .before .before .loop-test .taken) (c .settle .ensures) (c .before .before .before .loop .inv)
@@ -43,10 +31,10 @@ resolve-spec =
     (tie.spec
     Inv-loop
     μ-loop
-    at-most-requires
+    (λ c κs. search needs)
     loop-holds
-    settle-requires
-    add-i
-    loop-less
+    (λ c κs. search needs)
+    (λ c. search needs)
+    (λ c. search needs)
     loop-again
     returns)

@@ -5,33 +5,6 @@ use borrow.Author.Needs.{needs}
 use Rattle.scope.proofs.same_at.Statement.{statement}
 use Rattle.scope.proofs.same_at.Tie as tie
 
-place-at-requires : tie.Need-place-at-requires
-place-at-requires c κs = search needs
-
-wide-requires : tie.Need-wide-requires
-wide-requires c κs = search needs
-
-place-at-requires-2 : tie.Need-place-at-requires-2
-place-at-requires-2 c κs = search needs
-
-wide-requires-2 : tie.Need-wide-requires-2
-wide-requires-2 c κs = search needs
-
-place-at-requires-3 : tie.Need-place-at-requires-3
-place-at-requires-3 c κs = search needs
-
-wide-requires-3 : tie.Need-wide-requires-3
-wide-requires-3 c κs = search needs
-
-place-at-requires-4 : tie.Need-place-at-requires-4
-place-at-requires-4 c κs = search needs
-
-wide-requires-4 : tie.Need-wide-requires-4
-wide-requires-4 c κs = search needs
-
-same-name-requires : tie.Need-same-name-requires
-same-name-requires c κs = search needs
-
 returns : tie.Need-returns
 returns c = same-is (c .before .before .before .before .before .before .before .before .before .before .args .text .now) (c .before .before .before .before .before .before .before .before .before .before .args .starts .now) (c .before .before .before .before .before .before .before .before .before .before .args .sizes .now) (c .before .before .before .before .before .before .before .before .before .before .args .n) (c .before .before .before .before .before .before .before .before .before .before .args .a) (c .before .before .before .before .before .before .before .before .before .before .args .b) _ _ _ _ _
     (c .before .before .before .before .before .before .before .wide .ensures ∙ c .before .before .before .before .before .before .before .before .place-at .ensures) (c .before .before .before .before .before .wide2 .ensures ∙ c .before .before .before .before .before .before .place-at2 .ensures) (c .before .before .before .wide3 .ensures ∙ c .before .before .before .before .place-at3 .ensures) (c .before .wide4 .ensures ∙ c .before .before .place-at4 .ensures) (c .same-name .ensures)
@@ -40,13 +13,13 @@ pub same-at-spec : {M : Type 1} → statement M
 same-at-spec =
     tie.close
     (tie.spec
-    place-at-requires
-    wide-requires
-    place-at-requires-2
-    wide-requires-2
-    place-at-requires-3
-    wide-requires-3
-    place-at-requires-4
-    wide-requires-4
-    same-name-requires
+    (λ c κs. search needs)
+    (λ c κs. search needs)
+    (λ c κs. search needs)
+    (λ c κs. search needs)
+    (λ c κs. search needs)
+    (λ c κs. search needs)
+    (λ c κs. search needs)
+    (λ c κs. search needs)
+    (λ c κs. search needs)
     returns)

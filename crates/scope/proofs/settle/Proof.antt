@@ -5,17 +5,8 @@ use borrow.Author.Needs.{needs}
 use Rattle.scope.proofs.settle.Statement.{statement}
 use Rattle.scope.proofs.settle.Tie as tie
 
-element-copy-out-if1 : tie.Need-element-copy-out-if1
-element-copy-out-if1 c = search needs
-
 returns : tie.Need-returns
 returns c = filled-other (ownerIn (c .before .before .before .args .text .now) (c .before .before .before .args .starts .now) (c .before .before .before .args .sizes .now) (c .before .before .before .args .n) (c .before .before .before .args .decls .now) (c .before .before .before .args .d)) (c .before .before .before .args .kinds .now) (c .before .before .before .args .i) _ (c .if1 .taken)
-
-owner-of-requires : tie.Need-owner-of-requires
-owner-of-requires c κs = search needs
-
-element-write-owners : tie.Need-element-write-owners
-element-write-owners c = search needs
 
 returns-2 : tie.Need-returns-2
 returns-2 c = filled-name (ownerIn (c .before .before .before .before .args .text .now) (c .before .before .before .before .args .starts .now) (c .before .before .before .before .args .sizes .now) (c .before .before .before .before .args .n) (c .before .before .before .before .args .decls .now) (c .before .before .before .before .args .d)) (c .before .before .before .before .args .kinds .now) (c .before .before .before .before .args .i) (c .before .before .before .before .args .owners .now) _ (c .before .if1 .left) (c .owner-of .ensures)
@@ -23,4 +14,4 @@ returns-2 c = filled-name (ownerIn (c .before .before .before .before .args .tex
 pub settle-spec : {M : Type 1} → statement M
 settle-spec =
     tie.close
-    (tie.spec element-copy-out-if1 returns owner-of-requires element-write-owners returns-2)
+    (tie.spec (λ c. search needs) returns (λ c κs. search needs) (λ c. search needs) returns-2)

@@ -15,16 +15,10 @@ use Rattle.signed.proofs.Division.{bits-above, quot-fits, by-zero, leas
 use Rattle.signed.proofs.divide.Statement.{statement}
 use Rattle.signed.proofs.divide.Tie as tie
 
-equal-requires : tie.Need-equal-requires
-equal-requires c κs = search needs
-
 returns : tie.Need-returns
 returns c =
     let s = c .before .before in
     by-zero (s .args .y) _ (sym (rw (toZ-ofZ (s .fits .y)) at (c .before .equal .ensures)) ∙ c .if1 .taken)
-
-least-by-minus-one-requires : tie.Need-least-by-minus-one-requires
-least-by-minus-one-requires c κs = search needs
 
 returns-2 : tie.Need-returns-2
 returns-2 c =
@@ -54,4 +48,4 @@ returns-3 c =
     simp (toZ-ofZ (s .fits .x), toZ-ofZ (s .fits .y), toZ-ofZ (fits c)) (sym (ap checkedOf (by-other (s .args .y) _ (above c) ∙ integer-inside _ (fits c))))
 
 pub divide-spec : {M : Type 1} → statement M
-divide-spec = tie.close (tie.spec equal-requires least-by-minus-one-requires div-t7 returns returns-2 returns-3)
+divide-spec = tie.close (tie.spec (λ c κs. search needs) (λ c κs. search needs) div-t7 returns returns-2 returns-3)

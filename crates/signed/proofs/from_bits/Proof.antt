@@ -11,15 +11,6 @@ use Rattle.signed.proofs.Range.{below-zero}
 use Rattle.signed.proofs.from_bits.Statement.{statement}
 use Rattle.signed.proofs.from_bits.Tie as tie
 
-cast-result : tie.Need-cast-result
-cast-result c = search needs
-
-sub-result : tie.Need-sub-result
-sub-result c = search needs
-
-cast-result-2 : tie.Need-cast-result-2
-cast-result-2 c = search needs
-
 negative : (c : tie.Else1) → SFits w32 (negsuc (4294967295 - c .before .args .n))
 negative c = record { sfits = omega arith }
 
@@ -33,4 +24,4 @@ returns-2 : tie.Need-returns-2
 returns-2 c = rw (toZ-pos w32 (negative c .sfits), below-zero, toZ-ofZ (negative c), le-ltb _ _ (c .if1 .left))
 
 pub from-bits-spec : {M : Type 1} → statement M
-from-bits-spec = tie.close (tie.spec cast-result sub-result cast-result-2 sub-result-2 returns returns-2)
+from-bits-spec = tie.close (tie.spec (λ c. search needs) (λ c. search needs) (λ c. search needs) sub-result-2 returns returns-2)

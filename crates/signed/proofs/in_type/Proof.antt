@@ -6,17 +6,11 @@ use Rattle.signed.proofs.Types.{zero-logic, one-logic, not-logic}
 use Rattle.signed.proofs.in_type.Statement.{statement}
 use Rattle.signed.proofs.in_type.Tie as tie
 
-equal-requires : tie.Need-equal-requires
-equal-requires c κs = search needs
-
 returns : tie.Need-returns
 returns c =
     let s = c .before .before .before in
     zero-logic (s .args .kind) (s .args .v) (c .before .before .if1 .taken)
     (sym (rw (toZ-ofZ (s .fits .v)) at (c .before .equal .ensures)) ∙ c .if2 .taken)
-
-equal-requires-2 : tie.Need-equal-requires-2
-equal-requires-2 c κs = search needs
 
 returns-2 : tie.Need-returns-2
 returns-2 c =
@@ -29,4 +23,4 @@ returns-3 : tie.Need-returns-3
 returns-3 c = not-logic (c .before .args .kind) (c .before .args .v) (c .if1 .left) (c .before .fits .v)
 
 pub in-type-spec : {M : Type 1} → statement M
-in-type-spec = tie.close (tie.spec equal-requires returns equal-requires-2 returns-2 returns-3)
+in-type-spec = tie.close (tie.spec (λ c κs. search needs) returns (λ c κs. search needs) returns-2 returns-3)

@@ -4,11 +4,8 @@ use borrow.Author.Needs.{needs}
 use Rattle.signed.proofs.is_one.Statement.{statement}
 use Rattle.signed.proofs.is_one.Tie as tie
 
-equal-requires : tie.Need-equal-requires
-equal-requires c κs = search needs
-
 returns : tie.Need-returns
 returns c = rw (toZ-ofZ (c .before .fits .x)) at (c .equal .ensures)
 
 pub is-one-spec : {M : Type 1} → statement M
-is-one-spec = tie.close (tie.spec equal-requires returns)
+is-one-spec = tie.close (tie.spec (λ c κs. search needs) returns)

@@ -8,12 +8,6 @@ use Rattle.design.specs.Types.{eqZ}
 use Rattle.signed.proofs.least_by_minus_one.Statement.{statement}
 use Rattle.signed.proofs.least_by_minus_one.Tie as tie
 
-equal-requires : tie.Need-equal-requires
-equal-requires c κs = search needs
-
-equal-requires-2 : tie.Need-equal-requires-2
-equal-requires-2 c κs = search needs
-
 returns : tie.Need-returns
 returns c =
     let s = c .before .before .before in
@@ -27,4 +21,4 @@ returns-2 c =
     rw e
 
 pub least-by-minus-one-spec : {M : Type 1} → statement M
-least-by-minus-one-spec = tie.close (tie.spec equal-requires equal-requires-2 returns returns-2)
+least-by-minus-one-spec = tie.close (tie.spec (λ c κs. search needs) (λ c κs. search needs) returns returns-2)

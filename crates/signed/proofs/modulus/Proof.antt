@@ -15,16 +15,10 @@ use Rattle.signed.proofs.Division.{bits-above, quot-fits, rem-fits, by-
 use Rattle.signed.proofs.modulus.Statement.{statement}
 use Rattle.signed.proofs.modulus.Tie as tie
 
-equal-requires : tie.Need-equal-requires
-equal-requires c κs = search needs
-
 returns : tie.Need-returns
 returns c =
     let s = c .before .before in
     by-zero (s .args .y) _ (sym (rw (toZ-ofZ (s .fits .y)) at (c .before .equal .ensures)) ∙ c .if1 .taken)
-
-least-by-minus-one-requires : tie.Need-least-by-minus-one-requires
-least-by-minus-one-requires c κs = search needs
 
 returns-2 : tie.Need-returns-2
 returns-2 c =
@@ -48,9 +42,6 @@ fits c = let s = c .before .before .before .before in quot-fits (s .args .x) (s 
 rem-to-sign : tie.Need-rem-to-sign
 rem-to-sign c = let s = c .before .before .before .before in simp (toZ-ofZ (s .fits .x), toZ-ofZ (s .fits .y)) (bits-above (s .fits .y) (above c), fits c)
 
-to-sign-requires : tie.Need-to-sign-requires
-to-sign-requires c κs = search needs
-
 shown : (c : tie.After-to-sign) → SFits w32 (c .to-sign .result)
 shown c = record { sfits = c .to-sign .ok }
 
@@ -61,4 +52,4 @@ returns-3 c =
     rw (toZ-ofZ (shown c)) (ap Value e ∙ sym (ap checkedOf (by-other (s .args .y) _ (above (c .before)))))
 
 pub modulus-spec : {M : Type 1} → statement M
-modulus-spec = tie.close (tie.spec equal-requires returns least-by-minus-one-requires returns-2 rem-to-sign to-sign-requires returns-3)
+modulus-spec = tie.close (tie.spec (λ c κs. search needs) returns (λ c κs. search needs) returns-2 rem-to-sign (λ c κs. search needs) returns-3)

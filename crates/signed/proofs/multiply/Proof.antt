@@ -18,9 +18,6 @@ mul-narrow c =
     let q = c .fits .y in
     simp (toZ-ofZ p, toZ-ofZ q, toZ-ofZ (wide p), toZ-ofZ (wide q)) (mul-wide _ _ p q)
 
-narrow-requires : tie.Need-narrow-requires
-narrow-requires c κs = search needs
-
 returns : tie.Need-returns
 returns c =
     let p = c .before .fits .x in
@@ -28,4 +25,4 @@ returns c =
     simp (toZ-ofZ p, toZ-ofZ q, toZ-ofZ (wide p), toZ-ofZ (wide q), toZ-ofZ (mul-wide _ _ p q)) at (c .narrow .ensures)
 
 pub multiply-spec : {M : Type 1} → statement M
-multiply-spec = tie.close (tie.spec cast-narrow cast-narrow-2 mul-narrow narrow-requires returns)
+multiply-spec = tie.close (tie.spec cast-narrow cast-narrow-2 mul-narrow (λ c κs. search needs) returns)

@@ -5,11 +5,8 @@ use borrow.Author.Needs.{needs}
 use Rattle.signed.proofs.negate.Statement.{statement}
 use Rattle.signed.proofs.negate.Tie as tie
 
-sum-requires : tie.Need-sum-requires
-sum-requires c κs = search needs
-
 returns : tie.Need-returns
 returns c = simp (toZ-ofZ (c .before .fits .x), zero-minus) at (c .sum .ensures)
 
 pub negate-spec : {M : Type 1} → statement M
-negate-spec = tie.close (tie.spec sum-requires returns)
+negate-spec = tie.close (tie.spec (λ c κs. search needs) returns)

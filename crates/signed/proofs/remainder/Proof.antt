@@ -14,16 +14,10 @@ use Rattle.signed.proofs.Division.{bits-above, quot-fits, rem-fits, by-
 use Rattle.signed.proofs.remainder.Statement.{statement}
 use Rattle.signed.proofs.remainder.Tie as tie
 
-equal-requires : tie.Need-equal-requires
-equal-requires c κs = search needs
-
 returns : tie.Need-returns
 returns c =
     let s = c .before .before in
     by-zero (s .args .y) _ (sym (rw (toZ-ofZ (s .fits .y)) at (c .before .equal .ensures)) ∙ c .if1 .taken)
-
-least-by-minus-one-requires : tie.Need-least-by-minus-one-requires
-least-by-minus-one-requires c κs = search needs
 
 returns-2 : tie.Need-returns-2
 returns-2 c =
@@ -54,4 +48,4 @@ returns-3 c =
     (sym (ap checkedOf (by-other (s .args .y) _ (above c))))
 
 pub remainder-spec : {M : Type 1} → statement M
-remainder-spec = tie.close (tie.spec equal-requires returns least-by-minus-one-requires returns-2 rem-t5 returns-3)
+remainder-spec = tie.close (tie.spec (λ c κs. search needs) returns (λ c κs. search needs) returns-2 rem-t5 returns-3)

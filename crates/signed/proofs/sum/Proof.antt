@@ -25,12 +25,6 @@ add-pick c =
     let q = c .fits .y in
     simp (toZ-ofZ p, toZ-ofZ q, toZ-ofZ (wide p), toZ-ofZ (wide q)) (add-wide _ _ p q)
 
-pick-requires : tie.Need-pick-requires
-pick-requires c κs = search needs
-
-narrow-requires : tie.Need-narrow-requires
-narrow-requires c κs = search needs
-
 returns : tie.Need-returns
 returns c =
     let p = c .before .before .fits .x in
@@ -40,4 +34,4 @@ returns c =
     rw e at (rw (toZ-ofZ fit) at (c .narrow .ensures))
 
 pub sum-spec : {M : Type 1} → statement M
-sum-spec = tie.close (tie.spec cast-a cast-b sub-pick add-pick pick-requires narrow-requires returns)
+sum-spec = tie.close (tie.spec cast-a cast-b sub-pick add-pick (λ c κs. search needs) (λ c κs. search needs) returns)

@@ -12,19 +12,10 @@ use Rattle.signed.proofs.Division.{signs-are, sign-zero, sign-alike, si
 use Rattle.signed.proofs.to_sign.Statement.{statement}
 use Rattle.signed.proofs.to_sign.Tie as tie
 
-equal-requires : tie.Need-equal-requires
-equal-requires c κs = search needs
-
 returns : tie.Need-returns
 returns c =
     let s = c .before .before in
     rw (toZ-ofZ (s .fits .r)) (sym (sign-zero (s .args .r) (s .args .y) (sym (rw (toZ-ofZ (s .fits .r)) at (c .before .equal .ensures)) ∙ c .if1 .taken)))
-
-less-requires : tie.Need-less-requires
-less-requires c κs = search needs
-
-less-requires-2 : tie.Need-less-requires-2
-less-requires-2 c κs = search needs
 
 -- where the first test leaves off, the second is that of the signs
 module _ (c : tie.After-less2) where
@@ -60,4 +51,4 @@ returns-3 c =
     (sym (sign-unlike (s .args .r) (s .args .y) (some (c .before)) (sym (signs (c .before)) ∙ c .if2 .left)))
 
 pub to-sign-spec : {M : Type 1} → statement M
-to-sign-spec = tie.close (tie.spec equal-requires returns less-requires less-requires-2 returns-2 add-result returns-3)
+to-sign-spec = tie.close (tie.spec (λ c κs. search needs) returns (λ c κs. search needs) (λ c κs. search needs) returns-2 add-result returns-3)

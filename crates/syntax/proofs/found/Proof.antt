@@ -4,14 +4,8 @@ use Rattle.syntax.proofs.Lowest.{offence-at}
 use Rattle.syntax.proofs.found.Statement.{statement}
 use Rattle.syntax.proofs.found.Tie as tie
 
-returns : tie.Need-returns
-returns c = search needs
-
-sub-t3 : tie.Need-sub-t3
-sub-t3 c = search needs
-
 returns-2 : tie.Need-returns-2
 returns-2 c = offence-at _ (c .if1 .left)
 
 pub found-spec : {M : Type 1} → statement M
-found-spec = tie.close (tie.spec returns sub-t3 returns-2)
+found-spec = tie.close (tie.spec (λ c. search needs) (λ c. search needs) returns-2)

@@ -8,11 +8,8 @@ use Rattle.syntax.proofs.offence.Tie as tie
 returns : tie.Need-returns
 returns c = sym (lowest-fine _ _ (c .if1 .taken))
 
-add-result : tie.Need-add-result
-add-result c = search needs
-
 returns-2 : tie.Need-returns-2
 returns-2 c = sym (lowest-unless _ (c .before .args .place) (c .if1 .left))
 
 pub offence-spec : {M : Type 1} → statement M
-offence-spec = tie.close (tie.spec returns add-result returns-2)
+offence-spec = tie.close (tie.spec returns (λ c. search needs) returns-2)

@@ -4,12 +4,6 @@ use borrow.Author.Tests.{lt-ltb, le-ltb}
 use Rattle.syntax.proofs.place_at.Statement.{statement}
 use Rattle.syntax.proofs.place_at.Tie as tie
 
-mul-result : tie.Need-mul-result
-mul-result c = search needs
-
-element-copy-out-result : tie.Need-element-copy-out-result
-element-copy-out-result c = search needs
-
 returns : tie.Need-returns
 returns c = rw (lt-ltb (c .before .before .before .args .i) (c .before .before .before .args .n) (c .before .before .if1 .taken), lt-ltb (c .before .before .before .args .i) 16384 (c .before .if2 .taken))
 
@@ -20,4 +14,4 @@ returns-3 : tie.Need-returns-3
 returns-3 c = rw (le-ltb (c .before .args .i) (c .before .args .n) (c .if1 .left))
 
 pub place-at-spec : {M : Type 1} → statement M
-place-at-spec = tie.close (tie.spec mul-result element-copy-out-result returns returns-2 returns-3)
+place-at-spec = tie.close (tie.spec (λ c. search needs) (λ c. search needs) returns returns-2 returns-3)

@@ -5,23 +5,8 @@ use borrow.Author.Needs.{needs}
 use Rattle.tracing.proofs.append.Statement.{statement}
 use Rattle.tracing.proofs.append.Tie as tie
 
-sub-next : tie.Need-sub-next
-sub-next c = search needs
-
-part-next-start : tie.Need-part-next-start
-part-next-start c = search needs
-
-part-next-end : tie.Need-part-next-end
-part-next-end c = search needs
-
-next-requires : tie.Need-next-requires
-next-requires c κs = search needs
-
 add-t10 : tie.Need-add-t10
 add-t10 c = let a = c .before .before .before .before .before .before .before .before .before .args in let z = part-inside (a .out .now) (a .size) _ _ _ (c .before .before .before .before .before .before .before .before .before .pre .2) (c .before .before .before .before .next .ensures .1) in omega arith
-
-same-length : tie.Need-same-length
-same-length c = search needs
 
 returns : tie.Need-returns
 returns c = let a = c .before .before .before .before .before .before .before .before .before .args in let r = c .before .before .before .before .next .ensures in (r .0, part-puts (a .out .now) (a .size) _ _ _ (r .1))
@@ -29,4 +14,4 @@ returns c = let a = c .before .before .before .before .before .before .before .b
 pub append-spec : {M : Type 1} → statement M
 append-spec =
     tie.close
-    (tie.spec sub-next part-next-start part-next-end next-requires add-t10 same-length returns)
+    (tie.spec (λ c. search needs) (λ c. search needs) (λ c. search needs) (λ c κs. search needs) add-t10 (λ c. search needs) returns)

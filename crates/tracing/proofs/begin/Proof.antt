@@ -4,12 +4,6 @@ use borrow.Author.Needs.{needs}
 use Rattle.tracing.proofs.begin.Statement.{statement}
 use Rattle.tracing.proofs.begin.Tie as tie
 
-refused-text-requires : tie.Need-refused-text-requires
-refused-text-requires c κs = search needs
-
-same-length : tie.Need-same-length
-same-length c = search needs
-
 returns : tie.Need-returns
 returns c = begin-only _ _ _ _ _ (c .before .before .before .before .if1 .taken) (c .before .before .refused-text .ensures)
 
@@ -17,4 +11,4 @@ returns-2 : tie.Need-returns-2
 returns-2 c = begin-image _ _ _ (c .if1 .left)
 
 pub begin-spec : {M : Type 1} → statement M
-begin-spec = tie.close (tie.spec refused-text-requires same-length returns returns-2)
+begin-spec = tie.close (tie.spec (λ c κs. search needs) (λ c. search needs) returns returns-2)

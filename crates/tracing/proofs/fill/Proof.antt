@@ -6,20 +6,8 @@ use Rattle.answers.specs.Answers.{openTold}
 use Rattle.tracing.proofs.fill.Statement.{statement}
 use Rattle.tracing.proofs.fill.Tie as tie
 
-open-requires : tie.Need-open-requires
-open-requires c κs = search needs
-
-enum-known-opened : tie.Need-enum-known-opened
-enum-known-opened c = search needs
-
 fill-opened-requires : tie.Need-fill-opened-requires
 fill-opened-requires c κs = sym (ap openTold (c .before .before .opened .given .1)) ∙ c .before .before .before .before .«open» .ensures
-
-enum-told : tie.Need-enum-told
-enum-told c = search needs
-
-same-length : tie.Need-same-length
-same-length c = search needs
 
 returns : tie.Need-returns
 returns c = fill-opened _ _ _ _ _ _ _ (sym (ap openTold (c .before .before .before .before .before .opened .given .1)) ∙ c .before .before .before .before .before .before .before .«open» .ensures) (c .before .before .fill-opened .ensures)
@@ -31,10 +19,10 @@ pub fill-spec : {M : Type 1} → statement M
 fill-spec =
     tie.close
     (tie.spec
-    open-requires
-    enum-known-opened
+    (λ c κs. search needs)
+    (λ c. search needs)
     fill-opened-requires
-    enum-told
-    same-length
+    (λ c. search needs)
+    (λ c. search needs)
     returns
     returns-2)

@@ -22,9 +22,6 @@ loop-holds c = filling-first _ _ _ _
 sub-has-more : tie.Need-sub-has-more Inv-loop μ-loop
 sub-has-more c = let g = c .loop .inv in let k = filling-kept _ _ _ _ _ _ _ g in omega (arith, g .fits)
 
-has-more-requires : tie.Need-has-more-requires Inv-loop μ-loop
-has-more-requires c κs = search needs
-
 append-requires : tie.Need-append-requires Inv-loop μ-loop
 append-requires c κs =
     let g = c .before .before .before .loop .inv in
@@ -53,7 +50,7 @@ fill-opened-spec =
     μ-loop
     loop-holds
     sub-has-more
-    has-more-requires
+    (λ c κs. search needs)
     append-requires
     loop-less
     loop-again

@@ -4,11 +4,8 @@ use borrow.Author.Needs.{needs}
 use Rattle.tracing.proofs.first.Statement.{statement}
 use Rattle.tracing.proofs.first.Tie as tie
 
-fresh-requires : tie.Need-fresh-requires
-fresh-requires c κs = search needs
-
 returns : tie.Need-returns
 returns c = first-is _ _ (c .before .fresh .ensures .1)
 
 pub first-spec : {M : Type 1} → statement M
-first-spec = tie.close (tie.spec fresh-requires returns)
+first-spec = tie.close (tie.spec (λ c κs. search needs) returns)

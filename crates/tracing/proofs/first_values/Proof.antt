@@ -11,18 +11,9 @@ use Rattle.tracing.proofs.first_values.Tie as tie
 returns : tie.Need-returns
 returns c = let h : length (c .before .args .values .now) ≤ c .before .args .n = search needs in sym (take-all (c .before .args .n) (c .before .args .values .now) h)
 
-sub-result : tie.Need-sub-result
-sub-result c = search needs
-
-part-result-start : tie.Need-part-result-start
-part-result-start c = search needs
-
-part-result-end : tie.Need-part-result-end
-part-result-end c = search needs
-
 returns-2 : tie.Need-returns-2
 returns-2 c = part-first (c .before .before .args .values .now) (c .before .before .args .n)
 
 pub first-values-spec : {M : Type 1} → statement M
 first-values-spec =
-    tie.close (tie.spec returns sub-result part-result-start part-result-end returns-2)
+    tie.close (tie.spec returns (λ c. search needs) (λ c. search needs) (λ c. search needs) returns-2)

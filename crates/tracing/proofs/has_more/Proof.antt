@@ -9,11 +9,8 @@ use Rattle.tracing.proofs.has_more.Tie as tie
 returns : tie.Need-returns
 returns c = let a = c .before .args in no-room (a .free) (a .length) (a .p) (omega arith)
 
-goes-on-requires : tie.Need-goes-on-requires
-goes-on-requires c κs = search needs
-
 returns-2 : tie.Need-returns-2
 returns-2 c = let a = c .before .before .args in c .goes-on .ensures ∙ some-room (a .free) (a .length) (a .p) (omega arith)
 
 pub has-more-spec : {M : Type 1} → statement M
-has-more-spec = tie.close (tie.spec returns goes-on-requires returns-2)
+has-more-spec = tie.close (tie.spec returns (λ c κs. search needs) returns-2)

@@ -6,15 +6,6 @@ use borrow.Author.Needs.{needs}
 use Rattle.tracing.proofs.next.Statement.{statement}
 use Rattle.tracing.proofs.next.Tie as tie
 
-part-end-requires : tie.Need-part-end-requires
-part-end-requires c κs = search needs
-
-sub-part-of : tie.Need-sub-part-of
-sub-part-of c = search needs
-
-part-of-requires : tie.Need-part-of-requires
-part-of-requires c κs = search needs
-
 row-line-requires : tie.Need-row-line-requires
 row-line-requires c κs =
     let a = c .before .before .before .before .before .before .before .args in
@@ -22,12 +13,6 @@ row-line-requires c κs =
 
 add-t14 : tie.Need-add-t14
 add-t14 c = let f = goes-facts _ _ _ (c .before .before .before .before .before .before .before .before .before .before .before .pre .1) in omega (arith, f .2)
-
-behind-requires : tie.Need-behind-requires
-behind-requires c κs = search needs
-
-same-length : tie.Need-same-length
-same-length c = search needs
 
 returns : tie.Need-returns
 returns c =
@@ -37,11 +22,11 @@ pub next-spec : {M : Type 1} → statement M
 next-spec =
     tie.close
     (tie.spec
-    part-end-requires
-    sub-part-of
-    part-of-requires
+    (λ c κs. search needs)
+    (λ c. search needs)
+    (λ c κs. search needs)
     row-line-requires
     add-t14
-    behind-requires
-    same-length
+    (λ c κs. search needs)
+    (λ c. search needs)
     returns)

@@ -7,15 +7,6 @@ use borrow.Author.Needs.{needs}
 use Rattle.typing.proofs.lowest_type.Statement.{statement}
 use Rattle.typing.proofs.lowest_type.Tie as tie
 
-initials-from-requires : tie.Need-initials-from-requires
-initials-from-requires c κs = search needs
-
-statements-from-requires : tie.Need-statements-from-requires
-statements-from-requires c κs = search needs
-
-lower-requires : tie.Need-lower-requires
-lower-requires c κs = search needs
-
 returns : tie.Need-returns
 returns c =
     let s = c .before .before .before .before .before .args in
@@ -37,9 +28,9 @@ pub lowest-type-spec : {M : Type 1} → statement M
 lowest-type-spec =
     tie.close
     (tie.spec
-    initials-from-requires
-    statements-from-requires
-    lower-requires
+    (λ c κs. search needs)
+    (λ c κs. search needs)
+    (λ c κs. search needs)
     returns
     returns-2
     returns-3)

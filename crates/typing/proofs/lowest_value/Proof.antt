@@ -6,9 +6,6 @@ use Rattle.typing.proofs.Groups.{values-judged}
 use Rattle.typing.proofs.lowest_value.Statement.{statement}
 use Rattle.typing.proofs.lowest_value.Tie as tie
 
-values-from-requires : tie.Need-values-from-requires
-values-from-requires c κs = search needs
-
 returns : tie.Need-returns
 returns c =
     let s = c .before .before .args in
@@ -18,4 +15,4 @@ returns-2 : tie.Need-returns-2
 returns-2 c = (rw (lt-leb (c .before .args .d) 65 (c .if1 .left)), λ ts kinds t h k. absurd (omega (arith, k .short, c .if1 .left)))
 
 pub lowest-value-spec : {M : Type 1} → statement M
-lowest-value-spec = tie.close (tie.spec values-from-requires returns returns-2)
+lowest-value-spec = tie.close (tie.spec (λ c κs. search needs) returns returns-2)

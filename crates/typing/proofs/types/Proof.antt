@@ -7,14 +7,8 @@ use borrow.Author.Needs.{needs}
 use Rattle.typing.proofs.types.Statement.{statement}
 use Rattle.typing.proofs.types.Tie as tie
 
-lowest-type-requires : tie.Need-lowest-type-requires
-lowest-type-requires c κs = search needs
-
-found-requires : tie.Need-found-requires
-found-requires c κs = search needs
-
 returns : tie.Need-returns
 returns c = let a = c .before .lowest-type .ensures in (c .found .ensures ∙ ap findingFrom (a .0), λ ts kinds t k h. finding-lowest (W.types t) (c .found .ensures) (a .1 ts kinds t k h))
 
 pub types-spec : {M : Type 1} → statement M
-types-spec = tie.close (tie.spec lowest-type-requires found-requires returns)
+types-spec = tie.close (tie.spec (λ c κs. search needs) (λ c κs. search needs) returns)

@@ -7,14 +7,8 @@ use borrow.Author.Needs.{needs}
 use Rattle.typing.proofs.values.Statement.{statement}
 use Rattle.typing.proofs.values.Tie as tie
 
-lowest-value-requires : tie.Need-lowest-value-requires
-lowest-value-requires c κs = search needs
-
-found-requires : tie.Need-found-requires
-found-requires c κs = search needs
-
 returns : tie.Need-returns
 returns c = let a = c .before .lowest-value .ensures in (c .found .ensures ∙ ap findingFrom (a .0), λ ts kinds t h k. finding-lowest (W.values t) (c .found .ensures) (a .1 ts kinds t h k))
 
 pub values-spec : {M : Type 1} → statement M
-values-spec = tie.close (tie.spec lowest-value-requires found-requires returns)
+values-spec = tie.close (tie.spec (λ c κs. search needs) (λ c κs. search needs) returns)

@@ -11,26 +11,14 @@ use Rattle.words.proofs.byte_of.Tie as tie
 above : (k : ℕ) → (k ≡ 0 → ⊥) → (k ≡ 1 → ⊥) → (k ≡ 2 → ⊥) → (k ≡ 3 → ⊥) → 4 ≤ k
 above k h0 h1 h2 h3 = omega arith
 
-low-requires : tie.Need-low-requires
-low-requires c κs = search needs
-
 returns : tie.Need-returns
 returns c = rw (c .before .if1 .taken) (c .low .ensures)
-
-low-requires-2 : tie.Need-low-requires-2
-low-requires-2 c κs = search needs
 
 returns-2 : tie.Need-returns-2
 returns-2 c = rw (c .before .if2 .taken) (c .low2 .ensures)
 
-low-requires-3 : tie.Need-low-requires-3
-low-requires-3 c κs = search needs
-
 returns-3 : tie.Need-returns-3
 returns-3 c = rw (c .before .if3 .taken) (c .low3 .ensures)
-
-low-requires-4 : tie.Need-low-requires-4
-low-requires-4 c κs = search needs
 
 returns-4 : tie.Need-returns-4
 returns-4 c = rw (c .before .if4 .taken) (c .low4 .ensures)
@@ -45,12 +33,12 @@ pub byte-of-spec : {M : Type 1} → statement M
 byte-of-spec =
     tie.close
     (tie.spec
-    low-requires
+    (λ c κs. search needs)
     returns
-    low-requires-2
+    (λ c κs. search needs)
     returns-2
-    low-requires-3
+    (λ c κs. search needs)
     returns-3
-    low-requires-4
+    (λ c κs. search needs)
     returns-4
     returns-5)

@@ -7,15 +7,6 @@ use borrow.Author.Needs.{needs}
 use Rattle.answers.proofs.numbers.batched.Statement.{statement}
 use Rattle.answers.proofs.numbers.batched.Tie as tie
 
-enum-told : tie.Need-enum-told
-enum-told c = search needs
-
-done-requires : tie.Need-done-requires
-done-requires c κs = search needs
-
-enum-known-b : tie.Need-enum-known-b
-enum-known-b c = search needs
-
 refused-requires : tie.Need-refused-requires
 refused-requires c κs = omega (arith, narrowed batchedNumbers (c .before .b .given .1) (c .before .before .before .pre) .place)
 
@@ -27,4 +18,4 @@ returns-2 c = c .refused .ensures ∙ sym (ap batchedNumbers (c .before .before 
 
 pub batched-spec : {M : Type 1} → statement M
 batched-spec =
-    tie.close (tie.spec enum-told done-requires enum-known-b refused-requires returns returns-2)
+    tie.close (tie.spec (λ c. search needs) (λ c κs. search needs) (λ c. search needs) refused-requires returns returns-2)

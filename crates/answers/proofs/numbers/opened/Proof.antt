@@ -7,15 +7,6 @@ use borrow.Author.Needs.{needs}
 use Rattle.answers.proofs.numbers.opened.Statement.{statement}
 use Rattle.answers.proofs.numbers.opened.Tie as tie
 
-enum-told : tie.Need-enum-told
-enum-told c = search needs
-
-done-requires : tie.Need-done-requires
-done-requires c κs = search needs
-
-enum-known-o : tie.Need-enum-known-o
-enum-known-o c = search needs
-
 refused-requires : tie.Need-refused-requires
 refused-requires c κs = omega (arith, narrowed openedNumbers (c .before .o .given .1) (c .before .before .before .pre) .place)
 
@@ -27,4 +18,4 @@ returns-2 c = c .refused .ensures ∙ sym (ap openedNumbers (c .before .before .
 
 pub opened-spec : {M : Type 1} → statement M
 opened-spec =
-    tie.close (tie.spec enum-told done-requires enum-known-o refused-requires returns returns-2)
+    tie.close (tie.spec (λ c. search needs) (λ c κs. search needs) (λ c. search needs) refused-requires returns returns-2)

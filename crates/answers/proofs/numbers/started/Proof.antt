@@ -7,15 +7,6 @@ use borrow.Author.Needs.{needs}
 use Rattle.answers.proofs.numbers.started.Statement.{statement}
 use Rattle.answers.proofs.numbers.started.Tie as tie
 
-enum-told : tie.Need-enum-told
-enum-told c = search needs
-
-done-requires : tie.Need-done-requires
-done-requires c κs = search needs
-
-enum-known-s : tie.Need-enum-known-s
-enum-known-s c = search needs
-
 refused-requires : tie.Need-refused-requires
 refused-requires c κs = omega (arith, narrowed startedNumbers (c .before .s .given .1) (c .before .before .before .pre) .place)
 
@@ -27,4 +18,4 @@ returns-2 c = c .refused .ensures ∙ sym (ap startedNumbers (c .before .before 
 
 pub started-spec : {M : Type 1} → statement M
 started-spec =
-    tie.close (tie.spec enum-told done-requires enum-known-s refused-requires returns returns-2)
+    tie.close (tie.spec (λ c. search needs) (λ c κs. search needs) (λ c. search needs) refused-requires returns returns-2)

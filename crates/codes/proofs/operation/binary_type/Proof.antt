@@ -10,18 +10,6 @@ use Rattle.codes.proofs.TypeLaws.{agrees, stretch, stretch-none, either
 use Rattle.codes.proofs.operation.binary_type.Statement.{statement}
 use Rattle.codes.proofs.operation.binary_type.Tie as tie
 
-equality-requires : tie.Need-equality-requires
-equality-requires c κs = search needs
-
-order-requires : tie.Need-order-requires
-order-requires c κs = search needs
-
-logical-requires : tie.Need-logical-requires
-logical-requires c κs = search needs
-
-sum-requires : tie.Need-sum-requires
-sum-requires c κs = search needs
-
 returns : tie.Need-returns
 unfolding all agrees bind binaryOf binaryType equalityType
 returns c = c .equality .ensures ∙ stretch equalityType binaryOf 2 20 refl _ (c .before .before .if2 .left) (c .before .if3 .taken) _
@@ -50,4 +38,4 @@ returns-6 c = stretch-none binaryOf 223 33 refl _ (c .if6 .left) (search needs) 
 
 pub binary-type-spec : {M : Type 1} → statement M
 binary-type-spec =
-    tie.close (tie.spec equality-requires order-requires logical-requires sum-requires returns returns-2 returns-3 returns-4 returns-5 returns-6)
+    tie.close (tie.spec (λ c κs. search needs) (λ c κs. search needs) (λ c κs. search needs) (λ c κs. search needs) returns returns-2 returns-3 returns-4 returns-5 returns-6)

@@ -9,12 +9,6 @@ use Rattle.codes.proofs.TypeLaws.{unary-type-is, unary-type-no}
 use Rattle.codes.proofs.operation.unary_type.Statement.{statement}
 use Rattle.codes.proofs.operation.unary_type.Tie as tie
 
-sum-requires : tie.Need-sum-requires
-sum-requires c κs = search needs
-
-logical-requires : tie.Need-logical-requires
-logical-requires c κs = search needs
-
 returns : tie.Need-returns
 unfolding bind unaryType
 returns c = c .sum .ensures ∙ sym (ap tagOr (unary-type-is (c .before .before .args .op) sign (rw (c .before .match .keys1)) (c .before .before .args .t)))
@@ -29,4 +23,4 @@ returns-3 c =
     sym (ap tagOr (unary-type-no (c .before .args .op) (rw (ne-eqb _ 16 (c .match .rest .0 .1), ne-eqb _ 17 (c .match .rest .1))) (c .before .args .t)))
 
 pub unary-type-spec : {M : Type 1} → statement M
-unary-type-spec = tie.close (tie.spec sum-requires logical-requires returns returns-2 returns-3)
+unary-type-spec = tie.close (tie.spec (λ c κs. search needs) (λ c κs. search needs) returns returns-2 returns-3)

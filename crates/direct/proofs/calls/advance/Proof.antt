@@ -9,24 +9,6 @@ use borrow.Author.Needs.{needs}
 use Rattle.direct.proofs.calls.advance.Statement.{statement}
 use Rattle.direct.proofs.calls.advance.Tie as tie
 
-row-check-requires : tie.Need-row-check-requires
-row-check-requires c κs = search needs
-
-enum-told : tie.Need-enum-told
-enum-told c = search needs
-
-judged-requires : tie.Need-judged-requires
-judged-requires c κs = search needs
-
-enum-known-check : tie.Need-enum-known-check
-enum-known-check c = search needs
-
-refused-requires : tie.Need-refused-requires
-refused-requires c κs = search needs
-
-same-length : tie.Need-same-length
-same-length c = search needs
-
 returns : tie.Need-returns
 returns c =
     λ p d n.
@@ -46,11 +28,11 @@ pub advance-spec : {M : Type 1} → statement M
 advance-spec =
     tie.close
     (tie.spec
-    row-check-requires
-    enum-told
-    judged-requires
-    enum-known-check
-    refused-requires
-    same-length
+    (λ c κs. search needs)
+    (λ c. search needs)
+    (λ c κs. search needs)
+    (λ c. search needs)
+    (λ c κs. search needs)
+    (λ c. search needs)
     returns
     returns-2)

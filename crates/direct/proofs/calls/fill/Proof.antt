@@ -25,9 +25,6 @@ abbrev μ-loop : tie.MeasureT-loop
 loop-holds : tie.Need-loop-holds Inv-loop μ-loop
 loop-holds c = (refl, search needs, refl)
 
-number-requires : tie.Need-number-requires Inv-loop μ-loop
-number-requires c κs = search needs
-
 mul-t4 : tie.Need-mul-t4 Inv-loop μ-loop
 mul-t4 c = omega arith
 
@@ -70,7 +67,7 @@ fill-spec =
     Inv-loop
     μ-loop
     loop-holds
-    number-requires
+    (λ c κs. search needs)
     mul-t4
     slice-set-from-slots
     add-k

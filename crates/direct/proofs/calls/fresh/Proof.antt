@@ -5,22 +5,10 @@ use borrow.Author.Needs.{needs}
 use Rattle.direct.proofs.calls.fresh.Statement.{statement}
 use Rattle.direct.proofs.calls.fresh.Tie as tie
 
-slice-aggregate-fill : tie.Need-slice-aggregate-fill
-slice-aggregate-fill c = search needs
-
-fill-requires : tie.Need-fill-requires
-fill-requires c κs = search needs
-
-slice-aggregate-fill-2 : tie.Need-slice-aggregate-fill-2
-slice-aggregate-fill-2 c = search needs
-
-fill-requires-2 : tie.Need-fill-requires-2
-fill-requires-2 c κs = search needs
-
 returns : tie.Need-returns
 returns c = λ p f g. fresh-law p (c .before .before .before .before .before .before .args .outputs .now) (c .before .before .before .before .before .before .args .variables .now) _ _ _ refl (c .before .before .before .before .fill .ensures) (c .before .fill2 .ensures) f g
 
 pub fresh-spec : {M : Type 1} → statement M
 fresh-spec =
     tie.close
-    (tie.spec slice-aggregate-fill fill-requires slice-aggregate-fill-2 fill-requires-2 returns)
+    (tie.spec (λ c. search needs) (λ c κs. search needs) (λ c. search needs) (λ c κs. search needs) returns)

@@ -8,15 +8,6 @@ use borrow.Author.Needs.{needs}
 use Rattle.direct.proofs.calls.judged.Statement.{statement}
 use Rattle.direct.proofs.calls.judged.Tie as tie
 
-state-check-requires : tie.Need-state-check-requires
-state-check-requires c κs = search needs
-
-run-requires : tie.Need-run-requires
-run-requires c κs = search needs
-
-same-length : tie.Need-same-length
-same-length c = search needs
-
 returns : tie.Need-returns
 returns c =
     λ p is d n z.
@@ -25,9 +16,6 @@ returns c =
     let f : fitsText p (c .before .before .before .before .before .before .before .before .before .args .s) ≡ true = sym (state-law p (c .before .before .before .before .before .before .before .before .before .args .codes .now) (c .before .before .before .before .before .before .before .before .before .args .args .now) (c .before .before .before .before .before .before .before .before .before .args .rows .now) (c .before .before .before .before .before .before .before .before .before .args .size) is (c .before .before .before .before .before .before .before .before .before .args .output-types .now) (c .before .before .before .before .before .before .before .before .before .args .variable-types .now) (c .before .before .before .before .before .before .before .before .before .args .s) d n lo lv) ∙ (sym (c .before .before .before .before .state-check .ensures .0) ∙ c .before .before .before .if1 .taken) in
     let k = names-count p is (c .before .before .before .before .before .before .before .before .before .args .output-types .now) (c .before .before .before .before .before .before .before .before .before .args .variable-types .now) n in
     call-cycled p (c .before .before .before .before .before .before .before .before .before .args .s) (c .before .before .before .before .before .before .before .before .before .args .inputs .now) (c .before .before .before .before .before .before .before .before .before .args .row .now) (c .before .run .result) _ z f (c .before .run .ensures p d (k .0) (k .1) (room-right p (c .before .before .before .before .before .before .before .before .before .args .inputs .now) (length (c .before .before .before .before .before .before .before .before .before .args .row .now)) z) f)
-
-refused-requires : tie.Need-refused-requires
-refused-requires c κs = search needs
 
 returns-2 : tie.Need-returns-2
 returns-2 c =
@@ -40,4 +28,4 @@ returns-2 c =
 pub judged-spec : {M : Type 1} → statement M
 judged-spec =
     tie.close
-    (tie.spec state-check-requires run-requires same-length returns refused-requires returns-2)
+    (tie.spec (λ c κs. search needs) (λ c κs. search needs) (λ c. search needs) returns (λ c κs. search needs) returns-2)

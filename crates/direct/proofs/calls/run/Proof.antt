@@ -8,74 +8,23 @@ use borrow.Author.Needs.{needs}
 use Rattle.direct.proofs.calls.run.Statement.{statement}
 use Rattle.direct.proofs.calls.run.Tie as tie
 
-refused-requires : tie.Need-refused-requires
-refused-requires c κs = search needs
-
 returns : tie.Need-returns
 returns c = λ p d oc vc room f. absurd (let h = c .before .if1 .taken in let b = d .well-formed .outputs in omega arith)
-
-refused-requires-2 : tie.Need-refused-requires-2
-refused-requires-2 c κs = search needs
 
 returns-2 : tie.Need-returns-2
 returns-2 c = λ p d oc vc room f. absurd (let h = c .before .if2 .taken in let b = d .well-formed .variables in omega arith)
 
-cast-cycle : tie.Need-cast-cycle
-cast-cycle c = search needs
-
-sub-cycle : tie.Need-sub-cycle
-sub-cycle c = search needs
-
-part-outputs-start : tie.Need-part-outputs-start
-part-outputs-start c = search needs
-
 part-outputs-end : tie.Need-part-outputs-end
 part-outputs-end c = let lo : length (c .before .before .before .before .before .before .before .args .s .outputs) ≡ 16 = search needs in let h = c .before .before .before .before .if1 .left in omega arith
 
-sub-cycle-2 : tie.Need-sub-cycle-2
-sub-cycle-2 c = search needs
-
-part-variables-start : tie.Need-part-variables-start
-part-variables-start c = search needs
-
 part-variables-end : tie.Need-part-variables-end
 part-variables-end c = let lo : length (c .before .before .before .before .before .before .before .before .args .s .variables) ≡ 32 = search needs in let h = c .before .before .before .before .if2 .left in omega arith
-
-cycle-requires : tie.Need-cycle-requires
-cycle-requires c κs = search needs
-
-enum-known-r : tie.Need-enum-known-r
-enum-known-r c = search needs
-
-performed-requires : tie.Need-performed-requires
-performed-requires c κs = search needs
-
-enum-known-r-2 : tie.Need-enum-known-r-2
-enum-known-r-2 c = search needs
-
-performed-requires-2 : tie.Need-performed-requires-2
-performed-requires-2 c κs = search needs
-
-enum-known-r-3 : tie.Need-enum-known-r-3
-enum-known-r-3 c = search needs
-
-operator-refusal-requires : tie.Need-operator-refusal-requires
-operator-refusal-requires c κs = search needs
-
-refused-requires-3 : tie.Need-refused-requires-3
-refused-requires-3 c κs = search needs
-
-same-length : tie.Need-same-length
-same-length c = search needs
 
 returns-3 : tie.Need-returns-3
 returns-3 c =
     λ p d oc vc room f.
     run-passed p (c .before .before .before .before .before .before .before .before .before .before .before .before .before .before .before .before .before .before .args .s) f (d .well-formed) (c .before .before .before .before .before .before .before .before .before .before .before .before .before .before .before .before .before .before .args .inputs .now) (c .before .before .before .before .before .before .before .before .before .before .before .before .before .before .before .before .before .before .args .row .now) room (c .before .before .before .before .before .before .before .before .before .before .before .before .before .before .before .before .before .before .args .output-count) (c .before .before .before .before .before .before .before .before .before .before .before .before .before .before .before .before .before .before .args .variable-count) oc vc _ _ (c .before .before .before .before .before .before .before .before .cycle .result) (record { lines = c .before .before .before .before .r .given .0 .0 }) (c .before .performed .result) _
     (c .before .before .before .before .before .before .before .before .cycle .ensures (p .body) (d .body) (d .block) (let b = d .well-formed .statements in let e = d .body .end in omega arith) (parts p (c .before .before .before .before .before .before .before .before .before .before .before .before .before .before .before .before .before .before .args .s) f .0)) (c .before .before .before .before .r .given .1) (c .before .performed .ensures) (search needs) (search needs)
-
-same-length-2 : tie.Need-same-length-2
-same-length-2 c = search needs
 
 returns-4 : tie.Need-returns-4
 returns-4 c =
@@ -98,27 +47,27 @@ pub run-spec : {M : Type 1} → statement M
 run-spec =
     tie.close
     (tie.spec
-    refused-requires
+    (λ c κs. search needs)
     returns
-    refused-requires-2
+    (λ c κs. search needs)
     returns-2
-    cast-cycle
-    sub-cycle
-    part-outputs-start
+    (λ c. search needs)
+    (λ c. search needs)
+    (λ c. search needs)
     part-outputs-end
-    sub-cycle-2
-    part-variables-start
+    (λ c. search needs)
+    (λ c. search needs)
     part-variables-end
-    cycle-requires
-    enum-known-r
-    performed-requires
-    enum-known-r-2
-    performed-requires-2
-    enum-known-r-3
-    operator-refusal-requires
-    refused-requires-3
-    same-length
+    (λ c κs. search needs)
+    (λ c. search needs)
+    (λ c κs. search needs)
+    (λ c. search needs)
+    (λ c κs. search needs)
+    (λ c. search needs)
+    (λ c κs. search needs)
+    (λ c κs. search needs)
+    (λ c. search needs)
     returns-3
-    same-length-2
+    (λ c. search needs)
     returns-4
     returns-5)

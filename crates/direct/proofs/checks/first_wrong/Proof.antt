@@ -26,18 +26,6 @@ loop-holds c = refl
 shared-slice-read-in-type : tie.Need-shared-slice-read-in-type Inv-loop μ-loop
 shared-slice-read-in-type c = let h = c .before .loop-test .taken in let e = c .before .before .before .before .pre in omega arith
 
-mul-in-type : tie.Need-mul-in-type Inv-loop μ-loop
-mul-in-type c = search needs
-
-shared-slice-copy-out-in-type : tie.Need-shared-slice-copy-out-in-type Inv-loop μ-loop
-shared-slice-copy-out-in-type c = search needs
-
-in-type-requires : tie.Need-in-type-requires Inv-loop μ-loop
-in-type-requires c κs = search needs
-
-add-k : tie.Need-add-k Inv-loop μ-loop
-add-k c = search needs
-
 loop-less : tie.Need-loop-less Inv-loop μ-loop
 loop-less c = let h = c .before .before .before .before .loop-test .taken in omega arith
 
@@ -62,10 +50,10 @@ first-wrong-spec =
     μ-loop
     loop-holds
     shared-slice-read-in-type
-    mul-in-type
-    shared-slice-copy-out-in-type
-    in-type-requires
-    add-k
+    (λ c. search needs)
+    (λ c. search needs)
+    (λ c κs. search needs)
+    (λ c. search needs)
     loop-less
     loop-again
     returns

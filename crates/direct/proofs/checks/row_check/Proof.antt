@@ -11,11 +11,8 @@ returns c = inputs-wrong (c .before .before .args .types .now) (c .before .befor
 returns-2 : tie.Need-returns-2
 returns-2 c = room-wrong (c .before .before .before .args .types .now) (c .before .before .before .args .inputs .now) (c .before .before .before .args .outputs) (c .before .before .before .args .room) (c .before .if1 .left) (c .if2 .taken)
 
-first-wrong-requires : tie.Need-first-wrong-requires
-first-wrong-requires c κs = search needs
-
 returns-3 : tie.Need-returns-3
 returns-3 c = c .first-wrong .ensures ∙ values-judged (c .before .before .before .before .args .types .now) (c .before .before .before .before .args .inputs .now) (c .before .before .before .before .args .outputs) (c .before .before .before .before .args .room) (c .before .before .if1 .left) (c .before .if2 .left)
 
 pub row-check-spec : {M : Type 1} → statement M
-row-check-spec = tie.close (tie.spec returns returns-2 first-wrong-requires returns-3)
+row-check-spec = tie.close (tie.spec returns returns-2 (λ c κs. search needs) returns-3)

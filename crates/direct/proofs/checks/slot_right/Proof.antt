@@ -6,15 +6,6 @@ use borrow.Author.Needs.{needs}
 use Rattle.direct.proofs.checks.slot_right.Statement.{statement}
 use Rattle.direct.proofs.checks.slot_right.Tie as tie
 
-shared-slice-read-in-type : tie.Need-shared-slice-read-in-type
-shared-slice-read-in-type c = search needs
-
-in-type-requires : tie.Need-in-type-requires
-in-type-requires c κs = search needs
-
-equal-requires : tie.Need-equal-requires
-equal-requires c κs = search needs
-
 returns : tie.Need-returns
 returns c = rw (lt-ltb (c .before .before .before .before .args .k) (length (c .before .before .before .before .args .types .now)) (c .before .before .if1 .taken)) (rw (toZ-ofZ (c .before .before .before .before .fits .v)) at (c .in-type .ensures))
 
@@ -24,4 +15,4 @@ returns-2 c = rw (le-ltb (c .before .before .before .args .k) (length (c .before
 pub slot-right-spec : {M : Type 1} → statement M
 slot-right-spec =
     tie.close
-    (tie.spec shared-slice-read-in-type in-type-requires equal-requires returns returns-2)
+    (tie.spec (λ c. search needs) (λ c κs. search needs) (λ c κs. search needs) returns returns-2)

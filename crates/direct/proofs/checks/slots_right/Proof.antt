@@ -22,18 +22,6 @@ abbrev μ-loop : tie.MeasureT-loop
 loop-holds : tie.Need-loop-holds Inv-loop μ-loop
 loop-holds c = (search needs, refl)
 
-mul-slot-right : tie.Need-mul-slot-right Inv-loop μ-loop
-mul-slot-right c = search needs
-
-shared-slice-copy-out-slot-right : tie.Need-shared-slice-copy-out-slot-right Inv-loop μ-loop
-shared-slice-copy-out-slot-right c = search needs
-
-slot-right-requires : tie.Need-slot-right-requires Inv-loop μ-loop
-slot-right-requires c κs = search needs
-
-add-k : tie.Need-add-k Inv-loop μ-loop
-add-k c = search needs
-
 loop-less : tie.Need-loop-less Inv-loop μ-loop
 loop-less c = let h = c .before .before .before .loop-test .taken in omega arith
 
@@ -58,10 +46,10 @@ slots-right-spec =
     Inv-loop
     μ-loop
     loop-holds
-    mul-slot-right
-    shared-slice-copy-out-slot-right
-    slot-right-requires
-    add-k
+    (λ c. search needs)
+    (λ c. search needs)
+    (λ c κs. search needs)
+    (λ c. search needs)
     loop-less
     loop-again
     returns

@@ -4,24 +4,6 @@ use borrow.Author.Needs.{needs}
 use Rattle.direct.proofs.checks.state_check.Statement.{statement}
 use Rattle.direct.proofs.checks.state_check.Tie as tie
 
-cast-place-right : tie.Need-cast-place-right
-cast-place-right c = search needs
-
-place-right-requires : tie.Need-place-right-requires
-place-right-requires c κs = search needs
-
-slice-aggregate-slots-right : tie.Need-slice-aggregate-slots-right
-slice-aggregate-slots-right c = search needs
-
-slots-right-requires : tie.Need-slots-right-requires
-slots-right-requires c κs = search needs
-
-slice-aggregate-slots-right-2 : tie.Need-slice-aggregate-slots-right-2
-slice-aggregate-slots-right-2 c = search needs
-
-slots-right-requires-2 : tie.Need-slots-right-requires-2
-slots-right-requires-2 c κs = search needs
-
 returns : tie.Need-returns
 returns c = (state-third (c .before .before .before .before .before .before .before .before .before .before .before .before .before .args .rows .now) (c .before .before .before .before .before .before .before .before .before .before .before .before .before .args .size) (c .before .before .before .before .before .before .before .before .before .before .before .before .before .args .output-types .now) (c .before .before .before .before .before .before .before .before .before .before .before .before .before .args .variable-types .now) (c .before .before .before .before .before .before .before .before .before .before .before .before .before .args .s) (c .before .before .before .before .before .before .before .before .place-right .result) (c .before .before .before .before .slots-right .result) (c .slots-right2 .result) (c .before .before .before .before .before .before .before .before .place-right .ensures) (c .before .before .before .before .before .before .before .if1 .taken) (c .before .before .before .before .slots-right .ensures) (c .before .before .before .if2 .taken) (c .slots-right2 .ensures), (search needs, search needs))
 
@@ -35,12 +17,12 @@ pub state-check-spec : {M : Type 1} → statement M
 state-check-spec =
     tie.close
     (tie.spec
-    cast-place-right
-    place-right-requires
-    slice-aggregate-slots-right
-    slots-right-requires
-    slice-aggregate-slots-right-2
-    slots-right-requires-2
+    (λ c. search needs)
+    (λ c κs. search needs)
+    (λ c. search needs)
+    (λ c κs. search needs)
+    (λ c. search needs)
+    (λ c κs. search needs)
     returns
     returns-2
     returns-3)

@@ -4,15 +4,6 @@ use borrow.Author.Needs.{needs}
 use Rattle.elaborator.proofs.items.arg_at.Statement.{statement}
 use Rattle.elaborator.proofs.items.arg_at.Tie as tie
 
-name-arg-requires : tie.Need-name-arg-requires
-name-arg-requires c κs = search needs
-
-literal-at-requires : tie.Need-literal-at-requires
-literal-at-requires c κs = search needs
-
-bit-at-requires : tie.Need-bit-at-requires
-bit-at-requires c κs = search needs
-
 returns : tie.Need-returns
 returns c = arg-name _ _ _ _ _ _ _ _ _ _ (c .before .match .keys1) (c .name-arg .ensures)
 
@@ -29,9 +20,9 @@ pub arg-at-spec : {M : Type 1} → statement M
 arg-at-spec =
     tie.close
     (tie.spec
-    name-arg-requires
-    literal-at-requires
-    bit-at-requires
+    (λ c κs. search needs)
+    (λ c κs. search needs)
+    (λ c κs. search needs)
     returns
     returns-2
     returns-3

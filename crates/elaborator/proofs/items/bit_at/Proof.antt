@@ -5,9 +5,6 @@ use borrow.Author.Needs.{needs}
 use Rattle.elaborator.proofs.items.bit_at.Statement.{statement}
 use Rattle.elaborator.proofs.items.bit_at.Tie as tie
 
-byte-at-requires : tie.Need-byte-at-requires
-byte-at-requires c κs = search needs
-
 returns : tie.Need-returns
 returns c = rw (sym (c .before .byte-at .ensures), c .if1 .taken)
 
@@ -15,4 +12,4 @@ returns-2 : tie.Need-returns-2
 returns-2 c = rw (sym (c .before .byte-at .ensures), ne-eqb _ 4 (c .if1 .left))
 
 pub bit-at-spec : {M : Type 1} → statement M
-bit-at-spec = tie.close (tie.spec byte-at-requires returns returns-2)
+bit-at-spec = tie.close (tie.spec (λ c κs. search needs) returns returns-2)

@@ -5,18 +5,6 @@ use borrow.Author.Needs.{needs}
 use Rattle.elaborator.proofs.items.code_at.Statement.{statement}
 use Rattle.elaborator.proofs.items.code_at.Tie as tie
 
-byte-at-requires : tie.Need-byte-at-requires
-byte-at-requires c κs = search needs
-
-cast-mode-at : tie.Need-cast-mode-at
-cast-mode-at c = search needs
-
-mode-at-requires : tie.Need-mode-at-requires
-mode-at-requires c κs = search needs
-
-name-code-requires : tie.Need-name-code-requires
-name-code-requires c κs = search needs
-
 returns : tie.Need-returns
 returns c = code-name (now (c .before .before .before .before .args .owners)) (now (c .before .before .before .before .args .decls)) (c .before .before .before .before .args .d) (c .before .before .before .before .args .c) (c .before .before .before .before .args .i) (c .before .before .before .match .keys1) (c .before .before .byte-at .ensures) (c .before .mode-at .ensures) (c .name-code .ensures)
 
@@ -33,10 +21,10 @@ pub code-at-spec : {M : Type 1} → statement M
 code-at-spec =
     tie.close
     (tie.spec
-    byte-at-requires
-    cast-mode-at
-    mode-at-requires
-    name-code-requires
+    (λ c κs. search needs)
+    (λ c. search needs)
+    (λ c κs. search needs)
+    (λ c κs. search needs)
     returns
     returns-2
     returns-3

@@ -17,9 +17,6 @@ Inv-loop text starts sizes kinds owners decls d slots codes indices k ops₀ arg
 abbrev μ-loop : tie.MeasureT-loop
 μ-loop text starts sizes kinds owners decls d slots codes indices k ops₀ args₀ n j₀ ops args j = n - j
 
-at-most-requires : tie.Need-at-most-requires Inv-loop μ-loop
-at-most-requires c κs = search needs
-
 loop-holds : tie.Need-loop-holds Inv-loop μ-loop
 loop-holds c = (c .at-most .ensures, filling-first _ _ _ _ _ _ _)
 
@@ -32,20 +29,8 @@ mul-wide c = let i = c .before .before .loop .inv .0 in let t = c .before .loop-
 element-copy-out-wide : tie.Need-element-copy-out-wide Inv-loop μ-loop
 element-copy-out-wide c = let i = c .before .before .loop .inv .0 in let t = c .before .loop-test .taken in search needs
 
-wide-requires : tie.Need-wide-requires Inv-loop μ-loop
-wide-requires c κs = search needs
-
-code-at-requires : tie.Need-code-at-requires Inv-loop μ-loop
-code-at-requires c κs = search needs
-
-arg-at-requires : tie.Need-arg-at-requires Inv-loop μ-loop
-arg-at-requires c κs = search needs
-
 element-write-ops : tie.Need-element-write-ops Inv-loop μ-loop
 element-write-ops c = let i = c .before .before .before .before .before .before .loop .inv .0 in let t = c .before .before .before .before .before .loop-test .taken in search needs
-
-whole-requires : tie.Need-whole-requires Inv-loop μ-loop
-whole-requires c κs = search needs
 
 mul-t24 : tie.Need-mul-t24 Inv-loop μ-loop
 mul-t24 c = let i = c .before .before .before .before .before .before .before .loop .inv .0 in let t = c .before .before .before .before .before .before .loop-test .taken in search needs
@@ -71,16 +56,16 @@ operations-spec =
     (tie.spec
     Inv-loop
     μ-loop
-    at-most-requires
+    (λ c κs. search needs)
     loop-holds
     element-copy-out-c
     mul-wide
     element-copy-out-wide
-    wide-requires
-    code-at-requires
-    arg-at-requires
+    (λ c κs. search needs)
+    (λ c κs. search needs)
+    (λ c κs. search needs)
     element-write-ops
-    whole-requires
+    (λ c κs. search needs)
     mul-t24
     element-set-from-args
     add-j

@@ -8,9 +8,6 @@ use borrow.Author.Needs.{needs}
 use Rattle.elaborator.proofs.items.whole.Statement.{statement}
 use Rattle.elaborator.proofs.items.whole.Tie as tie
 
-cast-result : tie.Need-cast-result
-cast-result c = search needs
-
 returns : tie.Need-returns
 returns c = let h : c .before .args .n < 2147483648 = (let k = c .if1 .taken in omega arith) in rw (toZ-pos w32 h, le-leb (c .before .args .n) 2147483647 (c .if1 .taken))
 
@@ -18,4 +15,4 @@ returns-2 : tie.Need-returns-2
 returns-2 c = rw (lt-leb (c .before .args .n) 2147483647 (c .if1 .left))
 
 pub whole-spec : {M : Type 1} → statement M
-whole-spec = tie.close (tie.spec cast-result returns returns-2)
+whole-spec = tie.close (tie.spec (λ c. search needs) returns returns-2)

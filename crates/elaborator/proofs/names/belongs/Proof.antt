@@ -6,9 +6,6 @@ use Rattle.elaborator.specs.Names.{ofMode}
 use Rattle.elaborator.proofs.names.belongs.Statement.{statement}
 use Rattle.elaborator.proofs.names.belongs.Tie as tie
 
-field-at-requires : tie.Need-field-at-requires
-field-at-requires c κs = search needs
-
 returns : tie.Need-returns
 unfolding ofMode
 returns c = rw (sym (c .before .field-at .ensures), ne-eqb _ _ (c .if1 .taken))
@@ -22,4 +19,4 @@ unfolding ofMode
 returns-3 c = rw (sym (c .before .before .field-at .ensures), eq-eqb _ _ (c .before .if1 .left), eq-eqb _ 0 (c .if2 .left))
 
 pub belongs-spec : {M : Type 1} → statement M
-belongs-spec = tie.close (tie.spec field-at-requires returns returns-2 returns-3)
+belongs-spec = tie.close (tie.spec (λ c κs. search needs) returns returns-2 returns-3)

@@ -7,33 +7,6 @@ use borrow.Author.Needs.{needs}
 use Rattle.elaborator.proofs.names.initial.Statement.{statement}
 use Rattle.elaborator.proofs.names.initial.Tie as tie
 
-field-at-requires : tie.Need-field-at-requires
-field-at-requires c κs = search needs
-
-field-at-requires-2 : tie.Need-field-at-requires-2
-field-at-requires-2 c κs = search needs
-
-cast-i : tie.Need-cast-i
-cast-i c = search needs
-
-literal-requires : tie.Need-literal-requires
-literal-requires c κs = search needs
-
-positive-requires : tie.Need-positive-requires
-positive-requires c κs = search needs
-
-bit-requires : tie.Need-bit-requires
-bit-requires c κs = search needs
-
-add-literal : tie.Need-add-literal
-add-literal c = search needs
-
-literal-requires-2 : tie.Need-literal-requires-2
-literal-requires-2 c κs = search needs
-
-negative-requires : tie.Need-negative-requires
-negative-requires c κs = search needs
-
 returns : tie.Need-returns
 returns c = let h : SFits w32 (c .positive .result) = search needs in rw (toZ-ofZ h) (initial-number _ _ _ _ _ _ (c .before .before .before .before .field-at .ensures) (c .before .before .before .field-at2 .ensures) (c .before .before .match .keys1) (c .before .literal .ensures .0) (c .positive .ensures))
 
@@ -50,15 +23,15 @@ pub initial-spec : {M : Type 1} → statement M
 initial-spec =
     tie.close
     (tie.spec
-    field-at-requires
-    field-at-requires-2
-    cast-i
-    literal-requires
-    positive-requires
-    bit-requires
-    add-literal
-    literal-requires-2
-    negative-requires
+    (λ c κs. search needs)
+    (λ c κs. search needs)
+    (λ c. search needs)
+    (λ c κs. search needs)
+    (λ c κs. search needs)
+    (λ c κs. search needs)
+    (λ c. search needs)
+    (λ c κs. search needs)
+    (λ c κs. search needs)
     returns
     returns-2
     returns-3

@@ -12,18 +12,9 @@ returns : tie.Need-returns
 unfolding minus
 returns c = rw (c .if1 .taken)
 
-sub-from-bits : tie.Need-sub-from-bits
-sub-from-bits c = search needs
-
-sub-from-bits-2 : tie.Need-sub-from-bits-2
-sub-from-bits-2 c = search needs
-
-from-bits-requires : tie.Need-from-bits-requires
-from-bits-requires c κs = search needs
-
 returns-2 : tie.Need-returns-2
 returns-2 c = let h : SFits w32 (c .from-bits .result) = search needs in rw (toZ-ofZ h) (bits-negative _ (c .before .if1 .left) (c .before .before .pre) (c .from-bits .ensures))
 
 pub negative-spec : {M : Type 1} → statement M
 negative-spec =
-    tie.close (tie.spec returns sub-from-bits sub-from-bits-2 from-bits-requires returns-2)
+    tie.close (tie.spec returns (λ c. search needs) (λ c. search needs) (λ c κs. search needs) returns-2)

@@ -7,11 +7,8 @@ use borrow.Author.Needs.{needs}
 use Rattle.elaborator.proofs.names.positive.Statement.{statement}
 use Rattle.elaborator.proofs.names.positive.Tie as tie
 
-from-bits-requires : tie.Need-from-bits-requires
-from-bits-requires c κs = search needs
-
 returns : tie.Need-returns
 returns c = let h : SFits w32 (c .from-bits .result) = search needs in rw (toZ-ofZ h) (bits-positive _ (c .before .pre) (c .from-bits .ensures))
 
 pub positive-spec : {M : Type 1} → statement M
-positive-spec = tie.close (tie.spec from-bits-requires returns)
+positive-spec = tie.close (tie.spec (λ c κs. search needs) returns)

@@ -5,12 +5,6 @@ use borrow.Author.Needs.{needs}
 use Rattle.elaborator.proofs.names.put_type.Statement.{statement}
 use Rattle.elaborator.proofs.names.put_type.Tie as tie
 
-element-write-out : tie.Need-element-write-out
-element-write-out c = search needs
-
-add-result : tie.Need-add-result
-add-result c = search needs
-
 returns : tie.Need-returns
 returns c = rw (c .if1 .taken) (refl, refl)
 
@@ -18,4 +12,4 @@ returns-2 : tie.Need-returns-2
 returns-2 c = rw (c .if1 .left) (omega arith, refl)
 
 pub put-type-spec : {M : Type 1} → statement M
-put-type-spec = tie.close (tie.spec element-write-out add-result returns returns-2)
+put-type-spec = tie.close (tie.spec (λ c. search needs) (λ c. search needs) returns returns-2)

@@ -6,15 +6,6 @@ use borrow.Author.Needs.{needs}
 use Rattle.elaborator.proofs.names.put_value.Statement.{statement}
 use Rattle.elaborator.proofs.names.put_value.Tie as tie
 
-mul-x : tie.Need-mul-x
-mul-x c = search needs
-
-element-set-from-x : tie.Need-element-set-from-x
-element-set-from-x c = search needs
-
-add-result : tie.Need-add-result
-add-result c = search needs
-
 returns : tie.Need-returns
 returns c = rw (toZ-ofZ (c .before .fits .x), c .if1 .taken) (refl, refl)
 
@@ -22,4 +13,4 @@ returns-2 : tie.Need-returns-2
 returns-2 c = rw (c .if1 .left) (omega arith, refl)
 
 pub put-value-spec : {M : Type 1} → statement M
-put-value-spec = tie.close (tie.spec mul-x element-set-from-x add-result returns returns-2)
+put-value-spec = tie.close (tie.spec (λ c. search needs) (λ c. search needs) (λ c. search needs) returns returns-2)

@@ -12,26 +12,8 @@ Inv-loop decls clock j mode end n₀ k₀ n k = Counts decls clock j mode end n 
 abbrev μ-loop : tie.MeasureT-loop
 μ-loop decls clock j mode end n₀ k₀ n k = end - k
 
-field-at-requires : tie.Need-field-at-requires Inv-loop μ-loop
-field-at-requires c κs = search needs
-
-at-most-requires : tie.Need-at-most-requires Inv-loop μ-loop
-at-most-requires c κs = search needs
-
 loop-holds : tie.Need-loop-holds Inv-loop μ-loop
 loop-holds c = count-first _ _ _ _ (c .before .field-at .ensures) (c .at-most .ensures)
-
-belongs-requires : tie.Need-belongs-requires Inv-loop μ-loop
-belongs-requires c κs = search needs
-
-more-requires : tie.Need-more-requires Inv-loop μ-loop
-more-requires c κs = search needs
-
-add-k : tie.Need-add-k Inv-loop μ-loop
-add-k c = search needs
-
-loop-less : tie.Need-loop-less Inv-loop μ-loop
-loop-less c = search needs
 
 loop-again : tie.Need-loop-again Inv-loop μ-loop
 loop-again c = count-again _ _ _ _ (c .before .before .before .loop .inv) (c .before .before .loop-test .taken) (c .before .belongs .ensures) (c .more .ensures)
@@ -45,12 +27,12 @@ slot-of-spec =
     (tie.spec
     Inv-loop
     μ-loop
-    field-at-requires
-    at-most-requires
+    (λ c κs. search needs)
+    (λ c κs. search needs)
     loop-holds
-    belongs-requires
-    more-requires
-    add-k
-    loop-less
+    (λ c κs. search needs)
+    (λ c κs. search needs)
+    (λ c. search needs)
+    (λ c. search needs)
     loop-again
     returns)

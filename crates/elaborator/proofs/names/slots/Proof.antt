@@ -12,23 +12,8 @@ Inv-loop decls d clock out₀ end j₀ out j = Slots decls d clock out₀ end ou
 abbrev μ-loop : tie.MeasureT-loop
 μ-loop decls d clock out₀ end j₀ out j = end - j
 
-at-most-requires : tie.Need-at-most-requires Inv-loop μ-loop
-at-most-requires c κs = search needs
-
 loop-holds : tie.Need-loop-holds Inv-loop μ-loop
 loop-holds c = slots-first _ _ _ _ (c .at-most .ensures)
-
-slot-of-requires : tie.Need-slot-of-requires Inv-loop μ-loop
-slot-of-requires c κs = search needs
-
-element-write-out : tie.Need-element-write-out Inv-loop μ-loop
-element-write-out c = search needs
-
-add-j : tie.Need-add-j Inv-loop μ-loop
-add-j c = search needs
-
-loop-less : tie.Need-loop-less Inv-loop μ-loop
-loop-less c = search needs
 
 loop-again : tie.Need-loop-again Inv-loop μ-loop
 loop-again c = slots-again _ _ _ _ (c .before .before .loop .inv) (c .before .loop-test .taken) (c .slot-of .ensures)
@@ -42,11 +27,11 @@ slots-spec =
     (tie.spec
     Inv-loop
     μ-loop
-    at-most-requires
+    (λ c κs. search needs)
     loop-holds
-    slot-of-requires
-    element-write-out
-    add-j
-    loop-less
+    (λ c κs. search needs)
+    (λ c. search needs)
+    (λ c. search needs)
+    (λ c. search needs)
     loop-again
     returns)

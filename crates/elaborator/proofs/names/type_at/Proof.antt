@@ -5,9 +5,6 @@ use borrow.Author.Needs.{needs}
 use Rattle.elaborator.proofs.names.type_at.Statement.{statement}
 use Rattle.elaborator.proofs.names.type_at.Tie as tie
 
-field-at-requires : tie.Need-field-at-requires
-field-at-requires c κs = search needs
-
 returns : tie.Need-returns
 returns c = rw (sym (c .before .field-at .ensures), eq-eqb _ 1 (c .if1 .taken))
 
@@ -15,4 +12,4 @@ returns-2 : tie.Need-returns-2
 returns-2 c = rw (sym (c .before .field-at .ensures), ne-eqb _ 1 (c .if1 .left))
 
 pub type-at-spec : {M : Type 1} → statement M
-type-at-spec = tie.close (tie.spec field-at-requires returns returns-2)
+type-at-spec = tie.close (tie.spec (λ c κs. search needs) returns returns-2)

@@ -14,30 +14,12 @@ Inv-loop decls d clock mode out₀ end n₀ k₀ out n k = Picks (ofMode decls c
 abbrev μ-loop : tie.MeasureT-loop
 μ-loop decls d clock mode out₀ end n₀ k₀ out n k = end - k
 
-at-most-requires : tie.Need-at-most-requires Inv-loop μ-loop
-at-most-requires c κs = search needs
-
 loop-holds : tie.Need-loop-holds Inv-loop μ-loop
 loop-holds c = pick-first _ _ _ _ (omega arith) (c .at-most .ensures)
 
 returns : tie.Need-returns Inv-loop μ-loop
 unfolding typesOf
 returns c = pick-full _ _ _ _ (c .before .before .loop .inv) (c .if1 .taken)
-
-belongs-requires : tie.Need-belongs-requires Inv-loop μ-loop
-belongs-requires c κs = search needs
-
-type-at-requires : tie.Need-type-at-requires Inv-loop μ-loop
-type-at-requires c κs = search needs
-
-put-type-requires : tie.Need-put-type-requires Inv-loop μ-loop
-put-type-requires c κs = search needs
-
-add-k : tie.Need-add-k Inv-loop μ-loop
-add-k c = search needs
-
-loop-less : tie.Need-loop-less Inv-loop μ-loop
-loop-less c = search needs
 
 loop-again : tie.Need-loop-again Inv-loop μ-loop
 loop-again c = pick-again _ _ _ _ (c .before .before .before .before .before .before .loop .inv) (c .before .before .before .before .before .loop-test .taken) (c .before .before .before .before .if1 .left) (c .before .before .belongs .ensures) (c .before .type-at .ensures) (c .put-type .ensures .0) (c .put-type .ensures .1)
@@ -52,13 +34,13 @@ types-spec =
     (tie.spec
     Inv-loop
     μ-loop
-    at-most-requires
+    (λ c κs. search needs)
     loop-holds
     returns
-    belongs-requires
-    type-at-requires
-    put-type-requires
-    add-k
-    loop-less
+    (λ c κs. search needs)
+    (λ c κs. search needs)
+    (λ c κs. search needs)
+    (λ c. search needs)
+    (λ c. search needs)
     loop-again
     returns-2)

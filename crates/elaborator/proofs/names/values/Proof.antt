@@ -17,30 +17,12 @@ Inv-loop text starts sizes kinds decls d mode out₀ end n₀ k₀ out n k = Pic
 abbrev μ-loop : tie.MeasureT-loop
 μ-loop text starts sizes kinds decls d mode out₀ end n₀ k₀ out n k = end - k
 
-at-most-requires : tie.Need-at-most-requires Inv-loop μ-loop
-at-most-requires c κs = search needs
-
 loop-holds : tie.Need-loop-holds Inv-loop μ-loop
 loop-holds c = pick-first _ _ _ _ (omega arith) (c .at-most .ensures)
 
 returns : tie.Need-returns Inv-loop μ-loop
 unfolding valuesOf
 returns c = pick-full _ _ _ _ (c .before .before .loop .inv) (c .if1 .taken)
-
-belongs-requires : tie.Need-belongs-requires Inv-loop μ-loop
-belongs-requires c κs = search needs
-
-initial-requires : tie.Need-initial-requires Inv-loop μ-loop
-initial-requires c κs = search needs
-
-put-value-requires : tie.Need-put-value-requires Inv-loop μ-loop
-put-value-requires c κs = search needs
-
-add-k : tie.Need-add-k Inv-loop μ-loop
-add-k c = search needs
-
-loop-less : tie.Need-loop-less Inv-loop μ-loop
-loop-less c = search needs
 
 loop-again : tie.Need-loop-again Inv-loop μ-loop
 loop-again c = let h : SFits w32 (c .before .initial .result) = search needs in pick-again _ _ _ _ (c .before .before .before .before .before .before .loop .inv) (c .before .before .before .before .before .loop-test .taken) (c .before .before .before .before .if1 .left) (c .before .before .belongs .ensures) (c .before .initial .ensures) (c .put-value .ensures .0) (rw (toZ-ofZ h) at (c .put-value .ensures .1))
@@ -55,13 +37,13 @@ values-spec =
     (tie.spec
     Inv-loop
     μ-loop
-    at-most-requires
+    (λ c κs. search needs)
     loop-holds
     returns
-    belongs-requires
-    initial-requires
-    put-value-requires
-    add-k
-    loop-less
+    (λ c κs. search needs)
+    (λ c κs. search needs)
+    (λ c κs. search needs)
+    (λ c. search needs)
+    (λ c. search needs)
     loop-again
     returns-2)

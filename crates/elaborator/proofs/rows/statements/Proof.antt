@@ -13,9 +13,6 @@ Inv-loop owners slots rows s out₀ n j₀ out j = (n ≡ min s 512) × Storing 
 abbrev μ-loop : tie.MeasureT-loop
 μ-loop owners slots rows s out₀ n j₀ out j = n - j
 
-at-most-requires : tie.Need-at-most-requires Inv-loop μ-loop
-at-most-requires c κs = search needs
-
 loop-holds : tie.Need-loop-holds Inv-loop μ-loop
 loop-holds c = (c .at-most .ensures, storing-first _ _ _ _ _)
 
@@ -40,7 +37,7 @@ statements-spec =
     (tie.spec
     Inv-loop
     μ-loop
-    at-most-requires
+    (λ c κs. search needs)
     loop-holds
     put-requires
     add-j

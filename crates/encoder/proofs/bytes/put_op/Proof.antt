@@ -14,36 +14,9 @@ use borrow.Author.Needs.{needs}
 use Rattle.encoder.proofs.bytes.put_op.Statement.{statement}
 use Rattle.encoder.proofs.bytes.put_op.Tie as tie
 
-put-cell-requires : tie.Need-put-cell-requires
-put-cell-requires c κs = search needs
-
-same-length : tie.Need-same-length
-same-length c = search needs
-
 returns : tie.Need-returns
 unfolding opBytes
 returns c = simp (eq-eqb (c .before .before .before .before .before .before .args .code) 1 (c .before .before .before .before .if1 .taken)) (rw (toZ-ofZ (c .before .before .before .before .before .before .fits .arg)) at (c .before .before .put-cell .ensures))
-
-width-requires : tie.Need-width-requires
-width-requires c κs = search needs
-
-put-requires : tie.Need-put-requires
-put-requires c κs = search needs
-
-add-put : tie.Need-add-put
-add-put c = search needs
-
-to-bits-requires : tie.Need-to-bits-requires
-to-bits-requires c κs = search needs
-
-byte-of-requires : tie.Need-byte-of-requires
-byte-of-requires c κs = search needs
-
-put-requires-2 : tie.Need-put-requires-2
-put-requires-2 c κs = search needs
-
-same-length-2 : tie.Need-same-length-2
-same-length-2 c = search needs
 
 returns-2 : tie.Need-returns-2
 unfolding opBytes
@@ -51,12 +24,6 @@ returns-2 c =
     let n = ne-eqb (c .before .before .before .before .before .before .before .before .before .before .before .before .before .before .args .code) 1 (c .before .before .before .before .before .before .before .before .before .before .before .before .if1 .left) in
     let w : eqb (widthOf (c .before .before .before .before .before .before .before .before .before .before .before .before .before .before .args .code)) 1 ≡ false = ap (λ (w : ℕ). eqb w 1) (sym (c .before .before .before .before .before .before .before .before .before .before .before .width .ensures .0)) ∙ ne-eqb (c .before .before .before .before .before .before .before .before .before .before .before .width .result) 1 (c .before .before .before .before .before .before .before .before .before .before .if2 .taken) in
     simp (n, w) (put-two (c .before .before .before .before .before .before .before .before .before .before .before .before .before .before .args .image .now) (c .before .before .before .before .before .before .before .before .before .before .before .before .before .before .args .at) refl (c .before .before .before .byte-of .ensures ∙ ap (λ (w : ℕ). w % 256) (c .before .before .before .before .to-bits .ensures ∙ ap (λ (z : ℤ). unsigned32 z) (toZ-ofZ (c .before .before .before .before .before .before .before .before .before .before .before .before .before .before .fits .arg)))) (c .before .before .before .before .before .before .before .before .put .ensures) (c .before .before .put2 .ensures))
-
-put-requires-3 : tie.Need-put-requires-3
-put-requires-3 c κs = search needs
-
-same-length-3 : tie.Need-same-length-3
-same-length-3 c = search needs
 
 returns-3 : tie.Need-returns-3
 unfolding opBytes
@@ -69,17 +36,17 @@ pub put-op-spec : {M : Type 1} → statement M
 put-op-spec =
     tie.close
     (tie.spec
-    put-cell-requires
-    same-length
+    (λ c κs. search needs)
+    (λ c. search needs)
     returns
-    width-requires
-    put-requires
-    add-put
-    to-bits-requires
-    byte-of-requires
-    put-requires-2
-    same-length-2
+    (λ c κs. search needs)
+    (λ c κs. search needs)
+    (λ c. search needs)
+    (λ c κs. search needs)
+    (λ c κs. search needs)
+    (λ c κs. search needs)
+    (λ c. search needs)
     returns-2
-    put-requires-3
-    same-length-3
+    (λ c κs. search needs)
+    (λ c. search needs)
     returns-3)

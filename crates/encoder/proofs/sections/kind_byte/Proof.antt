@@ -7,11 +7,8 @@ use Rattle.encoder.proofs.sections.kind_byte.Tie as tie
 returns : tie.Need-returns
 returns c = simp (eq-eqb (c .before .args .kind) 5 (c .if1 .taken))
 
-cast-result : tie.Need-cast-result
-cast-result c = search needs
-
 returns-2 : tie.Need-returns-2
 returns-2 c = simp (ne-eqb (c .before .args .kind) 5 (c .if1 .left))
 
 pub kind-byte-spec : {M : Type 1} → statement M
-kind-byte-spec = tie.close (tie.spec returns cast-result returns-2)
+kind-byte-spec = tie.close (tie.spec returns (λ c. search needs) returns-2)

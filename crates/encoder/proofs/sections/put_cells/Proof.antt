@@ -28,12 +28,6 @@ mul-put-cell c = omega arith
 add-put-cell : tie.Need-add-put-cell Inv-loop μ-loop
 add-put-cell c = omega arith
 
-byte-requires : tie.Need-byte-requires Inv-loop μ-loop
-byte-requires c κs = search needs
-
-value-requires : tie.Need-value-requires Inv-loop μ-loop
-value-requires c κs = search needs
-
 put-cell-requires : tie.Need-put-cell-requires Inv-loop μ-loop
 put-cell-requires c κs = omega arith
 
@@ -48,9 +42,6 @@ loop-again c =
     let h : SFits w32 (c .before .before .before .value .result) = search needs in
     (omega arith, (search needs, cells-again (c .before .before .before .before .before .before .before .before .before .before .args .types .now) (c .before .before .before .before .before .before .before .before .before .before .args .values .now) (c .before .before .before .before .before .before .before .loop .image) (c .before .before .before .before .before .before .before .before .before .before .args .at) (c .before .before .before .before .before .before .before .loop .k) (c .before .before .before .before .before .before .before .before .before .before .args .n) (c .before .before .before .before .before .before .loop-test .taken) (c .before .before .before .before .byte .ensures) (toZ-ofZ h ∙ c .before .before .before .value .ensures) (c .before .before .put-cell .ensures) ∙ c .before .before .before .before .before .before .before .loop .inv .1 .1))
 
-same-length : tie.Need-same-length Inv-loop μ-loop
-same-length c = search needs
-
 returns : tie.Need-returns Inv-loop μ-loop
 returns c = cells-done (c .before .before .before .before .args .types .now) (c .before .before .before .before .args .values .now) (c .before .loop .image) (c .before .before .before .before .args .image .now) (c .before .before .before .before .args .at) (c .before .loop .k) (c .before .before .before .before .args .n) (c .loop-test .left) (c .before .loop .inv .1 .1)
 
@@ -63,11 +54,11 @@ put-cells-spec =
     loop-holds
     mul-put-cell
     add-put-cell
-    byte-requires
-    value-requires
+    (λ c κs. search needs)
+    (λ c κs. search needs)
     put-cell-requires
     add-k
     loop-less
     loop-again
-    same-length
+    (λ c. search needs)
     returns)

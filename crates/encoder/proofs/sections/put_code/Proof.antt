@@ -36,9 +36,6 @@ element-copy-out-put-op c = omega arith
 put-op-requires : tie.Need-put-op-requires Inv-loop μ-loop
 put-op-requires c κs = omega arith
 
-width-requires : tie.Need-width-requires Inv-loop μ-loop
-width-requires c κs = search needs
-
 add-p : tie.Need-add-p Inv-loop μ-loop
 add-p c = omega (arith, c .width .ensures .1)
 
@@ -52,9 +49,6 @@ loop-again : tie.Need-loop-again Inv-loop μ-loop
 loop-again c =
     let h : SFits w32 (getD (c .before .before .before .before .before .before .before .before .before .before .args .args .now) (c .before .before .before .before .before .before .before .before .loop .i) (pos 0)) = search needs in
     (omega arith, (omega (arith, c .width .ensures .1), (search needs, code-again (c .before .before .before .before .before .before .before .before .before .before .args .codes .now) (c .before .before .before .before .before .before .before .before .before .before .args .args .now) (c .before .before .before .before .before .before .before .before .loop .image) (c .before .before .before .before .before .before .before .before .loop .p) (c .before .before .before .before .before .before .before .before .loop .i) (c .before .before .before .before .before .before .before .before .before .before .args .k) (c .before .before .before .before .before .before .before .loop-test .taken) refl (toZ-ofZ h) (c .before .before .before .put-op .ensures) (c .width .ensures .0) ∙ c .before .before .before .before .before .before .before .before .loop .inv .1 .1 .1)))
-
-same-length : tie.Need-same-length Inv-loop μ-loop
-same-length c = search needs
 
 returns : tie.Need-returns Inv-loop μ-loop
 returns c = code-done (c .before .before .before .args .codes .now) (c .before .before .before .args .args .now) (c .before .loop .image) (c .before .before .before .args .image .now) (c .before .loop .p) (c .before .before .before .args .at) (c .before .loop .i) (c .before .before .before .args .k) (c .loop-test .left) (c .before .loop .inv .1 .1 .1)
@@ -70,10 +64,10 @@ put-code-spec =
     mul-put-op
     element-copy-out-put-op
     put-op-requires
-    width-requires
+    (λ c κs. search needs)
     add-p
     add-i
     loop-less
     loop-again
-    same-length
+    (λ c. search needs)
     returns)

@@ -27,41 +27,17 @@ mul-number c = omega arith
 add-number : tie.Need-add-number Inv-loop μ-loop
 add-number c = omega arith
 
-number-requires : tie.Need-number-requires Inv-loop μ-loop
-number-requires c κs = search needs
-
-cast-run-width : tie.Need-cast-run-width Inv-loop μ-loop
-cast-run-width c = search needs
-
 mul-number-2 : tie.Need-mul-number-2 Inv-loop μ-loop
 mul-number-2 c = omega arith
 
 add-number-2 : tie.Need-add-number-2 Inv-loop μ-loop
 add-number-2 c = omega arith
 
-number-requires-2 : tie.Need-number-requires-2 Inv-loop μ-loop
-number-requires-2 c κs = search needs
-
-cast-run-width-2 : tie.Need-cast-run-width-2 Inv-loop μ-loop
-cast-run-width-2 c = search needs
-
-run-width-requires : tie.Need-run-width-requires Inv-loop μ-loop
-run-width-requires c κs = search needs
-
 mul-put-row : tie.Need-mul-put-row Inv-loop μ-loop
 mul-put-row c = omega arith
 
 add-put-row : tie.Need-add-put-row Inv-loop μ-loop
 add-put-row c = omega arith
-
-number-requires-3 : tie.Need-number-requires-3 Inv-loop μ-loop
-number-requires-3 c κs = search needs
-
-number-requires-4 : tie.Need-number-requires-4 Inv-loop μ-loop
-number-requires-4 c κs = search needs
-
-number-requires-5 : tie.Need-number-requires-5 Inv-loop μ-loop
-number-requires-5 c κs = search needs
 
 put-row-requires : tie.Need-put-row-requires Inv-loop μ-loop
 put-row-requires c κs = (omega arith, omega arith, omega arith, omega (arith, c .before .before .before .before .run-width .ensures .1))
@@ -81,9 +57,6 @@ loop-again c =
     let l = c .before .before .before .before .before .before .before .before .before .before .before .before .before .loop in
     (omega arith, (omega (arith, c .before .before .before .before .before .before .before .run-width .ensures .1), (search needs, lines-again (a .codes .now) (a .rows .now) (a .next .now) (a .other .now) (a .reaches .now) (l .image) (a .at) (l .j) (a .n) (l .p) (c .before .before .before .before .before .before .before .before .before .before .before .before .loop-test .taken) (c .before .before .before .before .before .before .before .before .before .before .number .ensures) (c .before .before .before .before .before .before .before .before .number2 .ensures) (c .before .before .before .before .before .before .before .run-width .ensures .0) (c .before .before .before .before .before .number3 .ensures) (c .before .before .before .before .number4 .ensures) (c .before .before .before .number5 .ensures) (c .before .before .put-row .ensures) ∙ l .inv .1 .1 .1)))
 
-same-length : tie.Need-same-length Inv-loop μ-loop
-same-length c = search needs
-
 returns : tie.Need-returns Inv-loop μ-loop
 returns c = lines-done (c .before .before .before .before .before .before .args .codes .now) (c .before .before .before .before .before .before .args .rows .now) (c .before .before .before .before .before .before .args .next .now) (c .before .before .before .before .before .before .args .other .now) (c .before .before .before .before .before .before .args .reaches .now) (c .before .loop .image) (c .before .before .before .before .before .before .args .image .now) (c .before .before .before .before .before .before .args .at) (c .before .loop .j) (c .before .before .before .before .before .before .args .n) (c .before .loop .p) (c .loop-test .left) (c .before .loop .inv .1 .1 .1)
 
@@ -96,22 +69,22 @@ put-lines-spec =
     loop-holds
     mul-number
     add-number
-    number-requires
-    cast-run-width
+    (λ c κs. search needs)
+    (λ c. search needs)
     mul-number-2
     add-number-2
-    number-requires-2
-    cast-run-width-2
-    run-width-requires
+    (λ c κs. search needs)
+    (λ c. search needs)
+    (λ c κs. search needs)
     mul-put-row
     add-put-row
-    number-requires-3
-    number-requires-4
-    number-requires-5
+    (λ c κs. search needs)
+    (λ c κs. search needs)
+    (λ c κs. search needs)
     put-row-requires
     add-p
     add-j
     loop-less
     loop-again
-    same-length
+    (λ c. search needs)
     returns)

@@ -22,12 +22,6 @@ loop-holds c = (omega arith, (refl, refl))
 add-put : tie.Need-add-put Inv-loop μ-loop
 add-put c = omega arith
 
-byte-requires : tie.Need-byte-requires Inv-loop μ-loop
-byte-requires c κs = search needs
-
-put-requires : tie.Need-put-requires Inv-loop μ-loop
-put-requires c κs = search needs
-
 add-k : tie.Need-add-k Inv-loop μ-loop
 add-k c = omega arith
 
@@ -36,9 +30,6 @@ loop-less c = omega arith
 
 loop-again : tie.Need-loop-again Inv-loop μ-loop
 loop-again c = (omega arith, (search needs, types-again (c .before .before .before .before .before .before .before .before .before .args .types .now) (c .before .before .before .before .before .before .loop .image) (c .before .before .before .before .before .before .before .before .before .args .at) (c .before .before .before .before .before .before .loop .k) (c .before .before .before .before .before .before .before .before .before .args .n) (c .before .before .before .before .before .loop-test .taken) (c .before .before .before .byte .ensures) (c .before .before .put .ensures) ∙ c .before .before .before .before .before .before .loop .inv .1 .1))
-
-same-length : tie.Need-same-length Inv-loop μ-loop
-same-length c = search needs
 
 returns : tie.Need-returns Inv-loop μ-loop
 returns c = types-done (c .before .before .before .before .args .types .now) (c .before .loop .image) (c .before .before .before .before .args .image .now) (c .before .before .before .before .args .at) (c .before .loop .k) (c .before .before .before .before .args .n) (c .loop-test .left) (c .before .loop .inv .1 .1)
@@ -51,10 +42,10 @@ put-types-spec =
     μ-loop
     loop-holds
     add-put
-    byte-requires
-    put-requires
+    (λ c κs. search needs)
+    (λ c κs. search needs)
     add-k
     loop-less
     loop-again
-    same-length
+    (λ c. search needs)
     returns)

@@ -14,17 +14,11 @@ Inv-loop codes from to stop i₀ w₀ i w = (w + widthFrom codes i (stop - i) �
 abbrev μ-loop : tie.MeasureT-loop
 μ-loop codes from to stop i₀ w₀ i w = stop - i
 
-bounded-requires : tie.Need-bounded-requires Inv-loop μ-loop
-bounded-requires c κs = search needs
-
 loop-holds : tie.Need-loop-holds Inv-loop μ-loop
 loop-holds c = (refl, omega arith)
 
 element-copy-out-width : tie.Need-element-copy-out-width Inv-loop μ-loop
 element-copy-out-width c = omega (arith, c .before .before .bounded .ensures)
-
-width-requires : tie.Need-width-requires Inv-loop μ-loop
-width-requires c κs = search needs
 
 add-w : tie.Need-add-w Inv-loop μ-loop
 add-w c = omega (arith, c .width .ensures .1)
@@ -47,10 +41,10 @@ run-width-spec =
     (tie.spec
     Inv-loop
     μ-loop
-    bounded-requires
+    (λ c κs. search needs)
     loop-holds
     element-copy-out-width
-    width-requires
+    (λ c κs. search needs)
     add-w
     add-i
     loop-less

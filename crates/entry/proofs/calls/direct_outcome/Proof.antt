@@ -4,19 +4,10 @@ use Rattle.entry.proofs.CallingLaws.{outcome-of}
 use Rattle.entry.proofs.calls.direct_outcome.Statement.{statement}
 use Rattle.entry.proofs.calls.direct_outcome.Tie as tie
 
-run-requires : tie.Need-run-requires
-run-requires c κs = search needs
-
-is-performed-requires : tie.Need-is-performed-requires
-is-performed-requires c κs = search needs
-
-same-length : tie.Need-same-length
-same-length c = search needs
-
 returns : tie.Need-returns
 returns c =
     let a = c .before .before .before .before .before .before .args in
     outcome-of (a .text .now) (a .s) (a .inputs .now) (a .row .now) _ _ (c .before .before .before .run .ensures) _ (c .is-performed .ensures)
 
 pub direct-outcome-spec : {M : Type 1} → statement M
-direct-outcome-spec = tie.close (tie.spec run-requires is-performed-requires same-length returns)
+direct-outcome-spec = tie.close (tie.spec (λ c κs. search needs) (λ c κs. search needs) (λ c. search needs) returns)

@@ -5,15 +5,9 @@ use borrow.Author.Needs.{needs}
 use Rattle.entry.proofs.calls.fresh_start.Statement.{statement}
 use Rattle.entry.proofs.calls.fresh_start.Tie as tie
 
-fresh-requires : tie.Need-fresh-requires
-fresh-requires c κs = search needs
-
-is-fresh-requires : tie.Need-is-fresh-requires
-is-fresh-requires c κs = search needs
-
 returns : tie.Need-returns
 returns c =
     start-of (freshOf (c .before .before .before .before .args .image .now)) _ _ _ (c .before .before .fresh .ensures) (c .is-fresh .ensures)
 
 pub fresh-start-spec : {M : Type 1} → statement M
-fresh-start-spec = tie.close (tie.spec fresh-requires is-fresh-requires returns)
+fresh-start-spec = tie.close (tie.spec (λ c κs. search needs) (λ c κs. search needs) returns)

@@ -7,20 +7,11 @@ use borrow.Author.Needs.{needs}
 use Rattle.evaluator.proofs.operand.bit.Statement.{statement}
 use Rattle.evaluator.proofs.operand.bit.Tie as tie
 
-width-requires : tie.Need-width-requires
-width-requires c κs = search needs
-
-add-if1 : tie.Need-add-if1
-add-if1 c = search needs
-
 returns : tie.Need-returns
 unfolding widthOf
 returns c =
     let w : c .before .width .result ≡ 2 = c .before .width .ensures .0 in
     bit-short (c .before .before .before .args .code .now) (c .before .before .before .args .at) (rw w at (c .if1 .taken))
-
-add-b : tie.Need-add-b
-add-b c = search needs
 
 shared-slice-read-b : tie.Need-shared-slice-read-b
 unfolding widthOf
@@ -51,10 +42,10 @@ pub bit-spec : {M : Type 1} → statement M
 bit-spec =
     tie.close
     (tie.spec
-    width-requires
-    add-if1
+    (λ c κs. search needs)
+    (λ c. search needs)
     returns
-    add-b
+    (λ c. search needs)
     shared-slice-read-b
     returns-2
     returns-3

@@ -10,21 +10,6 @@ use borrow.Author.Needs.{needs}
 use Rattle.evaluator.proofs.operand.integer.Statement.{statement}
 use Rattle.evaluator.proofs.operand.integer.Tie as tie
 
-width-requires : tie.Need-width-requires
-width-requires c κs = search needs
-
-add-if1 : tie.Need-add-if1
-add-if1 c = search needs
-
-add-word4 : tie.Need-add-word4
-add-word4 c = search needs
-
-word4-requires : tie.Need-word4-requires
-word4-requires c κs = search needs
-
-from-bits-requires : tie.Need-from-bits-requires
-from-bits-requires c κs = search needs
-
 returns : tie.Need-returns
 unfolding widthOf
 returns c =
@@ -42,4 +27,4 @@ returns-2 c =
 pub integer-spec : {M : Type 1} → statement M
 integer-spec =
     tie.close
-    (tie.spec width-requires add-if1 add-word4 word4-requires from-bits-requires returns returns-2)
+    (tie.spec (λ c κs. search needs) (λ c. search needs) (λ c. search needs) (λ c κs. search needs) (λ c κs. search needs) returns returns-2)

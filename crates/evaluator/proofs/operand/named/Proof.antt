@@ -10,20 +10,11 @@ use borrow.Author.Needs.{needs}
 use Rattle.evaluator.proofs.operand.named.Statement.{statement}
 use Rattle.evaluator.proofs.operand.named.Tie as tie
 
-width-requires : tie.Need-width-requires
-width-requires c κs = search needs
-
-add-if1 : tie.Need-add-if1
-add-if1 c = search needs
-
 returns : tie.Need-returns
 unfolding widthOf
 returns c =
     let w : c .before .width .result ≡ 2 = c .before .width .ensures .0 in
     name-short (c .before .before .before .before .args .code .now) (c .before .before .before .before .args .at) (c .before .before .before .before .args .kinds .now) (c .before .before .before .before .args .row .now) (rw w at (c .if1 .taken))
-
-add-wide : tie.Need-add-wide
-add-wide c = search needs
 
 shared-slice-read-wide : tie.Need-shared-slice-read-wide
 unfolding widthOf
@@ -32,26 +23,11 @@ shared-slice-read-wide c =
     let h = c .before .if1 .left in
     omega arith
 
-wide-requires : tie.Need-wide-requires
-wide-requires c κs = search needs
-
-cast-k : tie.Need-cast-k
-cast-k c = search needs
-
 returns-2 : tie.Need-returns-2
 unfolding widthOf
 returns-2 c =
     let w : c .before .before .before .before .width .result ≡ 2 = c .before .before .before .before .width .ensures .0 in
     name-unknown (c .before .before .before .before .before .before .before .args .code .now) (c .before .before .before .before .before .before .before .args .at) (c .before .before .before .before .before .before .before .args .kinds .now) (c .before .before .before .before .before .before .before .args .row .now) (rw w at (c .before .before .before .if1 .left)) (rw (c .before .wide .ensures .0) at (c .if2 .taken))
-
-shared-slice-read-tag : tie.Need-shared-slice-read-tag
-shared-slice-read-tag c = search needs
-
-tag-requires : tie.Need-tag-requires
-tag-requires c κs = search needs
-
-number-requires : tie.Need-number-requires
-number-requires c κs = search needs
 
 returns-3 : tie.Need-returns-3
 unfolding widthOf
@@ -66,15 +42,15 @@ pub named-spec : {M : Type 1} → statement M
 named-spec =
     tie.close
     (tie.spec
-    width-requires
-    add-if1
+    (λ c κs. search needs)
+    (λ c. search needs)
     returns
-    add-wide
+    (λ c. search needs)
     shared-slice-read-wide
-    wide-requires
-    cast-k
+    (λ c κs. search needs)
+    (λ c. search needs)
     returns-2
-    shared-slice-read-tag
-    tag-requires
-    number-requires
+    (λ c. search needs)
+    (λ c κs. search needs)
+    (λ c κs. search needs)
     returns-3)

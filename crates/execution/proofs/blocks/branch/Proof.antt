@@ -6,12 +6,6 @@ use borrow.Author.Needs.{needs}
 use Rattle.execution.proofs.blocks.branch.Statement.{statement}
 use Rattle.execution.proofs.blocks.branch.Tie as tie
 
-is-one-requires : tie.Need-is-one-requires
-is-one-requires c κs = search needs
-
-add-first : tie.Need-add-first
-add-first c = search needs
-
 returns : tie.Need-returns
 returns c = branch-true (c .before .is-one .result) (isOne (c .before .before .args .v)) (c .before .before .args .at) (c .before .before .args .other) (c .before .before .args .end) (rw (toZ-ofZ (c .before .before .fits .v)) at (c .before .is-one .ensures)) (c .if1 .taken)
 
@@ -19,4 +13,4 @@ returns-2 : tie.Need-returns-2
 returns-2 c = branch-false (c .before .is-one .result) (isOne (c .before .before .args .v)) (c .before .before .args .at) (c .before .before .args .other) (c .before .before .args .end) (rw (toZ-ofZ (c .before .before .fits .v)) at (c .before .is-one .ensures)) (c .if1 .left)
 
 pub branch-spec : {M : Type 1} → statement M
-branch-spec = tie.close (tie.spec add-first is-one-requires returns returns-2)
+branch-spec = tie.close (tie.spec (λ c. search needs) (λ c κs. search needs) returns returns-2)

@@ -8,25 +8,10 @@ use borrow.Author.Needs.{needs}
 use Rattle.execution.proofs.blocks.go_on.Statement.{statement}
 use Rattle.execution.proofs.blocks.go_on.Tie as tie
 
-enum-known-r : tie.Need-enum-known-r
-enum-known-r c = search needs
-
 start-requires : tie.Need-start-requires
 start-requires c κs =
     let b = rw (c .before .before .before .r .given .1) at (c .before .before .before .before .before .before .before .pre) in
     record { order = b .order; few = b .few; room = b .room }
-
-enum-known-r-2 : tie.Need-enum-known-r-2
-enum-known-r-2 c = search needs
-
-enum-known-r-3 : tie.Need-enum-known-r-3
-enum-known-r-3 c = search needs
-
-same-length : tie.Need-same-length
-same-length c = search needs
-
-same-length-2 : tie.Need-same-length-2
-same-length-2 c = search needs
 
 returns : tie.Need-returns
 returns c =
@@ -53,12 +38,12 @@ pub go-on-spec : {M : Type 1} → statement M
 go-on-spec =
     tie.close
     (tie.spec
-    enum-known-r
+    (λ c. search needs)
     start-requires
-    enum-known-r-2
-    enum-known-r-3
-    same-length
-    same-length-2
+    (λ c. search needs)
+    (λ c. search needs)
+    (λ c. search needs)
+    (λ c. search needs)
     returns
     returns-2
     returns-3)

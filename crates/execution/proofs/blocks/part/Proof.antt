@@ -29,9 +29,6 @@ mul-entry c = let b = c .before .before .before .pre in let h = c .loop-test .ta
 add-entry : tie.Need-add-entry Inv-loop μ-loop
 add-entry c = let b = c .before .before .before .pre in let h = c .loop-test .taken in omega arith
 
-entry-requires : tie.Need-entry-requires Inv-loop μ-loop
-entry-requires c κs = search needs
-
 returns : tie.Need-returns Inv-loop μ-loop
 returns c = ((c .before .before .before .loop .inv .0, c .before .before .before .loop .inv .1 .0), (λ codes args s h b x. later-found codes args (c .before .before .before .before .before .args .rows .now) s (c .before .before .before .before .before .args .first) (c .before .before .before .before .before .args .end) (c .before .before .before .before .before .args .place) (c .before .before .before .loop .at) (c .before .entry .result) (c .before .before .before .loop .inv .1 .1 codes args s h b x) (c .before .entry .ensures .0) (c .if1 .taken)))
 
@@ -59,7 +56,7 @@ part-spec =
     loop-holds
     mul-entry
     add-entry
-    entry-requires
+    (λ c κs. search needs)
     returns
     returns-2
     loop-less

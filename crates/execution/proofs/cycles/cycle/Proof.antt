@@ -12,22 +12,10 @@ use Rattle.execution.proofs.cycles.cycle.Tie as tie
 returns : tie.Need-returns
 returns c = λ s h b l x. absurd (let g = c .if1 .taken in omega arith)
 
-enter-requires : tie.Need-enter-requires
-enter-requires c κs = search needs
-
-go-on-requires : tie.Need-go-on-requires
-go-on-requires c κs = search needs
-
-same-length : tie.Need-same-length
-same-length c = search needs
-
-same-length-2 : tie.Need-same-length-2
-same-length-2 c = search needs
-
 returns-2 : tie.Need-returns-2
 unfolding cycleOf
 returns-2 c = λ s h b l x. c .before .before .go-on .ensures .1 (enterOf s (placeFor (c .before .before .before .before .before .before .before .before .before .before .before .before .before .args .place)) (c .before .before .before .before .before .before .before .before .before .before .before .before .before .args .inputs .now) (run [] (c .before .before .before .before .before .before .before .before .before .before .before .before .before .args .outputs .now) (c .before .before .before .before .before .before .before .before .before .before .before .before .before .args .variables .now))) (some s) (c .before .before .before .before .before .before .before .enter .ensures .1 s h b x) (h, b)
 
 pub cycle-spec : {M : Type 1} → statement M
 cycle-spec =
-    tie.close (tie.spec returns enter-requires go-on-requires same-length same-length-2 returns-2)
+    tie.close (tie.spec returns (λ c κs. search needs) (λ c κs. search needs) (λ c. search needs) (λ c. search needs) returns-2)

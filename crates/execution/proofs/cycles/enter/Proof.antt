@@ -9,30 +9,12 @@ use borrow.Author.Needs.{needs}
 use Rattle.execution.proofs.cycles.enter.Statement.{statement}
 use Rattle.execution.proofs.cycles.enter.Tie as tie
 
-start-requires : tie.Need-start-requires
-start-requires c κs = search needs
-
-same-length : tie.Need-same-length
-same-length c = search needs
-
-same-length-2 : tie.Need-same-length-2
-same-length-2 c = search needs
-
 returns : tie.Need-returns
 returns c =
     let u = c .before .before .start .ensures .0 in (
       omega arith,
       (λ s h b x. enter-starts s (c .before .before .before .before .before .before .before .before .args .place) (c .before .before .before .before .before .before .before .before .args .inputs .now) (run [] (c .before .before .before .before .before .before .before .before .args .outputs .now) (c .before .before .before .before .before .before .before .before .args .variables .now)) (c .before .before .start .result) _ _ (c .before .before .before .before .before .if1 .taken) (c .before .before .start .ensures .1 (some s) [] (h, b) refl)),
     )
-
-resume-requires : tie.Need-resume-requires
-resume-requires c κs = search needs
-
-same-length-3 : tie.Need-same-length-3
-same-length-3 c = search needs
-
-same-length-4 : tie.Need-same-length-4
-same-length-4 c = search needs
 
 returns-2 : tie.Need-returns-2
 returns-2 c =
@@ -45,11 +27,11 @@ pub enter-spec : {M : Type 1} → statement M
 enter-spec =
     tie.close
     (tie.spec
-    start-requires
-    same-length
-    same-length-2
+    (λ c κs. search needs)
+    (λ c. search needs)
+    (λ c. search needs)
     returns
-    resume-requires
-    same-length-3
-    same-length-4
+    (λ c κs. search needs)
+    (λ c. search needs)
+    (λ c. search needs)
     returns-2)

@@ -9,38 +9,11 @@ use borrow.Author.Needs.{needs}
 use Rattle.exports.proofs.record.from_state.Statement.{statement}
 use Rattle.exports.proofs.record.from_state.Tie as tie
 
-place-number-requires : tie.Need-place-number-requires
-place-number-requires c κs = search needs
-
-blank-requires : tie.Need-blank-requires
-blank-requires c κs = search needs
-
-array-set-from-slots : tie.Need-array-set-from-slots
-array-set-from-slots c = search needs
-
-slice-aggregate-copy : tie.Need-slice-aggregate-copy
-slice-aggregate-copy c = search needs
-
-sub-copy : tie.Need-sub-copy
-sub-copy c = search needs
-
-part-slots-start : tie.Need-part-slots-start
-part-slots-start c = search needs
-
 part-slots-end : tie.Need-part-slots-end
 part-slots-end c = outputs-room (c .before .blank .result) (toZ w32 (ofZ w32 (c .before .before .before .before .place-number .result))) (c .before .blank .ensures)
 
 copy-requires : tie.Need-copy-requires
 copy-requires c κs = outputs-length (c .before .before .blank .result) (c .before .before .before .before .before .before .args .s .outputs) (toZ w32 (ofZ w32 (c .before .before .before .before .before .place-number .result))) (c .before .before .blank .ensures) (search needs)
-
-slice-aggregate-copy-2 : tie.Need-slice-aggregate-copy-2
-slice-aggregate-copy-2 c = search needs
-
-sub-copy-2 : tie.Need-sub-copy-2
-sub-copy-2 c = search needs
-
-part-slots-start-2 : tie.Need-part-slots-start-2
-part-slots-start-2 c = search needs
 
 part-slots-end-2 : tie.Need-part-slots-end-2
 part-slots-end-2 c =
@@ -61,17 +34,17 @@ pub from-state-spec : {M : Type 1} → statement M
 from-state-spec =
     tie.close
     (tie.spec
-    place-number-requires
-    blank-requires
-    array-set-from-slots
-    slice-aggregate-copy
-    sub-copy
-    part-slots-start
+    (λ c κs. search needs)
+    (λ c κs. search needs)
+    (λ c. search needs)
+    (λ c. search needs)
+    (λ c. search needs)
+    (λ c. search needs)
     part-slots-end
     copy-requires
-    slice-aggregate-copy-2
-    sub-copy-2
-    part-slots-start-2
+    (λ c. search needs)
+    (λ c. search needs)
+    (λ c. search needs)
     part-slots-end-2
     copy-requires-2
     returns)

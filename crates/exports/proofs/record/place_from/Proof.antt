@@ -7,12 +7,6 @@ use borrow.Author.Needs.{needs}
 use Rattle.exports.proofs.record.place_from.Statement.{statement}
 use Rattle.exports.proofs.record.place_from.Tie as tie
 
-to-bits-requires : tie.Need-to-bits-requires
-to-bits-requires c κs = search needs
-
-cast-result : tie.Need-cast-result
-cast-result c = search needs
-
 returns : tie.Need-returns
 returns c = place-in (c .before .before .args .x) _ (c .before .before .fits .x) (c .before .to-bits .ensures ∙ ap unsigned32 (toZ-ofZ (c .before .before .fits .x))) (c .if1 .taken)
 
@@ -20,4 +14,4 @@ returns-2 : tie.Need-returns-2
 returns-2 c = place-out (c .before .before .args .x) _ (c .before .to-bits .ensures ∙ ap unsigned32 (toZ-ofZ (c .before .before .fits .x))) (c .if1 .left)
 
 pub place-from-spec : {M : Type 1} → statement M
-place-from-spec = tie.close (tie.spec to-bits-requires cast-result returns returns-2)
+place-from-spec = tie.close (tie.spec (λ c κs. search needs) (λ c. search needs) returns returns-2)

@@ -8,13 +8,10 @@ use borrow.Author.Needs.{needs}
 use Rattle.exports.proofs.record.place_number.Statement.{statement}
 use Rattle.exports.proofs.record.place_number.Tie as tie
 
-from-bits-requires : tie.Need-from-bits-requires
-from-bits-requires c κs = search needs
-
 returns : tie.Need-returns
 returns c =
     let fit : SFits w32 (c .from-bits .result) = search needs in
     toZ-ofZ fit ∙ place-as (c .before .args .p) _ (search needs) (c .from-bits .ensures)
 
 pub place-number-spec : {M : Type 1} → statement M
-place-number-spec = tie.close (tie.spec from-bits-requires returns)
+place-number-spec = tie.close (tie.spec (λ c κs. search needs) returns)

@@ -4,15 +4,6 @@ use borrow.Author.Needs.{needs}
 use Rattle.frontend.proofs.rules.classed.Statement.{statement}
 use Rattle.frontend.proofs.rules.classed.Tie as tie
 
-judge-requires : tie.Need-judge-requires
-judge-requires c κs = search needs
-
-enum-told : tie.Need-enum-told
-enum-told c = search needs
-
-enum-known-found : tie.Need-enum-known-found
-enum-known-found c = search needs
-
 returns : tie.Need-returns
 returns c = record { is = λ ts t kinds T W q. past-9 t (c .before .before .judge .ensures .is ts kinds t T W q) (c .enum-told .given .1) }
 
@@ -23,8 +14,8 @@ pub classed-spec : {M : Type 1} → statement M
 classed-spec =
     tie.close
     (tie.spec
-    judge-requires
-    enum-told
-    enum-known-found
+    (λ c κs. search needs)
+    (λ c. search needs)
+    (λ c. search needs)
     returns
     returns-2)

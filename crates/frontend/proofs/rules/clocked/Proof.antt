@@ -4,18 +4,6 @@ use borrow.Author.Needs.{needs}
 use Rattle.frontend.proofs.rules.clocked.Statement.{statement}
 use Rattle.frontend.proofs.rules.clocked.Tie as tie
 
-judge-requires : tie.Need-judge-requires
-judge-requires c κs = search needs
-
-enum-told : tie.Need-enum-told
-enum-told c = search needs
-
-classed-requires : tie.Need-classed-requires
-classed-requires c κs = search needs
-
-enum-known-found : tie.Need-enum-known-found
-enum-known-found c = search needs
-
 returns : tie.Need-returns
 returns c = record { is = λ ts t kinds L q lim none. past-8 t (c .before .before .before .judge .ensures .lowest ts t kinds L none) (c .before .enum-told .given .1) (c .classed .ensures .is ts t kinds (L .of-tokens) (L .of-rows) q) }
 
@@ -26,9 +14,9 @@ pub clocked-spec : {M : Type 1} → statement M
 clocked-spec =
     tie.close
     (tie.spec
-    judge-requires
-    enum-told
-    classed-requires
-    enum-known-found
+    (λ c κs. search needs)
+    (λ c. search needs)
+    (λ c κs. search needs)
+    (λ c. search needs)
     returns
     returns-2)

@@ -5,21 +5,6 @@ use borrow.Author.Needs.{needs}
 use Rattle.frontend.proofs.rules.judge.Statement.{statement}
 use Rattle.frontend.proofs.rules.judge.Tie as tie
 
-heads-of-requires : tie.Need-heads-of-requires
-heads-of-requires c κs = search needs
-
-names-requires : tie.Need-names-requires
-names-requires c κs = search needs
-
-enum-told : tie.Need-enum-told
-enum-told c = search needs
-
-typed-requires : tie.Need-typed-requires
-typed-requires c κs = search needs
-
-enum-known-found : tie.Need-enum-known-found
-enum-known-found c = search needs
-
 returns : tie.Need-returns
 returns c = record { is = λ ts t kinds L W H q lim. past-5 t (fact-5 (c .before .before .before .before .before .before .args .p) (c .before .before .before .names .ensures) (c .before .before .before .before .heads-of .ensures) ts t kinds L W H) (c .before .enum-told .given .1) (c .typed .ensures .is ts t kinds L q lim (no-5 t (fact-5 (c .before .before .before .before .before .before .args .p) (c .before .before .before .names .ensures) (c .before .before .before .before .heads-of .ensures) ts t kinds L W H) (c .before .enum-told .given .1))) }
 
@@ -30,10 +15,10 @@ pub judge-spec : {M : Type 1} → statement M
 judge-spec =
     tie.close
     (tie.spec
-    heads-of-requires
-    names-requires
-    enum-told
-    typed-requires
-    enum-known-found
+    (λ c κs. search needs)
+    (λ c κs. search needs)
+    (λ c. search needs)
+    (λ c κs. search needs)
+    (λ c. search needs)
     returns
     returns-2)

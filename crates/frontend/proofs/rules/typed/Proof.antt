@@ -5,18 +5,6 @@ use borrow.Author.Needs.{needs}
 use Rattle.frontend.proofs.rules.typed.Statement.{statement}
 use Rattle.frontend.proofs.rules.typed.Tie as tie
 
-types-requires : tie.Need-types-requires
-types-requires c κs = search needs
-
-enum-told : tie.Need-enum-told
-enum-told c = search needs
-
-valued-requires : tie.Need-valued-requires
-valued-requires c κs = search needs
-
-enum-known-found : tie.Need-enum-known-found
-enum-known-found c = search needs
-
 returns : tie.Need-returns
 returns c = record { is = λ ts t kinds L q lim none. past-6 t (c .before .before .before .types .ensures .1 ts kinds t _ (laid-6 (c .before .before .before .before .args .p) ts t kinds L lim)) (c .before .enum-told .given .1) (c .valued .ensures .is ts t kinds L q lim none) }
 
@@ -27,9 +15,9 @@ pub typed-spec : {M : Type 1} → statement M
 typed-spec =
     tie.close
     (tie.spec
-    types-requires
-    enum-told
-    valued-requires
-    enum-known-found
+    (λ c κs. search needs)
+    (λ c. search needs)
+    (λ c κs. search needs)
+    (λ c. search needs)
     returns
     returns-2)

@@ -17,21 +17,6 @@ abbrev μ-loop : tie.MeasureT-loop
 loop-holds : tie.Need-loop-holds Inv-loop μ-loop
 loop-holds c = goes-first
 
-shared-slice-read-lower-case : tie.Need-shared-slice-read-lower-case Inv-loop μ-loop
-shared-slice-read-lower-case c = search needs
-
-lower-case-requires : tie.Need-lower-case-requires Inv-loop μ-loop
-lower-case-requires c κs = search needs
-
-put-requires : tie.Need-put-requires Inv-loop μ-loop
-put-requires c κs = search needs
-
-add-i : tie.Need-add-i Inv-loop μ-loop
-add-i c = search needs
-
-loop-less : tie.Need-loop-less Inv-loop μ-loop
-loop-less c = search needs
-
 loop-again : tie.Need-loop-again Inv-loop μ-loop
 loop-again c = word-again _ _ _ (c .before .before .before .before .before .loop .inv) (c .before .before .before .before .loop-test .taken) (c .before .lower-case .ensures) (c .put .ensures)
 
@@ -45,10 +30,10 @@ put-folded-spec =
     Inv-loop
     μ-loop
     loop-holds
-    shared-slice-read-lower-case
-    lower-case-requires
-    put-requires
-    add-i
-    loop-less
+    (λ c. search needs)
+    (λ c κs. search needs)
+    (λ c κs. search needs)
+    (λ c. search needs)
+    (λ c. search needs)
     loop-again
     returns)

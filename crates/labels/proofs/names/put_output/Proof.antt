@@ -4,20 +4,8 @@ use borrow.Author.Needs.{needs}
 use Rattle.labels.proofs.names.put_output.Statement.{statement}
 use Rattle.labels.proofs.names.put_output.Tie as tie
 
-mode-at-requires : tie.Need-mode-at-requires
-mode-at-requires c κs = search needs
-
 returns : tie.Need-returns
 returns c = output-none (c .before .before .before .args .text .now) (c .before .before .before .args .starts .now) (c .before .before .before .args .sizes .now) (c .before .before .before .args .n) (c .before .before .before .args .decls .now) (c .before .before .before .args .d) (c .before .before .before .args .k) (c .before .mode-at .ensures) (c .if1 .taken)
-
-put-requires : tie.Need-put-requires
-put-requires c κs = search needs
-
-name-at-requires : tie.Need-name-at-requires
-name-at-requires c κs = search needs
-
-put-token-requires : tie.Need-put-token-requires
-put-token-requires c κs = search needs
 
 returns-2 : tie.Need-returns-2
 returns-2 c = output-one (c .before .before .before .before .before .before .before .before .args .text .now) (c .before .before .before .before .before .before .before .before .args .starts .now) (c .before .before .before .before .before .before .before .before .args .sizes .now) (c .before .before .before .before .before .before .before .before .args .n) (c .before .before .before .before .before .before .before .before .args .decls .now) (c .before .before .before .before .before .before .before .before .args .d) (c .before .before .before .before .before .before .before .before .args .k) (c .before .before .before .before .before .before .mode-at .ensures) (c .before .before .before .before .before .if1 .left) (c .before .before .name-at .ensures) (c .before .before .before .put .ensures) (c .put-token .ensures)
@@ -25,4 +13,4 @@ returns-2 c = output-one (c .before .before .before .before .before .before .bef
 pub put-output-spec : {M : Type 1} → statement M
 put-output-spec =
     tie.close
-    (tie.spec mode-at-requires returns put-requires name-at-requires put-token-requires returns-2)
+    (tie.spec (λ c κs. search needs) returns (λ c κs. search needs) (λ c κs. search needs) (λ c κs. search needs) returns-2)

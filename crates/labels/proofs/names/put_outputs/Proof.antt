@@ -12,20 +12,8 @@ Inv-loop text starts sizes n decls d out₀ m end next₀ k₀ out next k = List
 abbrev μ-loop : tie.MeasureT-loop
 μ-loop text starts sizes n decls d out₀ m end next₀ k₀ out next k = end - k
 
-at-most-requires : tie.Need-at-most-requires Inv-loop μ-loop
-at-most-requires c κs = search needs
-
 loop-holds : tie.Need-loop-holds Inv-loop μ-loop
 loop-holds c = list-first _ _ (c .at-most .ensures)
-
-put-output-requires : tie.Need-put-output-requires Inv-loop μ-loop
-put-output-requires c κs = search needs
-
-add-k : tie.Need-add-k Inv-loop μ-loop
-add-k c = search needs
-
-loop-less : tie.Need-loop-less Inv-loop μ-loop
-loop-less c = search needs
 
 loop-again : tie.Need-loop-again Inv-loop μ-loop
 loop-again c = list-again _ _ (c .before .before .before .loop .inv) (c .before .before .loop-test .taken) (c .put-output .ensures)
@@ -39,10 +27,10 @@ put-outputs-spec =
     (tie.spec
     Inv-loop
     μ-loop
-    at-most-requires
+    (λ c κs. search needs)
     loop-holds
-    put-output-requires
-    add-k
-    loop-less
+    (λ c κs. search needs)
+    (λ c. search needs)
+    (λ c. search needs)
     loop-again
     returns)

@@ -5,24 +5,6 @@ use borrow.Author.Needs.{needs}
 use Rattle.labels.proofs.names.put_token.Statement.{statement}
 use Rattle.labels.proofs.names.put_token.Tie as tie
 
-place-at-requires : tie.Need-place-at-requires
-place-at-requires c κs = search needs
-
-wide-requires : tie.Need-wide-requires
-wide-requires c κs = search needs
-
-place-at-requires-2 : tie.Need-place-at-requires-2
-place-at-requires-2 c κs = search needs
-
-wide-requires-2 : tie.Need-wide-requires-2
-wide-requires-2 c κs = search needs
-
-part-of-requires : tie.Need-part-of-requires
-part-of-requires c κs = search needs
-
-put-folded-requires : tie.Need-put-folded-requires
-put-folded-requires c κs = search needs
-
 returns : tie.Need-returns
 returns c = token-put (c .before .before .before .before .before .before .before .before .args .text .now) (c .before .before .before .before .before .before .before .before .args .starts .now) (c .before .before .before .before .before .before .before .before .args .sizes .now) (c .before .before .before .before .before .before .before .before .args .n) (c .before .before .before .before .before .before .before .before .args .i) (c .before .before .before .before .before .wide .ensures ∙ c .before .before .before .before .before .before .place-at .ensures) (c .before .before .before .wide2 .ensures ∙ c .before .before .before .before .place-at2 .ensures) (c .before .before .part-of .ensures) (c .put-folded .ensures)
 
@@ -30,10 +12,10 @@ pub put-token-spec : {M : Type 1} → statement M
 put-token-spec =
     tie.close
     (tie.spec
-    place-at-requires
-    wide-requires
-    place-at-requires-2
-    wide-requires-2
-    part-of-requires
-    put-folded-requires
+    (λ c κs. search needs)
+    (λ c κs. search needs)
+    (λ c κs. search needs)
+    (λ c κs. search needs)
+    (λ c κs. search needs)
+    (λ c κs. search needs)
     returns)

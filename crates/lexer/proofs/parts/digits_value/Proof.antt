@@ -17,18 +17,6 @@ abbrev μ-loop : tie.MeasureT-loop
 loop-holds : tie.Need-loop-holds Inv-loop μ-loop
 loop-holds c = (search needs, refl)
 
-shared-slice-read-next-value : tie.Need-shared-slice-read-next-value Inv-loop μ-loop
-shared-slice-read-next-value c = search needs
-
-next-value-requires : tie.Need-next-value-requires Inv-loop μ-loop
-next-value-requires c κs = search needs
-
-add-i : tie.Need-add-i Inv-loop μ-loop
-add-i c = search needs
-
-loop-less : tie.Need-loop-less Inv-loop μ-loop
-loop-less c = search needs
-
 loop-again : tie.Need-loop-again Inv-loop μ-loop
 loop-again c = (search needs, value-again _ _ _ _ (c .before .before .loop-test .taken) (c .next-value .ensures) ∙ c .before .before .before .loop .inv .1)
 
@@ -42,9 +30,9 @@ digits-value-spec =
     Inv-loop
     μ-loop
     loop-holds
-    shared-slice-read-next-value
-    next-value-requires
-    add-i
-    loop-less
+    (λ c. search needs)
+    (λ c κs. search needs)
+    (λ c. search needs)
+    (λ c. search needs)
     loop-again
     returns)

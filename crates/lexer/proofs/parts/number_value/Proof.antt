@@ -5,14 +5,8 @@ use borrow.Author.Needs.{needs}
 use Rattle.lexer.proofs.parts.number_value.Statement.{statement}
 use Rattle.lexer.proofs.parts.number_value.Tie as tie
 
-part-of-requires : tie.Need-part-of-requires
-part-of-requires c κs = search needs
-
-digits-value-requires : tie.Need-digits-value-requires
-digits-value-requires c κs = search needs
-
 returns : tie.Need-returns
 returns c = (c .digits-value .ensures) ∙ ap (value 0) (c .before .part-of .ensures)
 
 pub number-value-spec : {M : Type 1} → statement M
-number-value-spec = tie.close (tie.spec part-of-requires digits-value-requires returns)
+number-value-spec = tie.close (tie.spec (λ c κs. search needs) (λ c κs. search needs) returns)

@@ -22,30 +22,12 @@ returns c = sym (same-lengths (c .before .before .before .args .a .now) (c .befo
 loop-holds : tie.Need-loop-holds Inv-loop μ-loop
 loop-holds c = refl
 
-shared-slice-read-lower-case : tie.Need-shared-slice-read-lower-case Inv-loop μ-loop
-shared-slice-read-lower-case c = search needs
-
-lower-case-requires : tie.Need-lower-case-requires Inv-loop μ-loop
-lower-case-requires c κs = search needs
-
-shared-slice-read-lower-case-2 : tie.Need-shared-slice-read-lower-case-2 Inv-loop μ-loop
-shared-slice-read-lower-case-2 c = search needs
-
-lower-case-requires-2 : tie.Need-lower-case-requires-2 Inv-loop μ-loop
-lower-case-requires-2 c κs = search needs
-
 returns-2 : tie.Need-returns-2 Inv-loop μ-loop
 returns-2 c =
     sym (same-differs (c .before .before .before .before .before .before .before .before .before .before .args .a .now)
     (c .before .before .before .before .before .before .before .before .before .before .args .b .now) _ (search needs) (search needs)
     (λ e. c .if2 .taken (c .before .before .before .lower-case .ensures ∙ (e ∙ sym (c .before .lower-case2 .ensures)))))
     ∙ c .before .before .before .before .before .before .loop .inv
-
-add-i : tie.Need-add-i Inv-loop μ-loop
-add-i c = search needs
-
-loop-less : tie.Need-loop-less Inv-loop μ-loop
-loop-less c = search needs
 
 loop-again : tie.Need-loop-again Inv-loop μ-loop
 loop-again c = same-again (c .before .before .before .before .before .before .before .before .before .before .args .a .now)
@@ -66,12 +48,12 @@ same-folded-spec =
     μ-loop
     returns
     loop-holds
-    shared-slice-read-lower-case
-    lower-case-requires
-    shared-slice-read-lower-case-2
-    lower-case-requires-2
+    (λ c. search needs)
+    (λ c κs. search needs)
+    (λ c. search needs)
+    (λ c κs. search needs)
     returns-2
-    add-i
-    loop-less
+    (λ c. search needs)
+    (λ c. search needs)
     loop-again
     returns-3)

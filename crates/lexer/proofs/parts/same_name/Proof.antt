@@ -4,19 +4,10 @@ use borrow.Author.Needs.{needs}
 use Rattle.lexer.proofs.parts.same_name.Statement.{statement}
 use Rattle.lexer.proofs.parts.same_name.Tie as tie
 
-part-of-requires : tie.Need-part-of-requires
-part-of-requires c κs = search needs
-
-part-of-requires-2 : tie.Need-part-of-requires-2
-part-of-requires-2 c κs = search needs
-
-same-folded-requires : tie.Need-same-folded-requires
-same-folded-requires c κs = search needs
-
 returns : tie.Need-returns
 returns c =
     (c .same-folded .ensures) ∙ rw (c .before .before .part-of .ensures, c .before .part-of2 .ensures)
 
 pub same-name-spec : {M : Type 1} → statement M
 same-name-spec =
-    tie.close (tie.spec part-of-requires part-of-requires-2 same-folded-requires returns)
+    tie.close (tie.spec (λ c κs. search needs) (λ c κs. search needs) (λ c κs. search needs) returns)

@@ -4,15 +4,6 @@ use borrow.Author.Needs.{needs}
 use Rattle.links.proofs.followers.announce_rest.Statement.{statement}
 use Rattle.links.proofs.followers.announce_rest.Tie as tie
 
-link-at-requires : tie.Need-link-at-requires
-link-at-requires c κs = search needs
-
-same-length : tie.Need-same-length
-same-length c = search needs
-
-same-length-2 : tie.Need-same-length-2
-same-length-2 c = search needs
-
 returns : tie.Need-returns
 returns c = simp (ne-eqb _ _ (c .before .before .before .before .before .before .before .if1 .taken)) (cc (c .before .before .before .before .link-at .ensures))
 
@@ -21,4 +12,4 @@ returns-2 c = simp (eq-eqb _ _ (c .if1 .left))
 
 pub announce-rest-spec : {M : Type 1} → statement M
 announce-rest-spec =
-    tie.close (tie.spec link-at-requires same-length same-length-2 returns returns-2)
+    tie.close (tie.spec (λ c κs. search needs) (λ c. search needs) (λ c. search needs) returns returns-2)

@@ -15,17 +15,8 @@ Inv-loop rows n next₀ other₀ j₀ next other j = (j ≤ n) × ((length next 
 abbrev μ-loop : tie.MeasureT-loop
 μ-loop rows n next₀ other₀ j₀ next other j = n - j
 
-cast-link-at : tie.Need-cast-link-at Inv-loop μ-loop
-cast-link-at c = search needs
-
-link-at-requires : tie.Need-link-at-requires Inv-loop μ-loop
-link-at-requires c κs = search needs
-
 loop-holds : tie.Need-loop-holds Inv-loop μ-loop
 loop-holds c = (omega arith, (refl, (refl, refl)))
-
-step-requires : tie.Need-step-requires Inv-loop μ-loop
-step-requires c κs = search needs
 
 add-j : tie.Need-add-j Inv-loop μ-loop
 add-j c = omega arith
@@ -39,12 +30,6 @@ loop-again c =
     ∙ sym (followed-again (c .before .before .before .before .before .before .before .before .before .before .before .before .before .before .before .before .before .before .args .rows .now) (c .before .before .before .before .before .before .before .before .loop .j) (c .before .before .before .before .before .before .before .before .before .before .before .before .before .before .before .before .before .before .args .n) (links (c .before .before .before .before .before .before .before .before .loop .next) (c .before .before .before .before .before .before .before .before .loop .other)) (c .before .before .before .before .before .before .before .loop-test .taken)) ∙ c .before .before .before .before .before .before .before .before .loop .inv .1 .1 .1 in
     (omega arith, (search needs, (search needs, again)))
 
-same-length : tie.Need-same-length Inv-loop μ-loop
-same-length c = search needs
-
-same-length-2 : tie.Need-same-length-2 Inv-loop μ-loop
-same-length-2 c = search needs
-
 returns : tie.Need-returns Inv-loop μ-loop
 returns c = followed-done (c .before .before .before .before .before .before .before .before .before .before .before .args .rows .now) (c .before .before .before .before .before .before .before .before .before .before .before .args .n) (c .before .loop .j) (links (c .before .before .before .before .before .before .before .before .before .before .before .args .next .now) (c .before .before .before .before .before .before .before .before .before .before .before .args .other .now)) _ _ (c .loop-test .left) (c .before .loop .inv .1 .1 .1) (c .before .before .before .before .before .before .link-at .ensures)
 
@@ -54,13 +39,13 @@ followers-spec =
     (tie.spec
     Inv-loop
     μ-loop
-    cast-link-at
-    link-at-requires
+    (λ c. search needs)
+    (λ c κs. search needs)
     loop-holds
-    step-requires
+    (λ c κs. search needs)
     add-j
     loop-less
     loop-again
-    same-length
-    same-length-2
+    (λ c. search needs)
+    (λ c. search needs)
     returns)

@@ -3,11 +3,8 @@ use borrow.Author.Needs.{needs}
 use Rattle.links.proofs.reaches.changes.Statement.{statement}
 use Rattle.links.proofs.reaches.changes.Tie as tie
 
-returns : tie.Need-returns
-returns c = search needs
-
 returns-2 : tie.Need-returns-2
 returns-2 c = simp (c .if1 .left)
 
 pub changes-spec : {M : Type 1} → statement M
-changes-spec = tie.close (tie.spec returns returns-2)
+changes-spec = tie.close (tie.spec (λ c. search needs) returns-2)

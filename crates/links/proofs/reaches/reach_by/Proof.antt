@@ -10,28 +10,13 @@ returns : tie.Need-returns
 unfolding reachBy
 returns c = simp (eq-eqb (c .before .args .kind) 0 (c .if1 .taken))
 
-larger-requires : tie.Need-larger-requires
-larger-requires c κs = search needs
-
-up-one-requires : tie.Need-up-one-requires
-up-one-requires c κs = search needs
-
 returns-2 : tie.Need-returns-2
 unfolding reachBy
 returns-2 c = simp (ne-eqb (c .before .before .before .before .args .kind) 0 (c .before .before .before .if1 .left), eq-eqb (c .before .before .before .before .args .kind) 3 (c .before .before .if2 .taken)) (c .up-one .ensures ∙ ap (λ w. upOne w) (c .before .larger .ensures))
 
-larger-requires-2 : tie.Need-larger-requires-2
-larger-requires-2 c κs = search needs
-
-up-one-requires-2 : tie.Need-up-one-requires-2
-up-one-requires-2 c κs = search needs
-
 returns-3 : tie.Need-returns-3
 unfolding reachBy
 returns-3 c = simp (ne-eqb (c .before .before .before .before .before .args .kind) 0 (c .before .before .before .before .if1 .left), ne-eqb (c .before .before .before .before .before .args .kind) 3 (c .before .before .before .if2 .left), eq-eqb (c .before .before .before .before .before .args .kind) 5 (c .before .before .if3 .taken)) (c .up-one2 .ensures ∙ ap (λ w. upOne w) (c .before .larger2 .ensures))
-
-up-one-requires-3 : tie.Need-up-one-requires-3
-up-one-requires-3 c κs = search needs
 
 returns-4 : tie.Need-returns-4
 unfolding reachBy
@@ -42,11 +27,11 @@ reach-by-spec =
     tie.close
     (tie.spec
     returns
-    larger-requires
-    up-one-requires
+    (λ c κs. search needs)
+    (λ c κs. search needs)
     returns-2
-    larger-requires-2
-    up-one-requires-2
+    (λ c κs. search needs)
+    (λ c κs. search needs)
     returns-3
-    up-one-requires-3
+    (λ c κs. search needs)
     returns-4)

@@ -17,20 +17,11 @@ abbrev μ-loop : tie.MeasureT-loop
 loop-holds : tie.Need-loop-holds Inv-loop μ-loop
 loop-holds c = (refl, refl)
 
-sweep-requires : tie.Need-sweep-requires Inv-loop μ-loop
-sweep-requires c κs = search needs
-
-left-requires : tie.Need-left-requires Inv-loop μ-loop
-left-requires c κs = search needs
-
 loop-less : tie.Need-loop-less Inv-loop μ-loop
 loop-less c = left-falls (c .before .before .before .before .before .before .loop .k) _ (c .before .before .before .sweep .result) (c .before .before .before .before .before .loop-test .taken) (c .left .ensures)
 
 loop-again : tie.Need-loop-again Inv-loop μ-loop
 loop-again c = (sweeps-next (c .before .before .before .before .before .before .before .before .before .before .args .rows .now) (links (c .before .before .before .before .before .before .before .before .before .before .args .next .now) (c .before .before .before .before .before .before .before .before .before .before .args .other .now)) (c .before .before .before .before .before .before .before .before .before .before .args .n) (c .before .before .before .before .before .before .loop .k) _ (c .before .before .before .before .before .before .loop .reaches) _ (c .before .before .before .sweep .result) (c .before .before .before .before .before .loop-test .taken) (c .left .ensures) (c .before .before .before .sweep .ensures .are) (c .before .before .before .sweep .ensures .still) ∙ c .before .before .before .before .before .before .loop .inv .0, search needs)
-
-same-length : tie.Need-same-length Inv-loop μ-loop
-same-length c = search needs
 
 returns : tie.Need-returns Inv-loop μ-loop
 returns c = sweeps-end (c .before .before .before .before .before .args .rows .now) (links (c .before .before .before .before .before .args .next .now) (c .before .before .before .before .before .args .other .now)) (c .before .before .before .before .before .args .n) (c .before .loop .k) (c .before .loop .reaches) (c .before .before .before .before .before .args .reaches .now) (c .before .before .before .before .before .pre) (c .loop-test .left) (c .before .loop .inv .0)
@@ -42,9 +33,9 @@ reaches-spec =
     Inv-loop
     μ-loop
     loop-holds
-    sweep-requires
-    left-requires
+    (λ c κs. search needs)
+    (λ c κs. search needs)
     loop-less
     loop-again
-    same-length
+    (λ c. search needs)
     returns)

@@ -21,26 +21,11 @@ loop-holds c = (record { rest = refl; same = λ e. refl }, (refl, omega arith))
 sub-j : tie.Need-sub-j Inv-loop μ-loop
 sub-j c = omega arith
 
-reach-at-requires : tie.Need-reach-at-requires Inv-loop μ-loop
-reach-at-requires c κs = search needs
-
-number-requires : tie.Need-number-requires Inv-loop μ-loop
-number-requires c κs = search needs
-
-changes-requires : tie.Need-changes-requires Inv-loop μ-loop
-changes-requires c κs = search needs
-
-store-requires : tie.Need-store-requires Inv-loop μ-loop
-store-requires c κs = search needs
-
 loop-less : tie.Need-loop-less Inv-loop μ-loop
 loop-less c = omega arith
 
 loop-again : tie.Need-loop-again Inv-loop μ-loop
 loop-again c = (sweeping-again (c .before .before .before .before .before .before .before .before .before .before .before .before .before .before .args .rows .now) (links (c .before .before .before .before .before .before .before .before .before .before .before .before .before .before .args .next .now) (c .before .before .before .before .before .before .before .before .before .before .before .before .before .before .args .other .now)) (c .before .before .before .before .before .before .before .before .before .before .before .before .before .before .args .n) (c .before .before .before .before .before .before .before .before .before .before .loop .j) (c .before .before .before .before .before .before .before .before .before .before .before .before .before .before .args .reaches .now) (c .before .before .before .before .before .before .before .before .before .before .loop .reaches) _ (c .before .before .before .before .before .before .before .before .before .before .loop .changed) _ _ _ (c .before .before .before .before .before .before .before .before .before .loop-test .taken) (c .before .before .before .before .before .before .before .before .before .before .loop .inv .0) (c .before .before .before .before .before .before .before .reach-at .ensures) (c .before .before .before .before .before .number .ensures) (c .before .before .before .before .changes .ensures) (c .before .before .store .ensures), (search needs, omega arith))
-
-same-length : tie.Need-same-length Inv-loop μ-loop
-same-length c = search needs
 
 returns : tie.Need-returns Inv-loop μ-loop
 returns c = sweeping-end (c .before .before .before .before .before .args .rows .now) (links (c .before .before .before .before .before .args .next .now) (c .before .before .before .before .before .args .other .now)) (c .before .before .before .before .before .args .n) (c .before .loop .j) (c .before .before .before .before .before .args .reaches .now) (c .before .loop .reaches) (c .before .loop .changed) (c .loop-test .left) (c .before .loop .inv .0)
@@ -53,11 +38,11 @@ sweep-spec =
     μ-loop
     loop-holds
     sub-j
-    reach-at-requires
-    number-requires
-    changes-requires
-    store-requires
+    (λ c κs. search needs)
+    (λ c κs. search needs)
+    (λ c κs. search needs)
+    (λ c κs. search needs)
     loop-less
     loop-again
-    same-length
+    (λ c. search needs)
     returns)

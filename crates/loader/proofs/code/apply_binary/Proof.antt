@@ -7,24 +7,6 @@ use Rattle.loader.proofs.code.apply_binary.Tie as tie
 returns : tie.Need-returns
 returns c = binary-none (c .before .args .k) (c .before .args .depth) (c .before .args .stack .now) (c .if1 .taken) (c .before .pre .1)
 
-sub-right : tie.Need-sub-right
-sub-right c = search needs
-
-sub-left : tie.Need-sub-left
-sub-left c = search needs
-
-element-copy-out-t : tie.Need-element-copy-out-t
-element-copy-out-t c = search needs
-
-element-copy-out-if2 : tie.Need-element-copy-out-if2
-element-copy-out-if2 c = search needs
-
-binary-type-requires : tie.Need-binary-type-requires
-binary-type-requires c κs = search needs
-
-push-requires : tie.Need-push-requires
-push-requires c κs = search needs
-
 returns-2 : tie.Need-returns-2
 returns-2 c =
     let args = c .before .before .before .before .before .before .before .args in
@@ -40,11 +22,11 @@ apply-binary-spec =
     tie.close
     (tie.spec
     returns
-    sub-right
-    sub-left
-    element-copy-out-t
-    element-copy-out-if2
-    binary-type-requires
-    push-requires
+    (λ c. search needs)
+    (λ c. search needs)
+    (λ c. search needs)
+    (λ c. search needs)
+    (λ c κs. search needs)
+    (λ c κs. search needs)
     returns-2
     returns-3)

@@ -7,15 +7,6 @@ use Rattle.loader.proofs.code.apply_unary.Tie as tie
 returns : tie.Need-returns
 returns c = unary-none (c .before .args .k) (c .before .args .depth) (c .before .args .stack .now) (c .if1 .taken) (c .before .pre .1)
 
-element-copy-out-unary-type : tie.Need-element-copy-out-unary-type
-element-copy-out-unary-type c = search needs
-
-unary-type-requires : tie.Need-unary-type-requires
-unary-type-requires c κs = search needs
-
-push-requires : tie.Need-push-requires
-push-requires c κs = search needs
-
 returns-2 : tie.Need-returns-2
 returns-2 c =
     let args = c .before .before .before .before .before .args in
@@ -27,4 +18,4 @@ returns-2 c =
 pub apply-unary-spec : {M : Type 1} → statement M
 apply-unary-spec =
     tie.close
-    (tie.spec returns element-copy-out-unary-type unary-type-requires push-requires returns-2)
+    (tie.spec returns (λ c. search needs) (λ c κs. search needs) (λ c κs. search needs) returns-2)

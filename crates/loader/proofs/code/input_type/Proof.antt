@@ -5,15 +5,6 @@ use borrow.Author.Needs.{needs}
 use Rattle.loader.proofs.code.input_type.Statement.{statement}
 use Rattle.loader.proofs.code.input_type.Tie as tie
 
-count-requires : tie.Need-count-requires
-count-requires c κs = search needs
-
-add-byte : tie.Need-add-byte
-add-byte c = search needs
-
-byte-requires : tie.Need-byte-requires
-byte-requires c κs = search needs
-
 returns : tie.Need-returns
 returns c =
     let byte = c .byte in
@@ -34,4 +25,4 @@ returns-2 c =
     input-past (args .signature .now) (shared-slice-known .given) (pre) (count .ensures .0) (if1 .left)
 
 pub input-type-spec : {M : Type 1} → statement M
-input-type-spec = tie.close (tie.spec count-requires add-byte byte-requires returns returns-2)
+input-type-spec = tie.close (tie.spec (λ c κs. search needs) (λ c. search needs) (λ c κs. search needs) returns returns-2)

@@ -8,12 +8,6 @@ use borrow.Author.Needs.{needs}
 use Rattle.loader.proofs.code.leaf_type.Statement.{statement}
 use Rattle.loader.proofs.code.leaf_type.Tie as tie
 
-width-requires : tie.Need-width-requires
-width-requires c κs = search needs
-
-add-if1 : tie.Need-add-if1
-add-if1 c = search needs
-
 returns : tie.Need-returns
 unfolding leafTag
 returns c =
@@ -27,21 +21,6 @@ returns-2 c =
     let args = c .before .before .before .before .before .args in
     let width = c .before .before .width in
     rw (← (width .ensures .0), le-ltb (length (args .s .now)) (args .at + width .result) (c .before .if1 .left), eq-eqb (args .k) INTEGER (c .if2 .taken))
-
-add-count : tie.Need-add-count
-add-count c = search needs
-
-count-requires : tie.Need-count-requires
-count-requires c κs = search needs
-
-bit-type-requires : tie.Need-bit-type-requires
-bit-type-requires c κs = search needs
-
-input-type-requires : tie.Need-input-type-requires
-input-type-requires c κs = search needs
-
-variable-type-requires : tie.Need-variable-type-requires
-variable-type-requires c κs = search needs
 
 returns-3 : tie.Need-returns-3
 unfolding leafTag
@@ -98,15 +77,15 @@ pub leaf-type-spec : {M : Type 1} → statement M
 leaf-type-spec =
     tie.close
     (tie.spec
-    width-requires
-    add-if1
+    (λ c κs. search needs)
+    (λ c. search needs)
     returns
     returns-2
-    add-count
-    count-requires
-    bit-type-requires
-    input-type-requires
-    variable-type-requires
+    (λ c. search needs)
+    (λ c κs. search needs)
+    (λ c κs. search needs)
+    (λ c κs. search needs)
+    (λ c κs. search needs)
     returns-3
     returns-4
     returns-5

@@ -5,35 +5,17 @@ use borrow.Author.Needs.{needs}
 use Rattle.loader.proofs.code.operate.Statement.{statement}
 use Rattle.loader.proofs.code.operate.Tie as tie
 
-byte-requires : tie.Need-byte-requires
-byte-requires c κs = search needs
-
-operands-requires : tie.Need-operands-requires
-operands-requires c κs = search needs
-
-leaf-type-requires : tie.Need-leaf-type-requires
-leaf-type-requires c κs = search needs
-
-push-requires : tie.Need-push-requires
-push-requires c κs = search needs
-
 returns : tie.Need-returns
 returns c =
     let args = c .before .before .before .before .before .before .before .before .args in
     step-leaf (inputTypes (args .signature .now)) (variableTypes (args .signature .now)) (args .s .now) (args .at) (args .depth) (args .stack .now)
     (c .before .before .before .before .before .byte .ensures) (c .before .before .before .before .operands .ensures) (c .before .before .before .if1 .taken) (c .before .before .leaf-type .ensures) (c .push .ensures)
 
-apply-unary-requires : tie.Need-apply-unary-requires
-apply-unary-requires c κs = search needs
-
 returns-2 : tie.Need-returns-2
 returns-2 c =
     let args = c .before .before .before .before .before .before .before .before .args in
     step-unary (inputTypes (args .signature .now)) (variableTypes (args .signature .now)) (args .s .now) (args .at) (args .depth) (args .stack .now)
     (c .before .before .before .before .before .byte .ensures) (c .before .before .before .before .operands .ensures) (c .before .before .before .if1 .left) (c .before .before .if2 .taken) (c .apply-unary .ensures)
-
-apply-binary-requires : tie.Need-apply-binary-requires
-apply-binary-requires c κs = search needs
 
 returns-3 : tie.Need-returns-3
 returns-3 c =
@@ -45,12 +27,12 @@ pub operate-spec : {M : Type 1} → statement M
 operate-spec =
     tie.close
     (tie.spec
-    byte-requires
-    operands-requires
-    leaf-type-requires
-    push-requires
+    (λ c κs. search needs)
+    (λ c κs. search needs)
+    (λ c κs. search needs)
+    (λ c κs. search needs)
     returns
-    apply-unary-requires
+    (λ c κs. search needs)
     returns-2
-    apply-binary-requires
+    (λ c κs. search needs)
     returns-3)

@@ -5,24 +5,6 @@ use borrow.Author.Needs.{needs}
 use Rattle.loader.proofs.code.output_type.Statement.{statement}
 use Rattle.loader.proofs.code.output_type.Tie as tie
 
-count-requires : tie.Need-count-requires
-count-requires c κs = search needs
-
-count-requires-2 : tie.Need-count-requires-2
-count-requires-2 c κs = search needs
-
-add-byte : tie.Need-add-byte
-add-byte c = search needs
-
-mul-byte : tie.Need-mul-byte
-mul-byte c = search needs
-
-add-byte-2 : tie.Need-add-byte-2
-add-byte-2 c = search needs
-
-byte-requires : tie.Need-byte-requires
-byte-requires c κs = search needs
-
 returns : tie.Need-returns
 returns c =
     let byte = c .byte in
@@ -47,11 +29,11 @@ pub output-type-spec : {M : Type 1} → statement M
 output-type-spec =
     tie.close
     (tie.spec
-    count-requires
-    count-requires-2
-    add-byte
-    mul-byte
-    add-byte-2
-    byte-requires
+    (λ c κs. search needs)
+    (λ c κs. search needs)
+    (λ c. search needs)
+    (λ c. search needs)
+    (λ c. search needs)
+    (λ c κs. search needs)
     returns
     returns-2)

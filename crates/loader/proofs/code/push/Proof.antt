@@ -7,12 +7,6 @@ use Rattle.loader.proofs.code.push.Tie as tie
 returns : tie.Need-returns
 returns c = push-none (c .before .args .t) (c .before .args .depth) (c .before .args .stack .now) (c .if1 .taken) (c .before .pre .1)
 
-element-write-stack : tie.Need-element-write-stack
-element-write-stack c = search needs
-
-add-result : tie.Need-add-result
-add-result c = search needs
-
 returns-2 : tie.Need-returns-2
 returns-2 c =
     let args = c .before .args in
@@ -21,4 +15,4 @@ returns-2 c =
     push-some (args .t) (args .depth) (args .stack .now) (if1 .left) (pre .0) (pre .1)
 
 pub push-spec : {M : Type 1} → statement M
-push-spec = tie.close (tie.spec returns element-write-stack add-result returns-2)
+push-spec = tie.close (tie.spec returns (λ c. search needs) (λ c. search needs) returns-2)

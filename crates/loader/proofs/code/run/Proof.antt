@@ -48,21 +48,6 @@ returns-2 c =
     left-stop (args .signature .now) (args .s .now) (shared-slice-known2 .given) (loop .at) (loop .depth) (loop .left) (loop .inv) (loop-test .taken)
     (if1 .left) (operate .ensures) (if2 .taken)
 
-byte-requires : tie.Need-byte-requires Inv-loop μ-loop
-byte-requires c κs = search needs
-
-width-requires : tie.Need-width-requires Inv-loop μ-loop
-width-requires c κs = search needs
-
-add-at : tie.Need-add-at Inv-loop μ-loop
-add-at c = search needs
-
-sub-left : tie.Need-sub-left Inv-loop μ-loop
-sub-left c = search needs
-
-loop-less : tie.Need-loop-less Inv-loop μ-loop
-loop-less c = search needs
-
 loop-again : tie.Need-loop-again Inv-loop μ-loop
 loop-again c =
     let args = c .before .before .before .before .before .before .before .before .before .before .args in
@@ -76,9 +61,6 @@ loop-again c =
     let byte = c .before .byte in
     left-again (args .signature .now) (args .s .now) (shared-slice-known2 .given) (loop .at) (loop .depth) (loop .left) (loop .inv) (loop-test .taken)
     (if1 .left) (operate .ensures) (if2 .left) (width .ensures .0 ∙ ap widthOf (byte .ensures))
-
-element-copy-out-result : tie.Need-element-copy-out-result Inv-loop μ-loop
-element-copy-out-result c = search needs
 
 returns-3 : tie.Need-returns-3 Inv-loop μ-loop
 returns-3 c =
@@ -106,12 +88,12 @@ run-spec =
     returns
     operate-requires
     returns-2
-    byte-requires
-    width-requires
-    add-at
-    sub-left
-    loop-less
+    (λ c κs. search needs)
+    (λ c κs. search needs)
+    (λ c. search needs)
+    (λ c. search needs)
+    (λ c. search needs)
     loop-again
-    element-copy-out-result
+    (λ c. search needs)
     returns-3
     returns-4)

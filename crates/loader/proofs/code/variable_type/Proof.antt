@@ -5,33 +5,6 @@ use borrow.Author.Needs.{needs}
 use Rattle.loader.proofs.code.variable_type.Statement.{statement}
 use Rattle.loader.proofs.code.variable_type.Tie as tie
 
-count-requires : tie.Need-count-requires
-count-requires c κs = search needs
-
-count-requires-2 : tie.Need-count-requires-2
-count-requires-2 c κs = search needs
-
-add-first : tie.Need-add-first
-add-first c = search needs
-
-count-requires-3 : tie.Need-count-requires-3
-count-requires-3 c κs = search needs
-
-mul-first : tie.Need-mul-first
-mul-first c = search needs
-
-add-first-2 : tie.Need-add-first-2
-add-first-2 c = search needs
-
-mul-byte : tie.Need-mul-byte
-mul-byte c = search needs
-
-add-byte : tie.Need-add-byte
-add-byte c = search needs
-
-byte-requires : tie.Need-byte-requires
-byte-requires c κs = search needs
-
 returns : tie.Need-returns
 returns c =
     let byte = c .byte in
@@ -58,14 +31,14 @@ pub variable-type-spec : {M : Type 1} → statement M
 variable-type-spec =
     tie.close
     (tie.spec
-    count-requires
-    count-requires-2
-    add-first
-    count-requires-3
-    mul-first
-    add-first-2
-    mul-byte
-    add-byte
-    byte-requires
+    (λ c κs. search needs)
+    (λ c κs. search needs)
+    (λ c. search needs)
+    (λ c κs. search needs)
+    (λ c. search needs)
+    (λ c. search needs)
+    (λ c. search needs)
+    (λ c. search needs)
+    (λ c κs. search needs)
     returns
     returns-2)

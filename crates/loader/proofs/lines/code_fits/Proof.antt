@@ -5,12 +5,6 @@ use borrow.Author.Needs.{needs}
 use Rattle.loader.proofs.lines.code_fits.Statement.{statement}
 use Rattle.loader.proofs.lines.code_fits.Tie as tie
 
-output-type-requires : tie.Need-output-type-requires
-output-type-requires c κs = search needs
-
-leaves-requires : tie.Need-leaves-requires
-leaves-requires c κs = search needs
-
 returns : tie.Need-returns
 unfolding codeFits
 returns c =
@@ -19,12 +13,6 @@ returns c =
     let output-type = c .before .output-type in
     let leaves = c .leaves in
     rw (eq-eqb (args .kind) 1 (if1 .taken), ← (output-type .ensures)) (leaves .ensures)
-
-variable-type-requires : tie.Need-variable-type-requires
-variable-type-requires c κs = search needs
-
-leaves-requires-2 : tie.Need-leaves-requires-2
-leaves-requires-2 c κs = search needs
 
 returns-2 : tie.Need-returns-2
 unfolding codeFits
@@ -35,9 +23,6 @@ returns-2 c =
     let variable-type = c .before .variable-type in
     let leaves2 = c .leaves2 in
     rw (ne-eqb (args .kind) 1 (if1 .left), eq-eqb (args .kind) 2 (if2 .taken), ← (variable-type .ensures)) (leaves2 .ensures)
-
-leaves-requires-3 : tie.Need-leaves-requires-3
-leaves-requires-3 c κs = search needs
 
 returns-3 : tie.Need-returns-3
 unfolding codeFits
@@ -124,13 +109,13 @@ pub code-fits-spec : {M : Type 1} → statement M
 code-fits-spec =
     tie.close
     (tie.spec
-    output-type-requires
-    leaves-requires
+    (λ c κs. search needs)
+    (λ c κs. search needs)
     returns
-    variable-type-requires
-    leaves-requires-2
+    (λ c κs. search needs)
+    (λ c κs. search needs)
     returns-2
-    leaves-requires-3
+    (λ c κs. search needs)
     returns-3
     returns-4
     returns-5

@@ -5,18 +5,6 @@ use borrow.Author.Needs.{needs}
 use Rattle.loader.proofs.lines.followers_fit.Statement.{statement}
 use Rattle.loader.proofs.lines.followers_fit.Tie as tie
 
-reach-of-requires : tie.Need-reach-of-requires
-reach-of-requires c κs = search needs
-
-reach-of-requires-2 : tie.Need-reach-of-requires-2
-reach-of-requires-2 c κs = search needs
-
-larger-requires : tie.Need-larger-requires
-larger-requires c κs = search needs
-
-add-result : tie.Need-add-result
-add-result c = search needs
-
 returns : tie.Need-returns
 unfolding followersFit
 returns c =
@@ -62,12 +50,6 @@ returns-3 c =
           (if5 .taken),
     )
 
-reach-of-requires-3 : tie.Need-reach-of-requires-3
-reach-of-requires-3 c κs = search needs
-
-add-result-2 : tie.Need-add-result-2
-add-result-2 c = search needs
-
 returns-4 : tie.Need-returns-4
 unfolding followersFit
 returns-4 c =
@@ -103,15 +85,15 @@ pub followers-fit-spec : {M : Type 1} → statement M
 followers-fit-spec =
     tie.close
     (tie.spec
-    reach-of-requires
-    reach-of-requires-2
-    larger-requires
-    add-result
+    (λ c κs. search needs)
+    (λ c κs. search needs)
+    (λ c κs. search needs)
+    (λ c. search needs)
     returns
     returns-2
     returns-3
-    reach-of-requires-3
-    add-result-2
+    (λ c κs. search needs)
+    (λ c. search needs)
     returns-4
     returns-5
     returns-6)

@@ -26,15 +26,6 @@ line-fits-requires c κs =
     let loop = c .before .loop in
     (pre .0, (pre .1, (loop-test .taken, (loop .inv .room))))
 
-mul-short : tie.Need-mul-short Inv-loop μ-loop
-mul-short c = search needs
-
-add-short : tie.Need-add-short Inv-loop μ-loop
-add-short c = search needs
-
-short-requires : tie.Need-short-requires Inv-loop μ-loop
-short-requires c κs = search needs
-
 add-p : tie.Need-add-p Inv-loop μ-loop
 add-p c =
     let args = c .before .before .before .before .before .before .before .before .args in
@@ -45,12 +36,6 @@ add-p c =
     let r = left-room (args .signature .now) (args .lines .now) (args .code .now) (length (args .lines .now) / 12) (loop .inv) (short .ensures .0)
     (sym (line-fits .ensures) ∙ (if1 .taken)) in
     omega arith
-
-add-x : tie.Need-add-x Inv-loop μ-loop
-add-x c = search needs
-
-loop-less : tie.Need-loop-less Inv-loop μ-loop
-loop-less c = search needs
 
 loop-again : tie.Need-loop-again Inv-loop μ-loop
 loop-again c =
@@ -97,12 +82,12 @@ judge-spec =
     μ-loop
     loop-holds
     line-fits-requires
-    mul-short
-    add-short
-    short-requires
+    (λ c. search needs)
+    (λ c. search needs)
+    (λ c κs. search needs)
     add-p
-    add-x
-    loop-less
+    (λ c. search needs)
+    (λ c. search needs)
     loop-again
     returns
     returns-2

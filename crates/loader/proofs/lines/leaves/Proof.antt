@@ -6,9 +6,6 @@ use borrow.Author.Needs.{needs}
 use Rattle.loader.proofs.lines.leaves.Statement.{statement}
 use Rattle.loader.proofs.lines.leaves.Tie as tie
 
-code-type-requires : tie.Need-code-type-requires
-code-type-requires c κs = search needs
-
 returns : tie.Need-returns
 unfolding leavesType
 returns c = rw (← (c .before .code-type .ensures), eq-eqb (c .before .code-type .result) NONE (c .if1 .taken))
@@ -18,4 +15,4 @@ unfolding leavesType
 returns-2 c = rw (← (c .before .code-type .ensures), ne-eqb (c .before .code-type .result) NONE (c .if1 .left))
 
 pub leaves-spec : {M : Type 1} → statement M
-leaves-spec = tie.close (tie.spec code-type-requires returns returns-2)
+leaves-spec = tie.close (tie.spec (λ c κs. search needs) returns returns-2)

@@ -8,69 +8,6 @@ use borrow.Author.Needs.{needs}
 use Rattle.loader.proofs.lines.line_fits.Statement.{statement}
 use Rattle.loader.proofs.lines.line_fits.Tie as tie
 
-mul-at : tie.Need-mul-at
-mul-at c = search needs
-
-add-short : tie.Need-add-short
-add-short c = search needs
-
-short-requires : tie.Need-short-requires
-short-requires c κs = search needs
-
-add-short-2 : tie.Need-add-short-2
-add-short-2 c = search needs
-
-short-requires-2 : tie.Need-short-requires-2
-short-requires-2 c κs = search needs
-
-sub-if2 : tie.Need-sub-if2
-sub-if2 c = search needs
-
-byte-requires : tie.Need-byte-requires
-byte-requires c κs = search needs
-
-add-end : tie.Need-add-end
-add-end c = search needs
-
-add-count : tie.Need-add-count
-add-count c = search needs
-
-count-requires : tie.Need-count-requires
-count-requires c κs = search needs
-
-sub-code-fits : tie.Need-sub-code-fits
-sub-code-fits c = search needs
-
-part-code-fits-start : tie.Need-part-code-fits-start
-part-code-fits-start c = search needs
-
-part-code-fits-end : tie.Need-part-code-fits-end
-part-code-fits-end c = search needs
-
-code-fits-requires : tie.Need-code-fits-requires
-code-fits-requires c κs = search needs
-
-add-short-3 : tie.Need-add-short-3
-add-short-3 c = search needs
-
-short-requires-3 : tie.Need-short-requires-3
-short-requires-3 c κs = search needs
-
-add-short-4 : tie.Need-add-short-4
-add-short-4 c = search needs
-
-short-requires-4 : tie.Need-short-requires-4
-short-requires-4 c κs = search needs
-
-add-short-5 : tie.Need-add-short-5
-add-short-5 c = search needs
-
-short-requires-5 : tie.Need-short-requires-5
-short-requires-5 c κs = search needs
-
-followers-fit-requires : tie.Need-followers-fit-requires
-followers-fit-requires c κs = search needs
-
 returns : tie.Need-returns
 returns c =
     let args = c .before .before .before .before .before .before .before .before .before .before .before .before .before .before .before .before .args in
@@ -145,27 +82,27 @@ pub line-fits-spec : {M : Type 1} → statement M
 line-fits-spec =
     tie.close
     (tie.spec
-    mul-at
-    add-short
-    short-requires
-    add-short-2
-    short-requires-2
-    sub-if2
-    byte-requires
-    add-end
-    add-count
-    count-requires
-    sub-code-fits
-    part-code-fits-start
-    part-code-fits-end
-    code-fits-requires
-    add-short-3
-    short-requires-3
-    add-short-4
-    short-requires-4
-    add-short-5
-    short-requires-5
-    followers-fit-requires
+    (λ c. search needs)
+    (λ c. search needs)
+    (λ c κs. search needs)
+    (λ c. search needs)
+    (λ c κs. search needs)
+    (λ c. search needs)
+    (λ c κs. search needs)
+    (λ c. search needs)
+    (λ c. search needs)
+    (λ c κs. search needs)
+    (λ c. search needs)
+    (λ c. search needs)
+    (λ c. search needs)
+    (λ c κs. search needs)
+    (λ c. search needs)
+    (λ c κs. search needs)
+    (λ c. search needs)
+    (λ c κs. search needs)
+    (λ c. search needs)
+    (λ c κs. search needs)
+    (λ c κs. search needs)
     returns
     returns-2
     returns-3

@@ -6,18 +6,6 @@ use borrow.Author.Needs.{needs}
 use Rattle.loader.proofs.sections.has_sections.Statement.{statement}
 use Rattle.loader.proofs.sections.has_sections.Tie as tie
 
-header-requires : tie.Need-header-requires
-header-requires c κs = search needs
-
-pairs-requires : tie.Need-pairs-requires
-pairs-requires c κs = search needs
-
-long-requires : tie.Need-long-requires
-long-requires c κs = search needs
-
-whole-lines-requires : tie.Need-whole-lines-requires
-whole-lines-requires c κs = search needs
-
 returns : tie.Need-returns
 unfolding sectioned
 returns c =
@@ -55,10 +43,10 @@ pub has-sections-spec : {M : Type 1} → statement M
 has-sections-spec =
     tie.close
     (tie.spec
-    header-requires
-    pairs-requires
-    long-requires
-    whole-lines-requires
+    (λ c κs. search needs)
+    (λ c κs. search needs)
+    (λ c κs. search needs)
+    (λ c κs. search needs)
     returns
     returns-2
     returns-3)

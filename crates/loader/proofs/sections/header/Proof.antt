@@ -21,12 +21,6 @@ returns-2 c =
     let b = (args .image .now) in
     rw (le-leb (length b) 65535 (if1 .left), lt-leb 28 (length b) (if2 .taken))
 
-word2-requires : tie.Need-word2-requires
-word2-requires c κs = search needs
-
-word2-requires-2 : tie.Need-word2-requires-2
-word2-requires-2 c κs = search needs
-
 returns-3 : tie.Need-returns-3
 unfolding headed
 returns-3 c =
@@ -57,4 +51,4 @@ returns-4 c =
 
 pub header-spec : {M : Type 1} → statement M
 header-spec =
-    tie.close (tie.spec returns returns-2 word2-requires word2-requires-2 returns-3 returns-4)
+    tie.close (tie.spec returns returns-2 (λ c κs. search needs) (λ c κs. search needs) returns-3 returns-4)

@@ -4,42 +4,6 @@ use borrow.Author.Needs.{needs}
 use Rattle.loader.proofs.sections.pairs.Statement.{statement}
 use Rattle.loader.proofs.sections.pairs.Tie as tie
 
-long-requires : tie.Need-long-requires
-long-requires c κs = search needs
-
-long-requires-2 : tie.Need-long-requires-2
-long-requires-2 c κs = search needs
-
-long-requires-3 : tie.Need-long-requires-3
-long-requires-3 c κs = search needs
-
-long-requires-4 : tie.Need-long-requires-4
-long-requires-4 c κs = search needs
-
-long-requires-5 : tie.Need-long-requires-5
-long-requires-5 c κs = search needs
-
-add-if2 : tie.Need-add-if2
-add-if2 c = search needs
-
-long-requires-6 : tie.Need-long-requires-6
-long-requires-6 c κs = search needs
-
-add-if3 : tie.Need-add-if3
-add-if3 c = search needs
-
-add-if3-2 : tie.Need-add-if3-2
-add-if3-2 c = search needs
-
-add-result : tie.Need-add-result
-add-result c = search needs
-
-add-result-2 : tie.Need-add-result-2
-add-result-2 c = search needs
-
-add-result-3 : tie.Need-add-result-3
-add-result-3 c = search needs
-
 returns : tie.Need-returns
 returns c =
     let args = c .before .before .before .before .before .before .before .before .before .before .args in
@@ -90,18 +54,18 @@ pub pairs-spec : {M : Type 1} → statement M
 pairs-spec =
     tie.close
     (tie.spec
-    long-requires
-    long-requires-2
-    long-requires-3
-    long-requires-4
-    long-requires-5
-    add-if2
-    long-requires-6
-    add-if3
-    add-if3-2
-    add-result
-    add-result-2
-    add-result-3
+    (λ c κs. search needs)
+    (λ c κs. search needs)
+    (λ c κs. search needs)
+    (λ c κs. search needs)
+    (λ c κs. search needs)
+    (λ c. search needs)
+    (λ c κs. search needs)
+    (λ c. search needs)
+    (λ c. search needs)
+    (λ c. search needs)
+    (λ c. search needs)
+    (λ c. search needs)
     returns
     returns-2
     returns-3

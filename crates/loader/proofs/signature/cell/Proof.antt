@@ -7,26 +7,8 @@ use borrow.Author.Needs.{needs}
 use Rattle.loader.proofs.signature.cell.Statement.{statement}
 use Rattle.loader.proofs.signature.cell.Tie as tie
 
-add-if1 : tie.Need-add-if1
-add-if1 c = search needs
-
 returns : tie.Need-returns
 returns c = cell-short (c .before .before .args .at) (c .before .before .args .s .now) (c .if1 .taken)
-
-byte-requires : tie.Need-byte-requires
-byte-requires c κs = search needs
-
-add-word4 : tie.Need-add-word4
-add-word4 c = search needs
-
-word4-requires : tie.Need-word4-requires
-word4-requires c κs = search needs
-
-from-bits-requires : tie.Need-from-bits-requires
-from-bits-requires c κs = search needs
-
-in-type-requires : tie.Need-in-type-requires
-in-type-requires c κs = search needs
 
 returns-2 : tie.Need-returns-2
 returns-2 c =
@@ -43,11 +25,11 @@ pub cell-spec : {M : Type 1} → statement M
 cell-spec =
     tie.close
     (tie.spec
-    add-if1
+    (λ c. search needs)
     returns
-    byte-requires
-    add-word4
-    word4-requires
-    from-bits-requires
-    in-type-requires
+    (λ c κs. search needs)
+    (λ c. search needs)
+    (λ c κs. search needs)
+    (λ c κs. search needs)
+    (λ c κs. search needs)
     returns-2)

@@ -9,15 +9,6 @@ use Rattle.loader.proofs.signature.has_signature.Tie as tie
 returns : tie.Need-returns
 returns c = signature-short (c .before .before .args .s .now) (c .if1 .taken)
 
-count-requires : tie.Need-count-requires
-count-requires c κs = search needs
-
-count-requires-2 : tie.Need-count-requires-2
-count-requires-2 c κs = search needs
-
-count-requires-3 : tie.Need-count-requires-3
-count-requires-3 c κs = search needs
-
 returns-2 : tie.Need-returns-2
 returns-2 c =
     let args = c .before .before .before .before .before .before .args in
@@ -60,42 +51,6 @@ returns-4 c =
       le-leb (count2 .result) 16 (if3 .left),
       lt-leb (count3 .result) 32 (if4 .taken),
     ))
-
-types-requires : tie.Need-types-requires
-types-requires c κs = search needs
-
-add-cells : tie.Need-add-cells
-add-cells c = search needs
-
-cells-requires : tie.Need-cells-requires
-cells-requires c κs = search needs
-
-add-cells-2 : tie.Need-add-cells-2
-add-cells-2 c = search needs
-
-mul-cells : tie.Need-mul-cells
-mul-cells c = search needs
-
-add-cells-3 : tie.Need-add-cells-3
-add-cells-3 c = search needs
-
-cells-requires-2 : tie.Need-cells-requires-2
-cells-requires-2 c κs = search needs
-
-add-result : tie.Need-add-result
-add-result c = search needs
-
-mul-result : tie.Need-mul-result
-mul-result c = search needs
-
-add-result-2 : tie.Need-add-result-2
-add-result-2 c = search needs
-
-mul-result-2 : tie.Need-mul-result-2
-mul-result-2 c = search needs
-
-add-result-3 : tie.Need-add-result-3
-add-result-3 c = search needs
 
 returns-5 : tie.Need-returns-5
 returns-5 c =
@@ -200,24 +155,24 @@ has-signature-spec =
     tie.close
     (tie.spec
     returns
-    count-requires
-    count-requires-2
-    count-requires-3
+    (λ c κs. search needs)
+    (λ c κs. search needs)
+    (λ c κs. search needs)
     returns-2
     returns-3
     returns-4
-    types-requires
-    add-cells
-    cells-requires
-    add-cells-2
-    mul-cells
-    add-cells-3
-    cells-requires-2
-    add-result
-    mul-result
-    add-result-2
-    mul-result-2
-    add-result-3
+    (λ c κs. search needs)
+    (λ c. search needs)
+    (λ c κs. search needs)
+    (λ c. search needs)
+    (λ c. search needs)
+    (λ c. search needs)
+    (λ c κs. search needs)
+    (λ c. search needs)
+    (λ c. search needs)
+    (λ c. search needs)
+    (λ c. search needs)
+    (λ c. search needs)
     returns-5
     returns-6
     returns-7

@@ -8,12 +8,6 @@ use borrow.Author.Needs.{needs}
 use Rattle.loader.proofs.signature.type_byte.Statement.{statement}
 use Rattle.loader.proofs.signature.type_byte.Tie as tie
 
-byte-requires : tie.Need-byte-requires
-byte-requires c κs = search needs
-
-is-type-byte-requires : tie.Need-is-type-byte-requires
-is-type-byte-requires c κs = search needs
-
 returns : tie.Need-returns
 returns c =
     let args = c .before .before .before .before .args in
@@ -24,4 +18,4 @@ returns-2 : tie.Need-returns-2
 returns-2 c = let s = (c .before .before .args .s .now) in rw (le-ltb (c .before .before .args .at) (length s) (c .if1 .left))
 
 pub type-byte-spec : {M : Type 1} → statement M
-type-byte-spec = tie.close (tie.spec byte-requires is-type-byte-requires returns returns-2)
+type-byte-spec = tie.close (tie.spec (λ c κs. search needs) (λ c κs. search needs) returns returns-2)

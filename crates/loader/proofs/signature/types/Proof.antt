@@ -17,9 +17,6 @@ abbrev μ-loop : tie.MeasureT-loop
 loop-holds : tie.Need-loop-holds Inv-loop μ-loop
 loop-holds c = (refl, omega arith)
 
-type-byte-requires : tie.Need-type-byte-requires Inv-loop μ-loop
-type-byte-requires c κs = search needs
-
 add-place : tie.Need-add-place Inv-loop μ-loop
 add-place c = omega arith
 
@@ -65,7 +62,7 @@ types-spec =
     Inv-loop
     μ-loop
     loop-holds
-    type-byte-requires
+    (λ c κs. search needs)
     add-place
     sub-left
     loop-less

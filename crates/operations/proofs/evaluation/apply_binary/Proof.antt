@@ -13,15 +13,6 @@ use Rattle.operations.proofs.evaluation.apply_binary.Tie as tie
 returns : tie.Need-returns
 returns c = stopped (c .before .args .stack .now) (c .before .args .depth) 13 (c .before .pre) (binary-short (c .before .args .stack .now) (c .before .args .depth) (c .before .args .op) (c .before .args .t) (c .if1 .taken))
 
-sub-right : tie.Need-sub-right
-sub-right c = search needs
-
-sub-i : tie.Need-sub-i
-sub-i c = search needs
-
-apply-binary-requires : tie.Need-apply-binary-requires
-apply-binary-requires c κs = search needs
-
 returns-2 : tie.Need-returns-2
 returns-2 c =
     let s = c .before .before .before .before .args in
@@ -30,9 +21,6 @@ returns-2 c =
     let e : s .depth - 2 ≡ i = omega arith in
     halted (binaryOn (s .op) (s .t) (getD (s .stack .now) i (pos 0)) (getD (s .stack .now) (i + 1) (pos 0))) (s .stack .now) i (rw e at (binary-more (s .stack .now) (s .depth) (s .op) (s .t) (c .before .before .before .if1 .left))) (c .before .apply-binary .ensures) (c .if2 .taken)
     (record { numbers = m .numbers; depth = omega (arith, m .depth) })
-
-add-t10 : tie.Need-add-t10
-add-t10 c = search needs
 
 returns-3 : tie.Need-returns-3
 returns-3 c =
@@ -45,4 +33,4 @@ returns-3 c =
 
 pub apply-binary-spec : {M : Type 1} → statement M
 apply-binary-spec =
-    tie.close (tie.spec returns sub-right sub-i apply-binary-requires returns-2 add-t10 returns-3)
+    tie.close (tie.spec returns (λ c. search needs) (λ c. search needs) (λ c κs. search needs) returns-2 (λ c. search needs) returns-3)

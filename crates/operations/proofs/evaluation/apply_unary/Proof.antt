@@ -12,9 +12,6 @@ use Rattle.operations.proofs.evaluation.apply_unary.Tie as tie
 returns : tie.Need-returns
 returns c = stopped (c .before .args .stack .now) (c .before .args .depth) 13 (c .before .pre) (unary-short (c .before .args .stack .now) (c .before .args .depth) (c .before .args .op) (c .before .args .t) (c .if1 .taken))
 
-apply-unary-requires : tie.Need-apply-unary-requires
-apply-unary-requires c κs = search needs
-
 returns-2 : tie.Need-returns-2
 returns-2 c =
     let s = c .before .before .before .before .args in
@@ -22,9 +19,6 @@ returns-2 c =
     let i = s .depth - 1 in
     halted (unaryOn (s .op) (s .t) (getD (s .stack .now) i (pos 0))) (s .stack .now) i (unary-more (s .stack .now) (s .depth) (s .op) (s .t) (c .before .before .before .if1 .left)) (c .before .apply-unary .ensures) (c .if2 .taken)
     (record { numbers = m .numbers; depth = omega (arith, m .depth) })
-
-add-t9 : tie.Need-add-t9
-add-t9 c = search needs
 
 returns-3 : tie.Need-returns-3
 returns-3 c =
@@ -35,4 +29,4 @@ returns-3 c =
     (record { numbers = m .numbers; depth = omega (arith, m .depth) })
 
 pub apply-unary-spec : {M : Type 1} → statement M
-apply-unary-spec = tie.close (tie.spec returns apply-unary-requires returns-2 add-t9 returns-3)
+apply-unary-spec = tie.close (tie.spec returns (λ c κs. search needs) returns-2 (λ c. search needs) returns-3)

@@ -16,15 +16,6 @@ small n z e h = rw (← e, lt-ltb n 255 h)
 large : (n : ℕ) (z : ℤ) → n ≡ unsigned32 z → 255 ≤ n → 255 ≡ kindOf z
 large n z e h = rw (← e, le-ltb n 255 h)
 
-to-bits-requires : tie.Need-to-bits-requires
-to-bits-requires c κs = search needs
-
-cast-if1 : tie.Need-cast-if1
-cast-if1 c = search needs
-
-cast-result : tie.Need-cast-result
-cast-result c = search needs
-
 returns : tie.Need-returns
 returns c = let s = c .before .before in small _ (s .args .arg) (rw (toZ-ofZ (s .fits .arg)) at (c .before .to-bits .ensures)) (c .if1 .taken)
 
@@ -32,4 +23,4 @@ returns-2 : tie.Need-returns-2
 returns-2 c = let s = c .before .before in large _ (s .args .arg) (rw (toZ-ofZ (s .fits .arg)) at (c .before .to-bits .ensures)) (c .if1 .left)
 
 pub kind-spec : {M : Type 1} → statement M
-kind-spec = tie.close (tie.spec to-bits-requires cast-if1 cast-result returns returns-2)
+kind-spec = tie.close (tie.spec (λ c κs. search needs) (λ c. search needs) (λ c. search needs) returns returns-2)

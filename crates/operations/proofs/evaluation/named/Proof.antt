@@ -6,19 +6,10 @@ use borrow.Author.Needs.{needs}
 use Rattle.operations.proofs.evaluation.named.Statement.{statement}
 use Rattle.operations.proofs.evaluation.named.Tie as tie
 
-to-bits-requires : tie.Need-to-bits-requires
-to-bits-requires c κs = search needs
-
-cast-number : tie.Need-cast-number
-cast-number c = search needs
-
-number-requires : tie.Need-number-requires
-number-requires c κs = search needs
-
 returns : tie.Need-returns
 returns c =
     let fit : SFits w32 (c .number .result) = search needs in
     rw (toZ-ofZ fit) (rw (toZ-ofZ (c .before .before .fits .arg)) at (rw (c .before .to-bits .ensures) at (c .number .ensures)))
 
 pub named-spec : {M : Type 1} → statement M
-named-spec = tie.close (tie.spec to-bits-requires cast-number number-requires returns)
+named-spec = tie.close (tie.spec (λ c κs. search needs) (λ c. search needs) (λ c κs. search needs) returns)

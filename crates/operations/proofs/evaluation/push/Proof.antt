@@ -8,15 +8,6 @@ use Rattle.operations.proofs.evaluation.push.Tie as tie
 returns : tie.Need-returns
 returns c = stopped (c .before .args .stack .now) (c .before .args .depth) 13 (c .before .pre) (push-full (c .before .args .stack .now) (c .before .args .depth) (c .before .args .v) (c .if1 .taken))
 
-mul-v : tie.Need-mul-v
-mul-v c = search needs
-
-element-set-from-v : tie.Need-element-set-from-v
-element-set-from-v c = search needs
-
-add-t5 : tie.Need-add-t5
-add-t5 c = search needs
-
 returns-2 : tie.Need-returns-2
 returns-2 c =
     let m = c .before .pre in
@@ -24,4 +15,4 @@ returns-2 c =
     (kept (c .before .args .stack .now) (c .before .args .depth) (c .before .args .v) (c .before .fits .v) (record { numbers = m .numbers; depth = omega (arith, c .if1 .left) }))
 
 pub push-spec : {M : Type 1} → statement M
-push-spec = tie.close (tie.spec returns mul-v element-set-from-v add-t5 returns-2)
+push-spec = tie.close (tie.spec returns (λ c. search needs) (λ c. search needs) (λ c. search needs) returns-2)

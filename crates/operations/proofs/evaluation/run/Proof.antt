@@ -17,32 +17,14 @@ abbrev μ-loop : tie.MeasureT-loop
 loop-holds : tie.Need-loop-holds Inv-loop μ-loop
 loop-holds c = left-first (c .before .args .codes .now) (c .before .args .args .now) (c .before .args .from) (c .before .args .to) (c .before .args .inputs .now) (c .before .args .variables .now) (c .before .args .stack .now) (c .before .pre)
 
-code-at-requires : tie.Need-code-at-requires Inv-loop μ-loop
-code-at-requires c κs = search needs
-
-number-requires : tie.Need-number-requires Inv-loop μ-loop
-number-requires c κs = search needs
-
 step-requires : tie.Need-step-requires Inv-loop μ-loop
 step-requires c κs = c .before .before .before .before .loop .inv .room
-
-enum-known-next : tie.Need-enum-known-next Inv-loop μ-loop
-enum-known-next c = search needs
-
-add-at : tie.Need-add-at Inv-loop μ-loop
-add-at c = search needs
-
-loop-less : tie.Need-loop-less Inv-loop μ-loop
-loop-less c = search needs
 
 loop-again : tie.Need-loop-again Inv-loop μ-loop
 loop-again c =
     let fit : SFits w32 (c .before .before .before .before .before .number .result) = search needs in
     left-again (c .before .before .before .before .before .before .before .before .before .before .args .codes .now) (c .before .before .before .before .before .before .before .before .before .before .args .args .now) (c .before .before .before .before .before .before .before .before .before .before .args .from) (c .before .before .before .before .before .before .before .before .before .before .args .to) (c .before .before .before .before .before .before .before .before .before .before .args .inputs .now) (c .before .before .before .before .before .before .before .before .before .before .args .variables .now) (c .before .before .before .before .before .before .before .before .loop .depth) (c .before .before .before .before .before .before .before .before .loop .at) (c .before .before .before .before .before .before .before .before .loop .stack) _ (c .before .before .before .step .result) (c .before .next .given .0 .0) (c .before .before .before .before .before .before .before .before .loop .inv) (c .before .before .before .before .before .before .before .loop-test .taken)
     (rw (c .before .before .before .before .before .before .code-at .ensures, c .before .before .before .before .before .number .ensures) at (rw (toZ-ofZ fit) at (c .before .before .before .step .ensures))) (c .before .next .given .1)
-
-enum-known-next-2 : tie.Need-enum-known-next-2 Inv-loop μ-loop
-enum-known-next-2 c = search needs
 
 returns : tie.Need-returns Inv-loop μ-loop
 returns c =
@@ -63,14 +45,14 @@ run-spec =
     Inv-loop
     μ-loop
     loop-holds
-    code-at-requires
-    number-requires
+    (λ c κs. search needs)
+    (λ c κs. search needs)
     step-requires
-    enum-known-next
-    add-at
-    loop-less
+    (λ c. search needs)
+    (λ c. search needs)
+    (λ c. search needs)
     loop-again
-    enum-known-next-2
+    (λ c. search needs)
     returns
     top-requires
     returns-2)

@@ -13,20 +13,11 @@ use borrow.Author.Needs.{needs}
 use Rattle.operations.proofs.evaluation.step.Statement.{statement}
 use Rattle.operations.proofs.evaluation.step.Tie as tie
 
-push-requires : tie.Need-push-requires
-push-requires c κs = search needs
-
 returns : tie.Need-returns
 returns c =
     let s = c .before .before .before .args in
     saying (step-literal (s .inputs .now) (s .variables .now) (s .op) (s .arg) (stackOf (pos 0) (s .stack .now) (s .depth)) (c .before .before .if1 .taken))
     (rw (toZ-ofZ (c .before .before .before .fits .arg)) at (c .push .ensures))
-
-named-requires : tie.Need-named-requires
-named-requires c κs = search needs
-
-push-requires-2 : tie.Need-push-requires-2
-push-requires-2 c κs = search needs
 
 returns-2 : tie.Need-returns-2
 returns-2 c =
@@ -36,12 +27,6 @@ returns-2 c =
     saying (step-input (s .inputs .now) (s .variables .now) (s .op) (s .arg) (stackOf (pos 0) (s .stack .now) (s .depth)) (c .before .before .before .if2 .taken))
     (rw e at (rw (toZ-ofZ fit) at (c .push2 .ensures)))
 
-named-requires-2 : tie.Need-named-requires-2
-named-requires-2 c κs = search needs
-
-push-requires-3 : tie.Need-push-requires-3
-push-requires-3 c κs = search needs
-
 returns-3 : tie.Need-returns-3
 returns-3 c =
     let s = c .before .before .before .before .before .before .args in
@@ -50,27 +35,12 @@ returns-3 c =
     saying (step-variable (s .inputs .now) (s .variables .now) (s .op) (s .arg) (stackOf (pos 0) (s .stack .now) (s .depth)) (c .before .before .before .if3 .taken))
     (rw e at (rw (toZ-ofZ fit) at (c .push3 .ensures)))
 
-operands-requires : tie.Need-operands-requires
-operands-requires c κs = search needs
-
-kind-requires : tie.Need-kind-requires
-kind-requires c κs = search needs
-
-apply-unary-requires : tie.Need-apply-unary-requires
-apply-unary-requires c κs = search needs
-
 returns-4 : tie.Need-returns-4
 returns-4 c =
     let s = c .before .before .before .before .before .before .before .before .args in
     let k : c .before .kind .result ≡ kindOf (s .arg) = rw (toZ-ofZ (c .before .before .before .before .before .before .before .before .fits .arg)) at (c .before .kind .ensures) in
     saying (step-unary (s .inputs .now) (s .variables .now) (s .op) (s .arg) (stackOf (pos 0) (s .stack .now) (s .depth)) (c .before .before .before .before .before .before .before .if1 .left) (c .before .before .before .before .before .before .if2 .left) (c .before .before .before .before .before .if3 .left) (sym (c .before .before .before .before .operands .ensures) ∙ c .before .before .before .if4 .taken))
     (rw k at (c .apply-unary .ensures))
-
-kind-requires-2 : tie.Need-kind-requires-2
-kind-requires-2 c κs = search needs
-
-apply-binary-requires : tie.Need-apply-binary-requires
-apply-binary-requires c κs = search needs
 
 returns-5 : tie.Need-returns-5
 returns-5 c =
@@ -83,18 +53,18 @@ pub step-spec : {M : Type 1} → statement M
 step-spec =
     tie.close
     (tie.spec
-    push-requires
+    (λ c κs. search needs)
     returns
-    named-requires
-    push-requires-2
+    (λ c κs. search needs)
+    (λ c κs. search needs)
     returns-2
-    named-requires-2
-    push-requires-3
+    (λ c κs. search needs)
+    (λ c κs. search needs)
     returns-3
-    operands-requires
-    kind-requires
-    apply-unary-requires
+    (λ c κs. search needs)
+    (λ c κs. search needs)
+    (λ c κs. search needs)
     returns-4
-    kind-requires-2
-    apply-binary-requires
+    (λ c κs. search needs)
+    (λ c κs. search needs)
     returns-5)

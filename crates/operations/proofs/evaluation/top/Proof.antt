@@ -13,16 +13,10 @@ use Rattle.operations.proofs.evaluation.top.Tie as tie
 returns : tie.Need-returns
 returns c = top-none (c .before .args .stack .now) (c .before .args .depth) (c .if1 .taken)
 
-mul-t5 : tie.Need-mul-t5
-mul-t5 c = search needs
-
-element-copy-out-t8 : tie.Need-element-copy-out-t8
-element-copy-out-t8 c = search needs
-
 returns-2 : tie.Need-returns-2
 returns-2 c =
     let fit : SFits w32 (getD (c .before .before .args .stack .now) (c .before .before .args .depth - 1) (pos 0)) = search needs in
     rw (toZ-ofZ fit) (top-some (c .before .before .args .stack .now) (c .before .before .args .depth) (c .before .if1 .left))
 
 pub top-spec : {M : Type 1} → statement M
-top-spec = tie.close (tie.spec returns mul-t5 element-copy-out-t8 returns-2)
+top-spec = tie.close (tie.spec returns (λ c. search needs) (λ c. search needs) returns-2)

@@ -4,11 +4,8 @@ use borrow.Author.Needs.{needs}
 use Rattle.scanner.proofs.bytes.in_word.Statement.{statement}
 use Rattle.scanner.proofs.bytes.in_word.Tie as tie
 
-kind-of-requires : tie.Need-kind-of-requires
-kind-of-requires c κs = search needs
-
 returns : tie.Need-returns
 returns c = word-is (c .before .args .b) (c .kind-of .result) (c .kind-of .ensures)
 
 pub in-word-spec : {M : Type 1} → statement M
-in-word-spec = tie.close (tie.spec kind-of-requires returns)
+in-word-spec = tie.close (tie.spec (λ c κs. search needs) returns)

@@ -5,11 +5,8 @@ use borrow.Author.Needs.{needs}
 use Rattle.scanner.proofs.bytes.is_blank.Statement.{statement}
 use Rattle.scanner.proofs.bytes.is_blank.Tie as tie
 
-kind-of-requires : tie.Need-kind-of-requires
-kind-of-requires c κs = search needs
-
 returns : tie.Need-returns
 returns c = kind-is blank (c .before .args .b) (c .kind-of .result) (c .kind-of .ensures)
 
 pub is-blank-spec : {M : Type 1} → statement M
-is-blank-spec = tie.close (tie.spec kind-of-requires returns)
+is-blank-spec = tie.close (tie.spec (λ c κs. search needs) returns)

@@ -5,11 +5,8 @@ use borrow.Author.Needs.{needs}
 use Rattle.scanner.proofs.bytes.is_digit.Statement.{statement}
 use Rattle.scanner.proofs.bytes.is_digit.Tie as tie
 
-kind-of-requires : tie.Need-kind-of-requires
-kind-of-requires c κs = search needs
-
 returns : tie.Need-returns
 returns c = kind-is digit (c .before .args .b) (c .kind-of .result) (c .kind-of .ensures)
 
 pub is-digit-spec : {M : Type 1} → statement M
-is-digit-spec = tie.close (tie.spec kind-of-requires returns)
+is-digit-spec = tie.close (tie.spec (λ c κs. search needs) returns)

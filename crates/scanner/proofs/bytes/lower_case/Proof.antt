@@ -7,9 +7,6 @@ use borrow.Author.Needs.{needs}
 use Rattle.scanner.proofs.bytes.lower_case.Statement.{statement}
 use Rattle.scanner.proofs.bytes.lower_case.Tie as tie
 
-is-between-requires : tie.Need-is-between-requires
-is-between-requires c κs = search needs
-
 add-result : tie.Need-add-result
 add-result c = let h = between-le 65 90 (c .before .before .args .b) (flag (c .before .is-between .ensures) (c .if1 .taken)) in omega arith
 
@@ -22,4 +19,4 @@ unfolding lower
 returns-2 c = rw (flag (c .before .is-between .ensures) (c .if1 .left))
 
 pub lower-case-spec : {M : Type 1} → statement M
-lower-case-spec = tie.close (tie.spec is-between-requires add-result returns returns-2)
+lower-case-spec = tie.close (tie.spec (λ c κs. search needs) add-result returns returns-2)

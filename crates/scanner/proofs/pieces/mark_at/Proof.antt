@@ -12,21 +12,9 @@ use borrow.Author.Needs.{needs}
 use Rattle.scanner.proofs.pieces.mark_at.Statement.{statement}
 use Rattle.scanner.proofs.pieces.mark_at.Tie as tie
 
-opens-comment-requires : tie.Need-opens-comment-requires
-opens-comment-requires c κs = search needs
-
-add-comment-end : tie.Need-add-comment-end
-add-comment-end c = search needs
-
-comment-end-requires : tie.Need-comment-end-requires
-comment-end-requires c κs = search needs
-
 returns : tie.Need-returns
 returns c = mark-comment _ (c .before .before .before .before .args .at) _ _
     (flag (c .before .before .opens-comment .ensures) (c .before .if1 .taken)) (c .comment-end .ensures)
-
-fixed-at-requires : tie.Need-fixed-at-requires
-fixed-at-requires c κs = search needs
 
 returns-2 : tie.Need-returns-2
 returns-2 c =
@@ -41,9 +29,9 @@ pub mark-at-spec : {M : Type 1} → statement M
 mark-at-spec =
     tie.close
     (tie.spec
-    opens-comment-requires
-    add-comment-end
-    comment-end-requires
+    (λ c κs. search needs)
+    (λ c. search needs)
+    (λ c κs. search needs)
     returns
-    fixed-at-requires
+    (λ c κs. search needs)
     returns-2)

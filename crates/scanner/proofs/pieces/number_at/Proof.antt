@@ -4,11 +4,8 @@ use borrow.Author.Needs.{needs}
 use Rattle.scanner.proofs.pieces.number_at.Statement.{statement}
 use Rattle.scanner.proofs.pieces.number_at.Tie as tie
 
-digits-end-requires : tie.Need-digits-end-requires
-digits-end-requires c κs = search needs
-
 returns : tie.Need-returns
 returns c = number-good _ _ _ (c .digits-end .ensures)
 
 pub number-at-spec : {M : Type 1} → statement M
-number-at-spec = tie.close (tie.spec digits-end-requires returns)
+number-at-spec = tie.close (tie.spec (λ c κs. search needs) returns)

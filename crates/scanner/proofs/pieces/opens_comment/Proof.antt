@@ -4,17 +4,8 @@ use borrow.Author.Needs.{needs}
 use Rattle.scanner.proofs.pieces.opens_comment.Statement.{statement}
 use Rattle.scanner.proofs.pieces.opens_comment.Tie as tie
 
-shared-slice-read-if1 : tie.Need-shared-slice-read-if1
-shared-slice-read-if1 c = search needs
-
 returns : tie.Need-returns
 returns c = dashes-not (c .before .before .before .args .text .now) (c .before .before .before .args .at) _ (c .if1 .taken)
-
-add-byte-at : tie.Need-add-byte-at
-add-byte-at c = search needs
-
-byte-at-requires : tie.Need-byte-at-requires
-byte-at-requires c κs = search needs
 
 returns-2 : tie.Need-returns-2
 returns-2 c = dashes-second (c .before .before .before .before .args .text .now) (c .before .before .before .before .args .at) _ _
@@ -22,4 +13,4 @@ returns-2 c = dashes-second (c .before .before .before .before .args .text .now)
 
 pub opens-comment-spec : {M : Type 1} → statement M
 opens-comment-spec =
-    tie.close (tie.spec shared-slice-read-if1 returns add-byte-at byte-at-requires returns-2)
+    tie.close (tie.spec (λ c. search needs) returns (λ c. search needs) (λ c κs. search needs) returns-2)

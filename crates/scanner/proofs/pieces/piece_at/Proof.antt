@@ -9,32 +9,14 @@ use Rattle.scanner.proofs.pieces.piece_at.Tie as tie
 returns : tie.Need-returns
 returns c = piece-end _ _ (c .if1 .taken)
 
-shared-slice-read-kind-of : tie.Need-shared-slice-read-kind-of
-shared-slice-read-kind-of c = search needs
-
-kind-of-requires : tie.Need-kind-of-requires
-kind-of-requires c κs = search needs
-
-word-at-requires : tie.Need-word-at-requires
-word-at-requires c κs = search needs
-
 returns-2 : tie.Need-returns-2
 returns-2 c = (c .word-at .ensures) ∙ piece-word _ _ _ (c .before .before .before .before .if1 .left) (c .before .before .kind-of .ensures) (c .before .if2 .taken)
-
-add-t9 : tie.Need-add-t9
-add-t9 c = search needs
 
 returns-3 : tie.Need-returns-3
 returns-3 c = piece-blank _ _ _ (c .before .before .before .before .if1 .left) (c .before .before .kind-of .ensures) (c .if3 .taken)
 
-number-at-requires : tie.Need-number-at-requires
-number-at-requires c κs = search needs
-
 returns-4 : tie.Need-returns-4
 returns-4 c = (c .number-at .ensures) ∙ piece-number _ _ _ (c .before .before .before .before .before .before .if1 .left) (c .before .before .before .before .kind-of .ensures) (c .before .if4 .taken)
-
-mark-at-requires : tie.Need-mark-at-requires
-mark-at-requires c κs = search needs
 
 returns-5 : tie.Need-returns-5
 returns-5 c = (c .mark-at .ensures) ∙ piece-fixed _ _ _ (c .before .before .before .before .before .before .before .before .if1 .left) (c .before .before .before .before .before .before .kind-of .ensures) (c .before .before .if5 .left) (c .before .if6 .taken)
@@ -54,15 +36,15 @@ piece-at-spec =
     tie.close
     (tie.spec
     returns
-    shared-slice-read-kind-of
-    kind-of-requires
-    word-at-requires
+    (λ c. search needs)
+    (λ c κs. search needs)
+    (λ c κs. search needs)
     returns-2
-    add-t9
+    (λ c. search needs)
     returns-3
-    number-at-requires
+    (λ c κs. search needs)
     returns-4
-    mark-at-requires
+    (λ c κs. search needs)
     returns-5
     returns-6
     returns-7)

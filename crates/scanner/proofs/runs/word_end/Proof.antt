@@ -20,21 +20,9 @@ abbrev μ-loop : tie.MeasureT-loop
 loop-holds : tie.Need-loop-holds Inv-loop μ-loop
 loop-holds c = refl
 
-shared-slice-read-in-word : tie.Need-shared-slice-read-in-word Inv-loop μ-loop
-shared-slice-read-in-word c = search needs
-
-in-word-requires : tie.Need-in-word-requires Inv-loop μ-loop
-in-word-requires c κs = search needs
-
 returns : tie.Need-returns Inv-loop μ-loop
 returns c = sym (run-stop inWord _ _ (c .before .before .before .loop-test .taken) (flag (c .before .in-word .ensures) (not-true _ (c .if1 .taken))))
     ∙ c .before .before .before .before .loop .inv
-
-add-i : tie.Need-add-i Inv-loop μ-loop
-add-i c = search needs
-
-loop-less : tie.Need-loop-less Inv-loop μ-loop
-loop-less c = search needs
 
 loop-again : tie.Need-loop-again Inv-loop μ-loop
 loop-again c = run-pass inWord _ _ (c .before .before .before .loop-test .taken) (flag (c .before .in-word .ensures) (not-false _ (c .if1 .left)))
@@ -50,10 +38,10 @@ word-end-spec =
     Inv-loop
     μ-loop
     loop-holds
-    shared-slice-read-in-word
-    in-word-requires
+    (λ c. search needs)
+    (λ c κs. search needs)
     returns
-    add-i
-    loop-less
+    (λ c. search needs)
+    (λ c. search needs)
     loop-again
     returns-2)

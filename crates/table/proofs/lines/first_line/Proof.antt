@@ -10,22 +10,10 @@ returns c =
     let a = c .before .before .args in
     ((λ t s code e h. from-beginning s (a .lines .now) code t e (a .place) (c .if1 .taken)), search needs)
 
-mul-word2 : tie.Need-mul-word2
-mul-word2 c = search needs
-
-add-word2 : tie.Need-add-word2
-add-word2 c = search needs
-
-word2-requires : tie.Need-word2-requires
-word2-requires c κs = search needs
-
-cast-result : tie.Need-cast-result
-cast-result c = search needs
-
 returns-2 : tie.Need-returns-2
 returns-2 c =
     let a = c .before .before .before .args in
     ((λ t s code e h. c .word2 .ensures .0 ∙ from-wait s (a .lines .now) code t e (a .place) (c .before .if1 .left) h), search needs)
 
 pub first-line-spec : {M : Type 1} → statement M
-first-line-spec = tie.close (tie.spec returns mul-word2 add-word2 word2-requires cast-result returns-2)
+first-line-spec = tie.close (tie.spec returns (λ c. search needs) (λ c. search needs) (λ c κs. search needs) (λ c. search needs) returns-2)

@@ -25,18 +25,6 @@ abbrev μ-loop : tie.MeasureT-loop
 loop-holds : tie.Need-loop-holds Inv-loop μ-loop
 loop-holds c = refl
 
-add-value-ok : tie.Need-add-value-ok Inv-loop μ-loop
-add-value-ok c = search needs
-
-mul-value-ok : tie.Need-mul-value-ok Inv-loop μ-loop
-mul-value-ok c = search needs
-
-shared-slice-copy-out-value-ok : tie.Need-shared-slice-copy-out-value-ok Inv-loop μ-loop
-shared-slice-copy-out-value-ok c = search needs
-
-value-ok-requires : tie.Need-value-ok-requires Inv-loop μ-loop
-value-ok-requires c κs = search needs
-
 returns : tie.Need-returns Inv-loop μ-loop
 returns c =
     let a = c .before .before .before .before .before .before .args in
@@ -44,9 +32,6 @@ returns c =
     let h : SFits w32 (getD (a .inputs .now) (l .k) (pos 0)) = search needs in
     ap checkOf (wrong-here (a .signature .now) (a .inputs .now) (l .k) (c .before .before .before .loop-test .taken)
     (sym (rw (toZ-ofZ h) at (c .before .value-ok .ensures)) ∙ not-true _ (c .if1 .taken)) ∙ l .inv)
-
-add-k : tie.Need-add-k Inv-loop μ-loop
-add-k c = search needs
 
 loop-less : tie.Need-loop-less Inv-loop μ-loop
 loop-less c = omega arith
@@ -71,12 +56,12 @@ first-wrong-spec =
     Inv-loop
     μ-loop
     loop-holds
-    add-value-ok
-    mul-value-ok
-    shared-slice-copy-out-value-ok
-    value-ok-requires
+    (λ c. search needs)
+    (λ c. search needs)
+    (λ c. search needs)
+    (λ c κs. search needs)
     returns
-    add-k
+    (λ c. search needs)
     loop-less
     loop-again
     returns-2)

@@ -5,25 +5,16 @@ use Rattle.table.proofs.Judged.{inputs-wrong, room-wrong, values-judged
 use Rattle.table.proofs.rows.row_place.Statement.{statement}
 use Rattle.table.proofs.rows.row_place.Tie as tie
 
-count-requires : tie.Need-count-requires
-count-requires c κs = search needs
-
 returns : tie.Need-returns
 returns c =
     let a = c .before .before .before .args in
     inputs-wrong (a .signature .now) (a .inputs .now) (a .room) (λ e. c .if1 .taken (e ∙ sym (c .before .count .ensures .0)))
-
-count-requires-2 : tie.Need-count-requires-2
-count-requires-2 c κs = search needs
 
 returns-2 : tie.Need-returns-2
 returns-2 c =
     let a = c .before .before .before .before .before .args in
     room-wrong (a .signature .now) (a .inputs .now) (a .room)
     (c .before .before .if1 .left ∙ c .before .before .before .count .ensures .0) (λ e. c .if2 .taken (e ∙ sym (c .before .count2 .ensures .0)))
-
-first-wrong-requires : tie.Need-first-wrong-requires
-first-wrong-requires c κs = search needs
 
 returns-3 : tie.Need-returns-3
 returns-3 c =
@@ -32,4 +23,4 @@ returns-3 c =
     (c .before .before .before .if1 .left ∙ c .before .before .before .before .count .ensures .0) (c .before .if2 .left ∙ c .before .before .count2 .ensures .0) σ e
 
 pub row-place-spec : {M : Type 1} → statement M
-row-place-spec = tie.close (tie.spec count-requires returns count-requires-2 returns-2 first-wrong-requires returns-3)
+row-place-spec = tie.close (tie.spec (λ c κs. search needs) returns (λ c κs. search needs) returns-2 (λ c κs. search needs) returns-3)

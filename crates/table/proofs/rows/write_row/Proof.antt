@@ -32,21 +32,6 @@ returns c =
     let l = c .before .before .loop in
     written-whole (c .before .before .before .args .row .now) (c .before .before .before .args .outputs .now) (l .k) _ (l .inv .1) (l .inv .2) (inr (c .if1 .taken)) (l .inv .3)
 
-mul-row : tie.Need-mul-row Inv-loop μ-loop
-mul-row c = search needs
-
-shared-slice-copy-out-row : tie.Need-shared-slice-copy-out-row Inv-loop μ-loop
-shared-slice-copy-out-row c = search needs
-
-mul-t8 : tie.Need-mul-t8 Inv-loop μ-loop
-mul-t8 c = search needs
-
-slice-set-from-row : tie.Need-slice-set-from-row Inv-loop μ-loop
-slice-set-from-row c = search needs
-
-add-k : tie.Need-add-k Inv-loop μ-loop
-add-k c = search needs
-
 loop-less : tie.Need-loop-less Inv-loop μ-loop
 loop-less c = omega arith
 
@@ -76,11 +61,11 @@ write-row-spec =
     loop-holds
     same-length
     returns
-    mul-row
-    shared-slice-copy-out-row
-    mul-t8
-    slice-set-from-row
-    add-k
+    (λ c. search needs)
+    (λ c. search needs)
+    (λ c. search needs)
+    (λ c. search needs)
+    (λ c. search needs)
     loop-less
     loop-again
     same-length-2

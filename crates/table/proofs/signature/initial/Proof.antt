@@ -8,12 +8,6 @@ use Rattle.semantics.specs.Twos.{signed32}
 use Rattle.table.proofs.signature.initial.Statement.{statement}
 use Rattle.table.proofs.signature.initial.Tie as tie
 
-word4-requires : tie.Need-word4-requires
-word4-requires c κs = search needs
-
-from-bits-requires : tie.Need-from-bits-requires
-from-bits-requires c κs = search needs
-
 returns : tie.Need-returns
 returns c =
     let h : SFits w32 (c .from-bits .result) = search needs in
@@ -23,4 +17,4 @@ returns-2 : tie.Need-returns-2
 returns-2 c = rw (c .if1 .left)
 
 pub initial-spec : {M : Type 1} → statement M
-initial-spec = tie.close (tie.spec word4-requires from-bits-requires returns returns-2)
+initial-spec = tie.close (tie.spec (λ c κs. search needs) (λ c κs. search needs) returns returns-2)

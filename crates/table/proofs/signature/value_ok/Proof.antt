@@ -6,16 +6,10 @@ use Rattle.signed.specs.Signed.{inTypeByte}
 use Rattle.table.proofs.signature.value_ok.Statement.{statement}
 use Rattle.table.proofs.signature.value_ok.Tie as tie
 
-byte-requires : tie.Need-byte-requires
-byte-requires c κs = search needs
-
-in-type-requires : tie.Need-in-type-requires
-in-type-requires c κs = search needs
-
 returns : tie.Need-returns
 returns c =
     let s = c .before .before .before in
     (rw (toZ-ofZ (s .fits .v)) at (c .in-type .ensures)) ∙ ap (λ b. inTypeByte b (s .args .v)) (c .before .byte .ensures)
 
 pub value-ok-spec : {M : Type 1} → statement M
-value-ok-spec = tie.close (tie.spec byte-requires in-type-requires returns)
+value-ok-spec = tie.close (tie.spec (λ c κs. search needs) (λ c κs. search needs) returns)

@@ -35,9 +35,6 @@ add-initial c = omega arith
 add-initial-2 : tie.Need-add-initial-2 Inv-loop μ-loop
 add-initial-2 c = omega arith
 
-initial-requires : tie.Need-initial-requires Inv-loop μ-loop
-initial-requires c κs = search needs
-
 mul-t11 : tie.Need-mul-t11 Inv-loop μ-loop
 mul-t11 c = omega arith
 
@@ -86,7 +83,7 @@ fill-spec =
     mul-initial
     add-initial
     add-initial-2
-    initial-requires
+    (λ c κs. search needs)
     mul-t11
     slice-set-from-slots
     add-k

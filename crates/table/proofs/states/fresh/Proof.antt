@@ -4,30 +4,6 @@ use Rattle.table.proofs.Judged.{fresh-judged}
 use Rattle.table.proofs.states.fresh.Statement.{statement}
 use Rattle.table.proofs.states.fresh.Tie as tie
 
-outputs-at-requires : tie.Need-outputs-at-requires
-outputs-at-requires c κs = search needs
-
-count-requires : tie.Need-count-requires
-count-requires c κs = search needs
-
-slice-aggregate-fill : tie.Need-slice-aggregate-fill
-slice-aggregate-fill c = search needs
-
-fill-requires : tie.Need-fill-requires
-fill-requires c κs = search needs
-
-variables-at-requires : tie.Need-variables-at-requires
-variables-at-requires c κs = search needs
-
-count-requires-2 : tie.Need-count-requires-2
-count-requires-2 c κs = search needs
-
-slice-aggregate-fill-2 : tie.Need-slice-aggregate-fill-2
-slice-aggregate-fill-2 c = search needs
-
-fill-requires-2 : tie.Need-fill-requires-2
-fill-requires-2 c κs = search needs
-
 returns : tie.Need-returns
 returns c =
     let b = c .before .before .before .before .before in
@@ -43,12 +19,12 @@ pub fresh-spec : {M : Type 1} → statement M
 fresh-spec =
     tie.close
     (tie.spec
-    outputs-at-requires
-    count-requires
-    slice-aggregate-fill
-    fill-requires
-    variables-at-requires
-    count-requires-2
-    slice-aggregate-fill-2
-    fill-requires-2
+    (λ c κs. search needs)
+    (λ c κs. search needs)
+    (λ c. search needs)
+    (λ c κs. search needs)
+    (λ c κs. search needs)
+    (λ c κs. search needs)
+    (λ c. search needs)
+    (λ c κs. search needs)
     returns)

@@ -9,12 +9,6 @@ use Rattle.table.proofs.states.place_ok.Tie as tie
 returns : tie.Need-returns
 returns c = let a = c .before .before .args in place-beginning (a .lines .now) (a .place) (c .if1 .taken)
 
-mul-byte : tie.Need-mul-byte
-mul-byte c = search needs
-
-byte-requires : tie.Need-byte-requires
-byte-requires c κs = search needs
-
 returns-2 : tie.Need-returns-2
 returns-2 c =
     let a = c .before .before .before .before .args in
@@ -24,4 +18,4 @@ returns-3 : tie.Need-returns-3
 returns-3 c = let a = c .before .before .before .args in place-none (a .lines .now) (a .place) (c .before .if1 .left) (c .if2 .left)
 
 pub place-ok-spec : {M : Type 1} → statement M
-place-ok-spec = tie.close (tie.spec returns mul-byte byte-requires returns-2 returns-3)
+place-ok-spec = tie.close (tie.spec returns (λ c. search needs) (λ c κs. search needs) returns-2 returns-3)

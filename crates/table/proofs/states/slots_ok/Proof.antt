@@ -34,15 +34,6 @@ mul-value-ok c = omega arith
 add-value-ok : tie.Need-add-value-ok Inv-loop μ-loop
 add-value-ok c = omega arith
 
-mul-value-ok-2 : tie.Need-mul-value-ok-2 Inv-loop μ-loop
-mul-value-ok-2 c = search needs
-
-shared-slice-copy-out-value-ok : tie.Need-shared-slice-copy-out-value-ok Inv-loop μ-loop
-shared-slice-copy-out-value-ok c = search needs
-
-value-ok-requires : tie.Need-value-ok-requires Inv-loop μ-loop
-value-ok-requires c κs = search needs
-
 returns-2 : tie.Need-returns-2 Inv-loop μ-loop
 returns-2 c =
     let l = c .before .before .before .before .loop in
@@ -76,4 +67,4 @@ returns-3 c =
     c .unused-ok .ensures ∙ slots-end (c .before .before .before .before .before .args .signature .now) (c .before .before .before .before .before .args .at) (c .before .before .before .before .before .args .n) (c .before .before .before .before .before .args .slots .now) (c .before .before .loop .k) (c .before .before .loop .inv .0) (c .before .loop-test .left) ∙ c .before .before .loop .inv .2
 
 pub slots-ok-spec : {M : Type 1} → statement M
-slots-ok-spec = tie.close (tie.spec Inv-loop μ-loop returns loop-holds mul-value-ok add-value-ok mul-value-ok-2 shared-slice-copy-out-value-ok value-ok-requires returns-2 add-k loop-less loop-again unused-ok-requires returns-3)
+slots-ok-spec = tie.close (tie.spec Inv-loop μ-loop returns loop-holds mul-value-ok add-value-ok (λ c. search needs) (λ c. search needs) (λ c κs. search needs) returns-2 add-k loop-less loop-again unused-ok-requires returns-3)

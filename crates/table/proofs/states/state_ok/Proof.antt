@@ -14,26 +14,11 @@ outputs-long c = search needs
 variables-long : (c : tie.Start) → length (c .args .s .variables) ≡ 32
 variables-long c = search needs
 
-place-ok-requires : tie.Need-place-ok-requires
-place-ok-requires c κs = search needs
-
 returns : tie.Need-returns
 returns c =
     let w = c .before .before .before .before in
     place-wrong (w .args .signature .now) (w .args .lines .now) (w .args .s) (outputs-long w) (variables-long w)
     (sym (c .before .place-ok .ensures) ∙ not-true _ (c .if1 .taken))
-
-outputs-at-requires : tie.Need-outputs-at-requires
-outputs-at-requires c κs = search needs
-
-count-requires : tie.Need-count-requires
-count-requires c κs = search needs
-
-slice-aggregate-slots-ok : tie.Need-slice-aggregate-slots-ok
-slice-aggregate-slots-ok c = search needs
-
-slots-ok-requires : tie.Need-slots-ok-requires
-slots-ok-requires c κs = search needs
 
 returns-2 : tie.Need-returns-2
 returns-2 c =
@@ -44,18 +29,6 @@ returns-2 c =
     (c .before .before .before .before .outputs-at .result) (c .before .before .before .count .result)
     (c .before .before .before .before .outputs-at .ensures .0) (c .before .before .before .count .ensures .0)
     (sym (c .before .slots-ok .ensures) ∙ not-true _ (c .if2 .taken))
-
-variables-at-requires : tie.Need-variables-at-requires
-variables-at-requires c κs = search needs
-
-count-requires-2 : tie.Need-count-requires-2
-count-requires-2 c κs = search needs
-
-slice-aggregate-slots-ok-2 : tie.Need-slice-aggregate-slots-ok-2
-slice-aggregate-slots-ok-2 c = search needs
-
-slots-ok-requires-2 : tie.Need-slots-ok-requires-2
-slots-ok-requires-2 c κs = search needs
 
 returns-3 : tie.Need-returns-3
 returns-3 c =
@@ -75,15 +48,15 @@ pub state-ok-spec : {M : Type 1} → statement M
 state-ok-spec =
     tie.close
     (tie.spec
-    place-ok-requires
+    (λ c κs. search needs)
     returns
-    outputs-at-requires
-    count-requires
-    slice-aggregate-slots-ok
-    slots-ok-requires
+    (λ c κs. search needs)
+    (λ c κs. search needs)
+    (λ c. search needs)
+    (λ c κs. search needs)
     returns-2
-    variables-at-requires
-    count-requires-2
-    slice-aggregate-slots-ok-2
-    slots-ok-requires-2
+    (λ c κs. search needs)
+    (λ c κs. search needs)
+    (λ c. search needs)
+    (λ c κs. search needs)
     returns-3)

@@ -24,23 +24,11 @@ abbrev μ-loop : tie.MeasureT-loop
 loop-holds : tie.Need-loop-holds Inv-loop μ-loop
 loop-holds c = refl
 
-mul-equal : tie.Need-mul-equal Inv-loop μ-loop
-mul-equal c = search needs
-
-shared-slice-copy-out-equal : tie.Need-shared-slice-copy-out-equal Inv-loop μ-loop
-shared-slice-copy-out-equal c = search needs
-
-equal-requires : tie.Need-equal-requires Inv-loop μ-loop
-equal-requires c κs = search needs
-
 returns : tie.Need-returns Inv-loop μ-loop
 returns c =
     let l = c .before .before .before .before .loop in
     let h : SFits w32 (getD (c .before .before .before .before .before .args .slots .now) (l .k) (pos 0)) = search needs in
     zeros-wrong (c .before .before .before .before .before .args .slots .now) (l .k) (c .before .before .before .loop-test .taken) (sym (rw (toZ-ofZ h) at (c .before .equal .ensures)) ∙ not-true _ (c .if1 .taken)) ∙ l .inv
-
-add-k : tie.Need-add-k Inv-loop μ-loop
-add-k c = search needs
 
 loop-less : tie.Need-loop-less Inv-loop μ-loop
 loop-less c = omega arith
@@ -55,4 +43,4 @@ returns-2 : tie.Need-returns-2 Inv-loop μ-loop
 returns-2 c = zeros-end (c .before .before .args .slots .now) (c .before .loop .k) (c .loop-test .left) ∙ c .before .loop .inv
 
 pub unused-ok-spec : {M : Type 1} → statement M
-unused-ok-spec = tie.close (tie.spec Inv-loop μ-loop loop-holds mul-equal shared-slice-copy-out-equal equal-requires returns add-k loop-less loop-again returns-2)
+unused-ok-spec = tie.close (tie.spec Inv-loop μ-loop loop-holds (λ c. search needs) (λ c. search needs) (λ c κs. search needs) returns (λ c. search needs) loop-less loop-again returns-2)

@@ -26,9 +26,6 @@ mul-byte c = omega arith
 add-byte : tie.Need-add-byte Inv-loop μ-loop
 add-byte c = omega arith
 
-byte-requires : tie.Need-byte-requires Inv-loop μ-loop
-byte-requires c κs = search needs
-
 slice-write-kinds : tie.Need-slice-write-kinds Inv-loop μ-loop
 slice-write-kinds c = omega arith
 
@@ -64,7 +61,7 @@ copy-types-spec =
     loop-holds
     mul-byte
     add-byte
-    byte-requires
+    (λ c κs. search needs)
     slice-write-kinds
     add-k
     loop-less

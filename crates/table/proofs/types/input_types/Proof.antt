@@ -5,9 +5,6 @@ use Rattle.table.proofs.Judged.{inputs-part, inputs-inside}
 use Rattle.table.proofs.types.input_types.Statement.{statement}
 use Rattle.table.proofs.types.input_types.Tie as tie
 
-outputs-at-requires : tie.Need-outputs-at-requires
-outputs-at-requires c κs = search needs
-
 returns : tie.Need-returns
 returns c =
     λ σ e. inputs-inside (c .before .before .before .args .signature .now) σ e (c .before .outputs-at .result) (c .before .outputs-at .ensures .0) (c .if1 .taken)
@@ -18,13 +15,10 @@ sub-result c = omega arith
 part-result-start : tie.Need-part-result-start
 part-result-start c = omega arith
 
-part-result-end : tie.Need-part-result-end
-part-result-end c = search needs
-
 returns-2 : tie.Need-returns-2
 returns-2 c =
     λ σ e. inputs-part (c .before .before .before .before .args .signature .now) σ e (c .before .before .outputs-at .result)
     (c .before .before .outputs-at .ensures .0)
 
 pub input-types-spec : {M : Type 1} → statement M
-input-types-spec = tie.close (tie.spec outputs-at-requires returns sub-result part-result-start part-result-end returns-2)
+input-types-spec = tie.close (tie.spec (λ c κs. search needs) returns sub-result part-result-start (λ c. search needs) returns-2)

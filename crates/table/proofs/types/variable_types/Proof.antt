@@ -5,22 +5,10 @@ use Rattle.table.proofs.Judged.{variables-copied, variables-inside}
 use Rattle.table.proofs.types.variable_types.Statement.{statement}
 use Rattle.table.proofs.types.variable_types.Tie as tie
 
-count-requires : tie.Need-count-requires
-count-requires c κs = search needs
-
 returns : tie.Need-returns
 returns c =
     let a = c .before .before .before .before .args in
     λ σ e h. variables-inside (a .signature .now) σ e (c .before .count .result) (length (a .kinds .now)) (c .before .count .ensures .0) h (c .if1 .taken)
-
-variables-at-requires : tie.Need-variables-at-requires
-variables-at-requires c κs = search needs
-
-copy-types-requires : tie.Need-copy-types-requires
-copy-types-requires c κs = search needs
-
-same-length : tie.Need-same-length
-same-length c = search needs
 
 returns-2 : tie.Need-returns-2
 returns-2 c =
@@ -31,4 +19,4 @@ returns-2 c =
 
 pub variable-types-spec : {M : Type 1} → statement M
 variable-types-spec =
-    tie.close (tie.spec count-requires returns variables-at-requires copy-types-requires same-length returns-2)
+    tie.close (tie.spec (λ c κs. search needs) returns (λ c κs. search needs) (λ c κs. search needs) (λ c. search needs) returns-2)

@@ -18,21 +18,6 @@ abbrev μ-loop : tie.MeasureT-loop
 loop-holds : tie.Need-loop-holds Inv-loop μ-loop
 loop-holds c = printed-first _ _ _
 
-put-requires : tie.Need-put-requires Inv-loop μ-loop
-put-requires c κs = search needs
-
-value-requires : tie.Need-value-requires Inv-loop μ-loop
-value-requires c κs = search needs
-
-put-integer-requires : tie.Need-put-integer-requires Inv-loop μ-loop
-put-integer-requires c κs = search needs
-
-add-i : tie.Need-add-i Inv-loop μ-loop
-add-i c = search needs
-
-loop-less : tie.Need-loop-less Inv-loop μ-loop
-loop-less c = search needs
-
 loop-again : tie.Need-loop-again Inv-loop μ-loop
 loop-again c = let fit : SFits w32 (c .before .before .before .value .result) = search needs in printed-again _ _ _ _ _ _ (c .before .before .before .before .before .before .before .before .before .before .loop .inv) (c .before .before .before .value .result) _ _ _ _ (c .before .before .before .before .before .before .before .before .before .loop-test .taken) (c .before .before .before .value .ensures) (c .before .before .before .before .before .before .before .put .ensures) (rw (toZ-ofZ fit) at (c .before .before .put-integer .ensures)) (search needs)
 
@@ -49,11 +34,11 @@ put-integers-spec =
     Inv-loop
     μ-loop
     loop-holds
-    put-requires
-    value-requires
-    put-integer-requires
-    add-i
-    loop-less
+    (λ c κs. search needs)
+    (λ c κs. search needs)
+    (λ c κs. search needs)
+    (λ c. search needs)
+    (λ c. search needs)
     loop-again
     same-length
     returns)

@@ -5,14 +5,8 @@ use borrow.Author.Needs.{needs}
 use Rattle.tracing.proofs.printing.put_number.Statement.{statement}
 use Rattle.tracing.proofs.printing.put_number.Tie as tie
 
-put-digits-requires : tie.Need-put-digits-requires
-put-digits-requires c κs = search needs
-
-same-length : tie.Need-same-length
-same-length c = search needs
-
 returns : tie.Need-returns
 returns c = c .before .before .put-digits .ensures 19 (digits-enough _ (omega arith))
 
 pub put-number-spec : {M : Type 1} → statement M
-put-number-spec = tie.close (tie.spec put-digits-requires same-length returns)
+put-number-spec = tie.close (tie.spec (λ c κs. search needs) (λ c. search needs) returns)

@@ -10,20 +10,8 @@ use Rattle.tracing.proofs.rows.downward.Tie as tie
 returns : tie.Need-returns
 returns c = down-none _ (c .if1 .taken)
 
-from-bits-requires : tie.Need-from-bits-requires
-from-bits-requires c κs = search needs
-
 returns-2 : tie.Need-returns-2
 returns-2 c = let fit : SFits w32 (c .from-bits .result) = search needs in rw (toZ-ofZ fit) (down-zero _ _ (c .before .if2 .taken) (c .from-bits .ensures))
-
-sub-from-bits : tie.Need-sub-from-bits
-sub-from-bits c = search needs
-
-cast-from-bits : tie.Need-cast-from-bits
-cast-from-bits c = search needs
-
-from-bits-requires-2 : tie.Need-from-bits-requires-2
-from-bits-requires-2 c κs = search needs
 
 returns-3 : tie.Need-returns-3
 returns-3 c = let fit : SFits w32 (c .from-bits2 .result) = search needs in rw (toZ-ofZ fit) (down-value _ _ (c .before .before .if1 .left) (c .before .if2 .left) (c .from-bits2 .ensures))
@@ -33,9 +21,9 @@ downward-spec =
     tie.close
     (tie.spec
     returns
-    from-bits-requires
+    (λ c κs. search needs)
     returns-2
-    sub-from-bits
-    cast-from-bits
-    from-bits-requires-2
+    (λ c. search needs)
+    (λ c. search needs)
+    (λ c κs. search needs)
     returns-3)

@@ -7,23 +7,8 @@ use Rattle.tracing.proofs.rows.read_decimal.Tie as tie
 returns : tie.Need-returns
 returns c = decimal-empty _ (c .if1 .taken)
 
-shared-slice-read-if2 : tie.Need-shared-slice-read-if2
-shared-slice-read-if2 c = search needs
-
-number-requires : tie.Need-number-requires
-number-requires c κs = search needs
-
-downward-requires : tie.Need-downward-requires
-downward-requires c κs = search needs
-
 returns-2 : tie.Need-returns-2
 returns-2 c = read-down _ _ _ (c .before .before .before .before .if1 .left) (c .before .before .if2 .taken) (c .before .number .ensures) (c .downward .ensures)
-
-number-requires-2 : tie.Need-number-requires-2
-number-requires-2 c κs = search needs
-
-upward-requires : tie.Need-upward-requires
-upward-requires c κs = search needs
 
 returns-3 : tie.Need-returns-3
 returns-3 c = read-up _ _ _ (c .before .before .before .before .if1 .left) (c .before .before .if2 .left) (c .before .number2 .ensures) (c .upward .ensures)
@@ -33,10 +18,10 @@ read-decimal-spec =
     tie.close
     (tie.spec
     returns
-    shared-slice-read-if2
-    number-requires
-    downward-requires
+    (λ c. search needs)
+    (λ c κs. search needs)
+    (λ c κs. search needs)
     returns-2
-    number-requires-2
-    upward-requires
+    (λ c κs. search needs)
+    (λ c κs. search needs)
     returns-3)

@@ -31,41 +31,14 @@ same-length c = ap length (c .before .before .loop .inv .stored) ∙ length-sets
 returns-2 : tie.Need-returns-2 Inv-loop μ-loop
 returns-2 c = row-long _ _ _ _ _ (c .before .before .loop .inv) (c .before .loop-test .taken) (c .if2 .taken)
 
-part-end-requires : tie.Need-part-end-requires Inv-loop μ-loop
-part-end-requires c κs = search needs
-
-sub-part-of : tie.Need-sub-part-of Inv-loop μ-loop
-sub-part-of c = search needs
-
-part-of-requires : tie.Need-part-of-requires Inv-loop μ-loop
-part-of-requires c κs = search needs
-
-read-decimal-requires : tie.Need-read-decimal-requires Inv-loop μ-loop
-read-decimal-requires c κs = search needs
-
-enum-known-v : tie.Need-enum-known-v Inv-loop μ-loop
-enum-known-v c = search needs
-
-store-requires : tie.Need-store-requires Inv-loop μ-loop
-store-requires c κs = search needs
-
-enum-told : tie.Need-enum-told Inv-loop μ-loop
-enum-told c = search needs
-
 same-length-2 : tie.Need-same-length-2 Inv-loop μ-loop
 same-length-2 c = ap length (c .before .before .before .before .before .before .before .loop .inv .stored) ∙ length-sets _ 0 (c .before .before .before .before .before .before .before .loop .inv .read)
 
 returns-3 : tie.Need-returns-3 Inv-loop μ-loop
 returns-3 c = row-unreadable _ _ _ _ _ (c .before .before .before .before .before .before .before .loop .inv) _ _ _ (c .before .before .before .before .before .before .loop-test .taken) (c .before .before .before .before .part-end .ensures) (c .before .before .before .part-of .ensures) (c .before .before .read-decimal .ensures) (c .enum-told .given .1)
 
-add-n : tie.Need-add-n Inv-loop μ-loop
-add-n c = search needs
-
 add-i : tie.Need-add-i Inv-loop μ-loop
 add-i c = let z = end-inside _ _ _ _ _ (c .before .before .before .before .before .before .before .before .before .before .before .loop .inv) _ (c .before .before .before .before .before .before .before .before .before .before .loop-test .taken) (c .before .before .before .before .before .before .before .before .part-end .ensures) in omega arith
-
-loop-less : tie.Need-loop-less Inv-loop μ-loop
-loop-less c = search needs
 
 loop-again : tie.Need-loop-again Inv-loop μ-loop
 loop-again c = let fit : SFits w32 (c .before .before .before .before .v .given .0 .0) = search needs in row-again _ _ _ _ _ (c .before .before .before .before .before .before .before .before .before .before .before .loop .inv) _ _ _ _ _ _ (c .before .before .before .before .before .before .before .before .before .before .loop-test .taken) (c .before .before .before .before .before .before .before .before .before .if2 .left) (c .before .before .before .before .before .before .before .before .part-end .ensures) (c .before .before .before .before .before .before .before .part-of .ensures) (c .before .before .before .before .before .before .read-decimal .ensures) (c .before .before .before .before .v .given .1) (c .before .store .ensures) (toZ-ofZ fit)
@@ -86,18 +59,18 @@ read-row-spec =
     loop-holds
     same-length
     returns-2
-    part-end-requires
-    sub-part-of
-    part-of-requires
-    read-decimal-requires
-    enum-known-v
-    store-requires
-    enum-told
+    (λ c κs. search needs)
+    (λ c. search needs)
+    (λ c κs. search needs)
+    (λ c κs. search needs)
+    (λ c. search needs)
+    (λ c κs. search needs)
+    (λ c. search needs)
     same-length-2
     returns-3
-    add-n
+    (λ c. search needs)
     add-i
-    loop-less
+    (λ c. search needs)
     loop-again
     same-length-3
     returns-4)

@@ -10,14 +10,8 @@ use Rattle.tracing.proofs.rows.upward.Tie as tie
 returns : tie.Need-returns
 returns c = up-none _ (c .if1 .taken)
 
-cast-from-bits : tie.Need-cast-from-bits
-cast-from-bits c = search needs
-
-from-bits-requires : tie.Need-from-bits-requires
-from-bits-requires c κs = search needs
-
 returns-2 : tie.Need-returns-2
 returns-2 c = let fit : SFits w32 (c .from-bits .result) = search needs in rw (toZ-ofZ fit) (up-value _ _ (c .before .if1 .left) (c .from-bits .ensures))
 
 pub upward-spec : {M : Type 1} → statement M
-upward-spec = tie.close (tie.spec returns cast-from-bits from-bits-requires returns-2)
+upward-spec = tie.close (tie.spec returns (λ c. search needs) (λ c κs. search needs) returns-2)

@@ -10,33 +10,6 @@ returns c =
     binary-none (c .before .args .stack .now) (c .before .args .depth) (c .before .args .c) (c .before .args .place) (c .before .args .lowest) (c .before .pre)
     (c .if1 .taken)
 
-sub-j : tie.Need-sub-j
-sub-j c = search needs
-
-sub-i : tie.Need-sub-i
-sub-i c = search needs
-
-element-copy-out-t : tie.Need-element-copy-out-t
-element-copy-out-t c = search needs
-
-element-copy-out-u : tie.Need-element-copy-out-u
-element-copy-out-u c = search needs
-
-binary-requires : tie.Need-binary-requires
-binary-requires c κs = search needs
-
-right-two-requires : tie.Need-right-two-requires
-right-two-requires c κs = search needs
-
-offence-requires : tie.Need-offence-requires
-offence-requires c κs = search needs
-
-element-write-stack : tie.Need-element-write-stack
-element-write-stack c = search needs
-
-lower-requires : tie.Need-lower-requires
-lower-requires c κs = search needs
-
 returns-2 : tie.Need-returns-2
 returns-2 c =
     let s = c .before .before .before .before .before .before .before .args in
@@ -52,13 +25,13 @@ binary-spec =
     tie.close
     (tie.spec
     returns
-    sub-j
-    sub-i
-    element-copy-out-t
-    element-copy-out-u
-    binary-requires
-    right-two-requires
-    offence-requires
-    element-write-stack
-    lower-requires
+    (λ c. search needs)
+    (λ c. search needs)
+    (λ c. search needs)
+    (λ c. search needs)
+    (λ c κs. search needs)
+    (λ c κs. search needs)
+    (λ c κs. search needs)
+    (λ c. search needs)
+    (λ c κs. search needs)
     returns-2)

@@ -5,12 +5,6 @@ use borrow.Author.Needs.{needs}
 use Rattle.typing.proofs.expression.declared_type.Statement.{statement}
 use Rattle.typing.proofs.expression.declared_type.Tie as tie
 
-cell-requires : tie.Need-cell-requires
-cell-requires c κs = search needs
-
-declared-requires : tie.Need-declared-requires
-declared-requires c κs = search needs
-
 returns : tie.Need-returns
 returns c = rw (lt-ltb _ _ (c .before .before .before .if1 .taken), lt-ltb _ _ (c .before .before .if2 .taken), sym (c .before .cell .ensures)) (c .declared .ensures)
 
@@ -21,4 +15,4 @@ returns-3 : tie.Need-returns-3
 returns-3 c = rw (le-ltb _ _ (c .if1 .left))
 
 pub declared-type-spec : {M : Type 1} → statement M
-declared-type-spec = tie.close (tie.spec cell-requires declared-requires returns returns-2 returns-3)
+declared-type-spec = tie.close (tie.spec (λ c κs. search needs) (λ c κs. search needs) returns returns-2 returns-3)

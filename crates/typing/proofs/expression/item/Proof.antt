@@ -8,24 +8,6 @@ use Rattle.typing.specs.Expressions.{nameCode}
 use Rattle.typing.proofs.expression.item.Statement.{statement}
 use Rattle.typing.proofs.expression.item.Tie as tie
 
-element-copy-out-c : tie.Need-element-copy-out-c
-element-copy-out-c c = search needs
-
-mul-wide-index : tie.Need-mul-wide-index
-mul-wide-index c = search needs
-
-element-copy-out-wide-index : tie.Need-element-copy-out-wide-index
-element-copy-out-wide-index c = search needs
-
-wide-index-requires : tie.Need-wide-index-requires
-wide-index-requires c κs = search needs
-
-operands-requires : tie.Need-operands-requires
-operands-requires c κs = search needs
-
-operand-type-requires : tie.Need-operand-type-requires
-operand-type-requires c κs = search needs
-
 push-requires : tie.Need-push-requires
 push-requires c κs = c .before .before .before .before .before .before .before .pre .0
 
@@ -40,9 +22,6 @@ returns c =
     let if1 = c .before .before .before .if1 in
     step-operand (getD (s .codes .now) (s .m) 0) t p (operand-type .result) (c .before .before .before .before .operands .result) (stackOf 0 (s .stack .now) (s .depth)) (s .lowest) (c .before .before .before .before .operands .ensures) (if1 .taken) (rw (wide-index .ensures)
     at (operand-type .ensures)) (c .push .ensures)
-
-place-at-requires : tie.Need-place-at-requires
-place-at-requires c κs = search needs
 
 unary-requires : tie.Need-unary-requires
 unary-requires c κs = c .before .before .before .before .before .before .before .before .pre .0
@@ -80,15 +59,15 @@ pub item-spec : {M : Type 1} → statement M
 item-spec =
     tie.close
     (tie.spec
-    element-copy-out-c
-    mul-wide-index
-    element-copy-out-wide-index
-    wide-index-requires
-    operands-requires
-    operand-type-requires
+    (λ c. search needs)
+    (λ c. search needs)
+    (λ c. search needs)
+    (λ c κs. search needs)
+    (λ c κs. search needs)
+    (λ c κs. search needs)
     push-requires
     returns
-    place-at-requires
+    (λ c κs. search needs)
     unary-requires
     returns-2
     binary-requires

@@ -6,15 +6,6 @@ use borrow.Author.Needs.{needs}
 use Rattle.typing.proofs.expression.name_type.Statement.{statement}
 use Rattle.typing.proofs.expression.name_type.Tie as tie
 
-element-copy-out-wide-owner : tie.Need-element-copy-out-wide-owner
-element-copy-out-wide-owner c = search needs
-
-wide-owner-requires : tie.Need-wide-owner-requires
-wide-owner-requires c κs = search needs
-
-declared-type-requires : tie.Need-declared-type-requires
-declared-type-requires c κs = search needs
-
 returns : tie.Need-returns
 unfolding nameCode
 returns c = rw (lt-ltb _ _ (c .before .before .before .if1 .taken), sym (c .before .wide-owner .ensures)) (c .declared-type .ensures)
@@ -27,8 +18,8 @@ pub name-type-spec : {M : Type 1} → statement M
 name-type-spec =
     tie.close
     (tie.spec
-    element-copy-out-wide-owner
-    wide-owner-requires
-    declared-type-requires
+    (λ c. search needs)
+    (λ c κs. search needs)
+    (λ c κs. search needs)
     returns
     returns-2)

@@ -4,9 +4,6 @@ use borrow.Author.Needs.{needs}
 use Rattle.typing.proofs.expression.operand_type.Statement.{statement}
 use Rattle.typing.proofs.expression.operand_type.Tie as tie
 
-name-type-requires : tie.Need-name-type-requires
-name-type-requires c κs = search needs
-
 returns : tie.Need-returns
 returns c = rw (eq-eqb _ _ (c .before .if1 .taken)) (c .name-type .ensures)
 
@@ -17,4 +14,4 @@ returns-3 : tie.Need-returns-3
 returns-3 c = rw (ne-eqb _ _ (c .before .if1 .left), ne-eqb _ _ (c .if2 .left))
 
 pub operand-type-spec : {M : Type 1} → statement M
-operand-type-spec = tie.close (tie.spec name-type-requires returns returns-2 returns-3)
+operand-type-spec = tie.close (tie.spec (λ c κs. search needs) returns returns-2 returns-3)

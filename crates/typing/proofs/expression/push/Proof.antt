@@ -4,12 +4,6 @@ use borrow.Author.Needs.{needs}
 use Rattle.typing.proofs.expression.push.Statement.{statement}
 use Rattle.typing.proofs.expression.push.Tie as tie
 
-element-write-stack : tie.Need-element-write-stack
-element-write-stack c = search needs
-
-add-t8 : tie.Need-add-t8
-add-t8 c = search needs
-
 returns : tie.Need-returns
 returns c = push-room (c .before .args .stack .now) (c .before .args .depth) (c .before .args .t) (c .before .args .lowest) (c .before .pre) (c .if1 .taken)
 
@@ -17,4 +11,4 @@ returns-2 : tie.Need-returns-2
 returns-2 c = push-full (c .before .args .stack .now) (c .before .args .depth) (c .before .args .t) (c .before .args .lowest) (c .before .pre) (c .if1 .left)
 
 pub push-spec : {M : Type 1} → statement M
-push-spec = tie.close (tie.spec element-write-stack add-t8 returns returns-2)
+push-spec = tie.close (tie.spec (λ c. search needs) (λ c. search needs) returns returns-2)

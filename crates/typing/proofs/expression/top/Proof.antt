@@ -7,11 +7,8 @@ use Rattle.typing.proofs.expression.top.Tie as tie
 returns : tie.Need-returns
 returns c = top-none (c .before .args .stack .now) (c .before .args .depth) (c .if1 .taken)
 
-element-copy-out-result : tie.Need-element-copy-out-result
-element-copy-out-result c = search needs
-
 returns-2 : tie.Need-returns-2
 returns-2 c = top-some (c .before .before .args .stack .now) (c .before .before .args .depth) (c .before .if1 .left)
 
 pub top-spec : {M : Type 1} → statement M
-top-spec = tie.close (tie.spec returns element-copy-out-result returns-2)
+top-spec = tie.close (tie.spec returns (λ c. search needs) returns-2)

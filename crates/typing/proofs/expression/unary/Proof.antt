@@ -10,24 +10,6 @@ returns c =
     unary-none (c .before .args .stack .now) (c .before .args .depth) (c .before .args .c) (c .before .args .place) (c .before .args .lowest) (c .before .pre)
     (c .if1 .taken)
 
-element-copy-out-t : tie.Need-element-copy-out-t
-element-copy-out-t c = search needs
-
-unary-type-requires : tie.Need-unary-type-requires
-unary-type-requires c κs = search needs
-
-right-one-requires : tie.Need-right-one-requires
-right-one-requires c κs = search needs
-
-offence-requires : tie.Need-offence-requires
-offence-requires c κs = search needs
-
-element-write-stack : tie.Need-element-write-stack
-element-write-stack c = search needs
-
-lower-requires : tie.Need-lower-requires
-lower-requires c κs = search needs
-
 returns-2 : tie.Need-returns-2
 returns-2 c =
     let s = c .before .before .before .before .before .before .args in
@@ -43,10 +25,10 @@ unary-spec =
     tie.close
     (tie.spec
     returns
-    element-copy-out-t
-    unary-type-requires
-    right-one-requires
-    offence-requires
-    element-write-stack
-    lower-requires
+    (λ c. search needs)
+    (λ c κs. search needs)
+    (λ c κs. search needs)
+    (λ c κs. search needs)
+    (λ c. search needs)
+    (λ c κs. search needs)
     returns-2)

@@ -5,27 +5,6 @@ use borrow.Author.Needs.{needs}
 use Rattle.typing.proofs.names.value_at.Statement.{statement}
 use Rattle.typing.proofs.names.value_at.Tie as tie
 
-cell-requires : tie.Need-cell-requires
-cell-requires c κs = search needs
-
-cell-requires-2 : tie.Need-cell-requires-2
-cell-requires-2 c κs = search needs
-
-value-there-requires : tie.Need-value-there-requires
-value-there-requires c κs = search needs
-
-cell-requires-3 : tie.Need-cell-requires-3
-cell-requires-3 c κs = search needs
-
-cast-first : tie.Need-cast-first
-cast-first c = search needs
-
-place-at-requires : tie.Need-place-at-requires
-place-at-requires c κs = search needs
-
-offence-requires : tie.Need-offence-requires
-offence-requires c κs = search needs
-
 returns : tie.Need-returns
 unfolding valueAt
 returns c =
@@ -39,11 +18,11 @@ pub value-at-spec : {M : Type 1} → statement M
 value-at-spec =
     tie.close
     (tie.spec
-    cell-requires
-    cell-requires-2
-    value-there-requires
-    cell-requires-3
-    cast-first
-    place-at-requires
-    offence-requires
+    (λ c κs. search needs)
+    (λ c κs. search needs)
+    (λ c κs. search needs)
+    (λ c κs. search needs)
+    (λ c. search needs)
+    (λ c κs. search needs)
+    (λ c κs. search needs)
     returns)

@@ -19,9 +19,6 @@ loop-holds c = rest-first _ _
 value-at-requires : tie.Need-value-at-requires Inv-loop μ-loop
 value-at-requires c κs = omega arith
 
-lower-requires : tie.Need-lower-requires Inv-loop μ-loop
-lower-requires c κs = search needs
-
 add-j : tie.Need-add-j Inv-loop μ-loop
 add-j c = omega arith
 
@@ -47,7 +44,7 @@ values-from-spec =
     μ-loop
     loop-holds
     value-at-requires
-    lower-requires
+    (λ c κs. search needs)
     add-j
     loop-less
     loop-again

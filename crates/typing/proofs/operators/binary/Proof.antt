@@ -5,9 +5,6 @@ use borrow.Author.Needs.{needs}
 use Rattle.typing.proofs.operators.binary.Statement.{statement}
 use Rattle.typing.proofs.operators.binary.Tie as tie
 
-binary-type-requires : tie.Need-binary-type-requires
-binary-type-requires c κs = search needs
-
 returns : tie.Need-returns
 unfolding binaryCode
 returns c = rw (eq-eqb _ _ (c .before .if1 .taken)) (c .binary-type .ensures)
@@ -17,4 +14,4 @@ unfolding binaryCode
 returns-2 c = rw (ne-eqb _ _ (c .if1 .left))
 
 pub binary-spec : {M : Type 1} → statement M
-binary-spec = tie.close (tie.spec binary-type-requires returns returns-2)
+binary-spec = tie.close (tie.spec (λ c κs. search needs) returns returns-2)

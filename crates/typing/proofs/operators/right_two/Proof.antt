@@ -7,11 +7,8 @@ use Rattle.typing.proofs.operators.right_two.Tie as tie
 returns : tie.Need-returns
 returns c = rw (eq-eqb _ _ (c .if1 .taken))
 
-right-one-requires : tie.Need-right-one-requires
-right-one-requires c κs = search needs
-
 returns-2 : tie.Need-returns-2
 returns-2 c = rw (ne-eqb _ _ (c .before .if1 .left)) (c .right-one .ensures)
 
 pub right-two-spec : {M : Type 1} → statement M
-right-two-spec = tie.close (tie.spec right-one-requires returns returns-2)
+right-two-spec = tie.close (tie.spec (λ c κs. search needs) returns returns-2)

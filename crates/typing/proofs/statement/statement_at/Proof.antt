@@ -5,44 +5,8 @@ use Rattle.typing.proofs.StatementLaws.{statement-judged, statement-out
 use Rattle.typing.proofs.statement.statement_at.Statement.{statement}
 use Rattle.typing.proofs.statement.statement_at.Tie as tie
 
-field-requires : tie.Need-field-requires
-field-requires c κs = search needs
-
-cast-to : tie.Need-cast-to
-cast-to c = search needs
-
-field-requires-2 : tie.Need-field-requires-2
-field-requires-2 c κs = search needs
-
-cast-from : tie.Need-cast-from
-cast-from c = search needs
-
 expression-requires : tie.Need-expression-requires
 expression-requires c κs = c .before .if1 .taken
-
-field-requires-3 : tie.Need-field-requires-3
-field-requires-3 c κs = search needs
-
-cast-i : tie.Need-cast-i
-cast-i c = search needs
-
-field-requires-4 : tie.Need-field-requires-4
-field-requires-4 c κs = search needs
-
-wanted-type-requires : tie.Need-wanted-type-requires
-wanted-type-requires c κs = search needs
-
-fits-requires : tie.Need-fits-requires
-fits-requires c κs = search needs
-
-place-at-requires : tie.Need-place-at-requires
-place-at-requires c κs = search needs
-
-offence-requires : tie.Need-offence-requires
-offence-requires c κs = search needs
-
-lower-requires : tie.Need-lower-requires
-lower-requires c κs = search needs
 
 returns : tie.Need-returns
 returns c =
@@ -71,18 +35,18 @@ pub statement-at-spec : {M : Type 1} → statement M
 statement-at-spec =
     tie.close
     (tie.spec
-    field-requires
-    cast-to
-    field-requires-2
-    cast-from
+    (λ c κs. search needs)
+    (λ c. search needs)
+    (λ c κs. search needs)
+    (λ c. search needs)
     expression-requires
-    field-requires-3
-    cast-i
-    field-requires-4
-    wanted-type-requires
-    fits-requires
-    place-at-requires
-    offence-requires
-    lower-requires
+    (λ c κs. search needs)
+    (λ c. search needs)
+    (λ c κs. search needs)
+    (λ c κs. search needs)
+    (λ c κs. search needs)
+    (λ c κs. search needs)
+    (λ c κs. search needs)
+    (λ c κs. search needs)
     returns
     returns-2)

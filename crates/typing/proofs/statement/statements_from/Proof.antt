@@ -20,9 +20,6 @@ loop-holds c = rest-first _ _
 statement-at-requires : tie.Need-statement-at-requires Inv-loop μ-loop
 statement-at-requires c κs = omega arith
 
-lower-requires : tie.Need-lower-requires Inv-loop μ-loop
-lower-requires c κs = search needs
-
 add-j : tie.Need-add-j Inv-loop μ-loop
 add-j c = omega arith
 
@@ -48,7 +45,7 @@ statements-from-spec =
     μ-loop
     loop-holds
     statement-at-requires
-    lower-requires
+    (λ c κs. search needs)
     add-j
     loop-less
     loop-again

@@ -4,14 +4,8 @@ use borrow.Author.Needs.{needs}
 use Rattle.typing.proofs.statement.wanted_type.Statement.{statement}
 use Rattle.typing.proofs.statement.wanted_type.Tie as tie
 
-name-type-requires : tie.Need-name-type-requires
-name-type-requires c κs = search needs
-
 returns : tie.Need-returns
 returns c = rw (eq-eqb _ _ (c .before .if1 .taken)) (c .name-type .ensures)
-
-name-type-requires-2 : tie.Need-name-type-requires-2
-name-type-requires-2 c κs = search needs
 
 returns-2 : tie.Need-returns-2
 returns-2 c = rw (ne-eqb _ _ (c .before .before .if1 .left), eq-eqb _ _ (c .before .if2 .taken)) (c .name-type2 .ensures)
@@ -26,4 +20,4 @@ returns-5 : tie.Need-returns-5
 returns-5 c = rw (ne-eqb _ _ (c .before .before .before .if1 .left), ne-eqb _ _ (c .before .before .if2 .left), ne-eqb _ _ (c .before .if3 .left), ne-eqb _ _ (c .if4 .left))
 
 pub wanted-type-spec : {M : Type 1} → statement M
-wanted-type-spec = tie.close (tie.spec name-type-requires returns name-type-requires-2 returns-2 returns-3 returns-4 returns-5)
+wanted-type-spec = tie.close (tie.spec (λ c κs. search needs) returns (λ c κs. search needs) returns-2 returns-3 returns-4 returns-5)
