@@ -1,8 +1,8 @@
 /*
  * rabtishu.h: the C interface of Rabtishu, a compiler from ABC-VHDL to cycle tables for countdown boards.
  *
- * The functions are those of crates/exports, proved to meet contracts by the definitions in crates/theorems/specs/CInterface.antt.
- * Build the library by `rt staticlib exports`, and link target/staticlib/libexports.a.
+ * The functions are those of crates/api_c, proved to meet contracts by the definitions in crates/spec_promises/specs/CInterface.antt.
+ * Build the library by `rt staticlib api_c`, and link target/staticlib/libapi_c.a.
  * No function allocates memory, keeps anything between calls, reads or writes a file, or fails in another way than by its answer.
  *
  * What a call is lent

@@ -1,5 +1,5 @@
-//! Links the archives of the proved crates, where they are there: `rt staticlib exports` and
-//! `rt staticlib bench` write them to target/staticlib of the repository; RABTISHU_ARCHIVE names
+//! Links the archives of the proved crates, where they are there: `rt staticlib api_c` and
+//! `rt staticlib test_bench` write them to target/staticlib of the repository; RABTISHU_ARCHIVE names
 //! another folder.
 
 use std::env;
@@ -13,7 +13,7 @@ fn main() {
             .join("../../target/staticlib"),
     };
     println!("cargo:rustc-link-search=native={}", folder.display());
-    for (name, condition) in [("exports", "proved"), ("bench", "benched")] {
+    for (name, condition) in [("api_c", "proved"), ("test_bench", "benched")] {
         let archive = folder.join(format!("lib{name}.a"));
         println!("cargo:rustc-check-cfg=cfg({condition})");
         println!("cargo:rerun-if-changed={}", archive.display());

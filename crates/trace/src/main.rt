@@ -1,11 +1,11 @@
 // The trace program: reads `process.vhd` and `rows.txt` in the folder it is run in, where a file that cannot be opened is empty, and prints the trace.
-// Everything that it prints comes from labels and tracing, chunk by chunk; here it is only read and written.
+// Everything that it prints comes from trace_header and trace_lines, chunk by chunk; here it is only read and written.
 ghost use Prim.Native.Nat.{_≤_};
 ghost use lib.ListN.{length};
 use libc::STDOUT_FILENO;
-use tracing::Begun;
-use tracing::Filled;
-use tracing::Progress;
+use trace_lines::Begun;
+use trace_lines::Filled;
+use trace_lines::Progress;
 
 // The bytes of the file that a path names, at most as many as there is room for; none where it cannot be opened.
 fn read_file(path: &[u8], bytes: &mut [u8]) -> usize
@@ -29,7 +29,7 @@ fn first_bytes<'a>(s: &'a [u8], n: usize) -> &'a [u8] {
 }
 
 fn print_header(text: &[u8]) {
-    let line = labels::header(text);
+    let line = trace_header::header(text);
     let bytes = line.bytes;
     io::write_all(STDOUT_FILENO, first_bytes(&bytes, line.size));
 }
@@ -37,14 +37,14 @@ fn print_header(text: &[u8]) {
 // Prints the lines of the next rows, as many as 32,768 bytes have room for.
 fn print_fill(image: &[u8], rows: &[u8], p: Progress) -> Filled {
     let mut lines = [0u8; 32768];
-    let filled = tracing::fill(image, rows, p, &mut lines);
+    let filled = trace_lines::fill(image, rows, p, &mut lines);
     io::write_all(STDOUT_FILENO, first_bytes(&lines, filled.size));
     filled
 }
 
 // Prints the lines of the rows: there are at most 65,536, and each fill but the last puts at least one.
 fn print_rows(image: &[u8], rows: &[u8]) {
-    let mut p = tracing::first(image);
+    let mut p = trace_lines::first(image);
     let mut count: usize = 0;
     while count < 65537 {
         let filled = print_fill(image, rows, p);
@@ -59,7 +59,7 @@ fn print_rows(image: &[u8], rows: &[u8]) {
 fn trace(text: &[u8], rows: &[u8]) {
     let mut image = [0u8; 65535];
     let mut line = [0u8; 512];
-    match tracing::start(text, rows, &mut image, &mut line) {
+    match trace_lines::start(text, rows, &mut image, &mut line) {
         Begun::Only(size) => {
             io::write_all(STDOUT_FILENO, first_bytes(&line, size));
         }

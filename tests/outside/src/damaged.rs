@@ -1,4 +1,4 @@
-//! What the test program `damaged`, which runs the proved code on damaged images, states and rows,
+//! What the test program `test_damaged`, which runs the proved code on damaged images, states and rows,
 //! must print for the cases of its data: the answers of this implementation, in the program's own
 //! words.
 

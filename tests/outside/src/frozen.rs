@@ -65,7 +65,7 @@ pub fn images() -> Vec<ImageCase> {
     cases.iter().map(|block| image_case(block)).collect()
 }
 
-/// The cases of `data/request_texts.txt`: apart from `texts`, whose cases the program vectors has.
+/// The cases of `data/request_texts.txt`: apart from `texts`, whose cases the program test_vectors has.
 pub fn request_texts() -> Vec<TextCase> {
     let cases = blocks(include_str!("../data/request_texts.txt"));
     cases.iter().map(|block| text_case(block)).collect()

@@ -55,7 +55,7 @@ fn total(
         .sum()
 }
 
-/// The proved crates (crates/bench).
+/// The proved crates (crates/test_bench).
 #[cfg(benched)]
 pub const PROVED: Loops = Loops {
     opened: |image, inputs, width, row| run(rabtishu_bench_opened, image, inputs, width, row),

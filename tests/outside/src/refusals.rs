@@ -1,4 +1,4 @@
-//! What the test program `refusals`, which runs the proved front end on texts, must print for the
+//! What the test program `test_refusals`, which runs the proved front end on texts, must print for the
 //! files of its data: the verdicts of this implementation, in the program's own words.
 
 use std::io;

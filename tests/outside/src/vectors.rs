@@ -1,4 +1,4 @@
-//! The cases of the test program `vectors`, which compiles texts and runs their rows, and what this
+//! The cases of the test program `test_vectors`, which compiles texts and runs their rows, and what this
 //! implementation answers on them, in the program's own words.
 
 use std::fmt::Write;

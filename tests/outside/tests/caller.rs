@@ -1,4 +1,4 @@
-//! The stored output of the test program `caller`, which calls every public function of the crate
+//! The stored output of the test program `test_caller`, which calls every public function of the crate
 //! entry, is what this implementation answers on the same texts.
 
 use reference::caller::answers;
@@ -6,7 +6,7 @@ use std::path::PathBuf;
 
 #[test]
 fn the_program_prints_what_document_01_says() {
-    let folder = PathBuf::from(env!("CARGO_MANIFEST_DIR")).join("../../crates/caller");
+    let folder = PathBuf::from(env!("CARGO_MANIFEST_DIR")).join("../../crates/test_caller");
     let read = |name: &str| std::fs::read(folder.join(name)).expect(name);
     let stored = String::from_utf8(read("stdout")).expect("text");
     let mut stored = stored.lines();
@@ -19,7 +19,7 @@ fn the_program_prints_what_document_01_says() {
 /// Every refusal of document 01 is among them.
 #[test]
 fn every_refusal_is_told() {
-    let texts = PathBuf::from(env!("CARGO_MANIFEST_DIR")).join("../../crates/caller/data/texts");
+    let texts = PathBuf::from(env!("CARGO_MANIFEST_DIR")).join("../../crates/test_caller/data/texts");
     let answers = answers(&std::fs::read(texts).expect("texts"));
     for number in 1..=18 {
         assert!(answers.contains(&format!(" refused {number} ")), "{number}");

@@ -12,7 +12,7 @@ fn the_archive_is_there_if_it_must_be() {
     let required = std::env::var_os("RABTISHU_REQUIRED").is_some();
     assert!(
         cfg!(proved) || !required,
-        "rt staticlib exports comes first"
+        "rt staticlib api_c comes first"
     );
 }
 

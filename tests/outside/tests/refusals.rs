@@ -1,4 +1,4 @@
-//! The stored output of the test program `refusals`, which runs the proved front end on texts, is
+//! The stored output of the test program `test_refusals`, which runs the proved front end on texts, is
 //! the verdict of this implementation on the same texts.
 
 use reference::refusals::answers;
@@ -6,7 +6,7 @@ use std::path::PathBuf;
 
 #[test]
 fn the_program_prints_what_document_01_says() {
-    let folder = PathBuf::from(env!("CARGO_MANIFEST_DIR")).join("../../crates/refusals");
+    let folder = PathBuf::from(env!("CARGO_MANIFEST_DIR")).join("../../crates/test_refusals");
     let stored = std::fs::read(folder.join("stdout")).expect("the stored output");
     let answers = answers(&folder).expect("the files of texts");
     let mut stored = stored.split(|byte| *byte == b'\n');

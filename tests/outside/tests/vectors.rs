@@ -1,4 +1,4 @@
-//! The stored cases of the test program `vectors`, which compiles texts and runs their rows by the
+//! The stored cases of the test program `test_vectors`, which compiles texts and runs their rows by the
 //! proved code, are those of the generator, and the stored output is what this implementation
 //! answers on them.
 
@@ -8,7 +8,7 @@ use std::path::PathBuf;
 
 #[test]
 fn the_program_prints_what_document_01_says() {
-    let folder = PathBuf::from(env!("CARGO_MANIFEST_DIR")).join("../../crates/vectors");
+    let folder = PathBuf::from(env!("CARGO_MANIFEST_DIR")).join("../../crates/test_vectors");
     let read = |name: &str| std::fs::read(folder.join(name)).expect(name);
     let arguments = String::from_utf8(read("args")).expect("names of files");
     let stored = String::from_utf8(read("stdout")).expect("text");
@@ -27,7 +27,7 @@ fn the_program_prints_what_document_01_says() {
 
 #[test]
 fn the_cases_are_those_of_the_generator() {
-    let folder = PathBuf::from(env!("CARGO_MANIFEST_DIR")).join("../../crates/vectors");
+    let folder = PathBuf::from(env!("CARGO_MANIFEST_DIR")).join("../../crates/test_vectors");
     let mut names = String::new();
     for (name, bytes) in generate::vectors::files() {
         let stored = std::fs::read(folder.join("data").join(&name)).expect("a file of cases");

@@ -3,7 +3,7 @@
 
 #[cfg(not(all(proved, benched)))]
 fn main() {
-    eprintln!("rt staticlib exports and rt staticlib bench come first");
+    eprintln!("rt staticlib api_c and rt staticlib test_bench come first");
     std::process::exit(1);
 }
 

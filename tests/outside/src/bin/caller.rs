@@ -1,4 +1,4 @@
-//! Writes the output of the test program `caller` into the folder of its crate: what this
+//! Writes the output of the test program `test_caller` into the folder of its crate: what this
 //! implementation answers on the texts in `data/texts`, into `stdout`.
 
 use reference::caller::answers;

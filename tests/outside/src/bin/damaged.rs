@@ -1,4 +1,4 @@
-//! Writes the output of the test program `damaged` into the folder of its crate: what this
+//! Writes the output of the test program `test_damaged` into the folder of its crate: what this
 //! implementation answers on the cases in `data`, into `stdout`.
 
 use reference::damaged::answers;

@@ -3,7 +3,7 @@
 
 #[cfg(not(proved))]
 fn main() {
-    eprintln!("rt staticlib exports comes first");
+    eprintln!("rt staticlib api_c comes first");
     std::process::exit(1);
 }
 

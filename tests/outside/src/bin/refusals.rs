@@ -1,4 +1,4 @@
-//! Writes the output of the test program `refusals` into the folder of its crate: the verdicts of this
+//! Writes the output of the test program `test_refusals` into the folder of its crate: the verdicts of this
 //! implementation on the texts in `data`, into `stdout`.
 
 use reference::refusals::answers;

@@ -1,4 +1,4 @@
-//! Writes the cases of the test program `vectors` and the output that they must give into the folder
+//! Writes the cases of the test program `test_vectors` and the output that they must give into the folder
 //! of its crate: the names of the files and folders into `args`, the cases into `data`, the output
 //! into `stdout`. The folders of examples stand in `data` already.
 

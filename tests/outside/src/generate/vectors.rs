@@ -1,4 +1,4 @@
-//! The cases of the test program `vectors`: accepted texts with rows, right and wrong ones, and some
+//! The cases of the test program `test_vectors`: accepted texts with rows, right and wrong ones, and some
 //! refused texts.
 
 use super::arithmetic::{EDGES, OPERATORS};

@@ -1,0 +1,261 @@
+-- From the parts of the front end to the verdict. Assumes nothing.
+use mathlib.Core.Path.{_≡_, refl, sym, _∙_, ap, subst}
+use mathlib.Core.Bool.{Bool, true, false, cond}
+use mathlib.Core.Option.{Option, none, some}
+use mathlib.Core.List.{List, [], _∷_}
+use Prim.Native.Nat.{ℕ, zero, suc, _≤_, _<_}
+use native.Mathlib.Omega.{arith}
+use lib.Dec.{leb, ltb}
+use lib.ListN.{length}
+use lib.IntN.{ℤ}
+use borrow.Author.Tests.{ltb-true, ltb-false, le-leb, lt-leb}
+use Rattle.base_answers.specs.declared.Refusal.{Refusal}
+use Rattle.base_answers.specs.declared.Refusal.the-variants.{TextTooLong, NoToken, NoSentence, LimitPassed}
+use Rattle.spec_grammar.specs.Token.{Token}
+use Rattle.spec_grammar.specs.Tree.{Text}
+use Rattle.spec_grammar.specs.Acceptance as P
+use Rattle.spec_grammar.specs.Reader.{answer}
+use Rattle.spec_grammar.proofs.Limits.{exactly-limits}
+use Rattle.spec_design.specs.Process.{Process, sourceTypes, slotTypes}
+use Rattle.spec_language.specs.Lexer.{lex, tokens, malformed}
+use Rattle.spec_language.specs.Lexer as L
+use Rattle.spec_language.specs.Rules.{Offence, Stage, table}
+use Rattle.spec_language.specs.Validity as W
+use Rattle.spec_language.specs.Validity.{placeOf}
+use Rattle.spec_language.specs.Elaboration.{elaborate}
+use Rattle.spec_language.specs.Verdict.{Verdict, accepted, refused, lowestOffence, judged, ruled, parsed, lexed, verdict}
+use Rattle.spec_language.proofs.Elaborated.{Clean}
+use Rattle.spec_language.proofs.Offences.{lowest-none}
+use Rattle.spec_language.proofs.Judged.{clean}
+use Rattle.spec_language.proofs.Modes.{moded}
+use Rattle.spec_language.proofs.WellFormed.{well-formed}
+use Rattle.front_lexer.specs.declared.Lexed.{Lexed}
+use Rattle.front_lexer.specs.declared.Lexed.the-variants.{Tokens, NotLexed}
+use Rattle.front_lexer.specs.Tokens as X
+use Rattle.front_lexer.specs.Tokens.{counted}
+use Rattle.front_limits.specs.Flags.{marked}
+use Rattle.front_limits.proofs.Held.{marked-size, tokens-held, words-held, flags-held}
+use Rattle.front_cursor.specs.Tokens.{tokenAt}
+use Rattle.front_cursor.specs.Tokens as C
+use Rattle.front_statements.specs.Rows.{output}
+use Rattle.front_expressions.specs.Written.{arrays}
+use Rattle.front_parser.specs.declared.Parsed.{Parsed}
+use Rattle.front_parser.specs.declared.Parsing.{Parsing}
+use Rattle.front_parser.specs.declared.Parsing.the-variants.{Tree, NotParsed}
+use Rattle.front_parser.specs.Answers.{lent, ReadAs, parsesAs, Parses}
+use Rattle.front_syntax.specs.Arrays.{numberIn, TokensIn}
+use Rattle.front_syntax.proofs.Kinded.{kinded}
+use Rattle.front_syntax.proofs.Stored.{rows-held, items-held}
+use Rattle.front_offences.specs.Laid.{Laid}
+use Rattle.front_scope.specs.Resolves.{Resolves}
+use Rattle.front_limits.specs.Words.{WordsIn}
+use Rattle.front_offences.proofs.Tokens.{number-inside, picked, passed}
+use Rattle.base_ir.specs.Entries.{entries, entryOps}
+use Rattle.front_accept.specs.declared.rules.Ruling.{Ruling}
+use Rattle.front_accept.specs.declared.rules.Ruling.the-variants.{Free, Offended}
+use Rattle.front_accept.specs.declared.Front.{Front}
+use Rattle.front_accept.specs.declared.Front.the-variants.{Accepted, Refused}
+use Rattle.front_accept.specs.declared.layout.Counts.{Counts}
+use Rattle.base_answers.specs.Answers.{done, refusedBy}
+use Rattle.base_answers.proofs.Refusals.{told-again}
+use Rattle.base_answers.proofs.Told.{done-refused}
+use Rattle.front_accept.specs.Answered.{placeIn}
+use Rattle.front_accept.specs.Stages.{ruledAs, Ruled, rulingTold}
+use Rattle.front_accept.specs.Designs.{Holds, LaidOut}
+use Rattle.front_accept.specs.Fronts.{TreeIn, countsOf, DesignArrays, designArrays, FrontAs}
+use Rattle.front_accept.proofs.Declared.{decls-held}
+
+-- THE RULES
+
+-- where the stages leave nothing, none is offended
+free-rules : (rs : List Stage) (t : Text) → rulingTold Free ≡ ruledAs (ruled rs t) → W.Free rs t × (ruled rs t ≡ accepted (elaborate t))
+unfolding ruled judged
+free-rules [] t e = (tt, refl)
+free-rules (r ∷ rs) t e = go (lowestOffence (r t)) refl e (free-rules rs t)
+  where
+    go : (o : Option Offence) → lowestOffence (r t) ≡ o → rulingTold Free ≡ ruledAs (judged o (ruled rs t)) → (rulingTold Free ≡ ruledAs (ruled rs t) → W.Free rs t × (ruled rs t ≡ accepted (elaborate t)))
+        → ((r t ≡ []) × W.Free rs t) × (judged o (ruled rs t) ≡ accepted (elaborate t))
+    go none q f ih = let s = ih f in ((lowest-none (r t) q, s .0), s .1)
+    go (some o) q f ih = done-refused f
+
+pub free-text : (t : Text) → rulingTold Free ≡ ruledAs (ruled table t) → Clean t × (ruled table t ≡ accepted (elaborate t))
+free-text t e = let s = free-rules table t e in (clean t (s .0), s .1)
+
+-- an offence is the verdict's
+pub offended-as : (x : Refusal) (v : Verdict) → rulingTold (Offended x) ≡ ruledAs v → (before after : DesignArrays) → after ≡ before → FrontAs v (Refused x) before after
+offended-as x (accepted p) e before after u = done-refused (sym e)
+offended-as x (refused n k) e before after u = (told-again x n k e, u)
+
+-- THE PARSER
+
+-- what was parsed is a tree within the limits, and the arrays hold it
+pub tree-in : {text kinds starts sizes codes₀ codes indices₀ indices rows₀ rows decls₀ decls : List ℕ} {n : ℕ} {p : Parsed} {ts : List Token} {t : Text} → answer ts ≡ P.accepted t → TokensIn ts kinds starts n → WordsIn text ts sizes n
+    → length codes₀ ≡ 16384 → length indices₀ ≡ 16384 → length rows₀ ≡ 3072 → length decls₀ ≡ 390
+    → ReadAs ts t (lent (output (arrays codes₀ indices₀) rows₀) decls₀) (lent (output (arrays codes indices) rows) decls) p → TreeIn text ts t kinds starts sizes n p codes indices rows decls
+tree-in {p = p} {ts} {t} e T Q lc li lr ld r =
+    let x = exactly-limits ts t .0 e in
+    record {
+      tokens = T;
+      words = Q;
+      items = items-held (r .lines .items) lc li (r .few-items);
+      lines = rows-held (r .lines) lr (r .few-statements);
+      names = decls-held t (r .names) ld (r .few-names);
+      heads = record { entity-at = r .entity; entity-end-at = r .entity-end; arch-at = r .arch; arch-of-at = r .arch-of; arch-end-at = r .arch-end };
+      process = r .process;
+      kinded = kinded (x .1);
+      moded = moded (x .1);
+      limits = x .2;
+    }
+
+placed-inside : (l : ℕ) (ts : List Token) (i : ℕ) → i < length ts → placeOf l ts i ≡ tokenAt ts i .place
+unfolding placeOf
+placed-inside l [] i h = absurd (omega arith)
+placed-inside l (x ∷ ts) zero h = refl
+placed-inside l (x ∷ ts) (suc i) h = placed-inside l ts i (omega arith)
+
+placed-past : (l : ℕ) (ts : List Token) (i : ℕ) → length ts ≤ i → placeOf l ts i ≡ l
+unfolding placeOf
+placed-past l [] i h = refl
+placed-past l (x ∷ ts) zero h = absurd (omega arith)
+placed-past l (x ∷ ts) (suc i) h = placed-past l ts i (omega arith)
+
+-- the place of a token by position
+pub place-is : {ts : List Token} {kinds starts : List ℕ} {n : ℕ} (l i : ℕ) → TokensIn ts kinds starts n → placeIn starts n l i ≡ placeOf l ts i
+place-is {ts} {kinds} {starts} {n} l i T = go (ltb i n) refl
+  where
+    go : (b : Bool) → ltb i n ≡ b → placeIn starts n l i ≡ placeOf l ts i
+    go true q =
+        let h = ltb-true i n q in
+        let c = T .count in
+        sym (picked (ltb i n) (numberIn starts n i) l (placeOf l ts i) q (placed-inside l ts i (omega arith) ∙ (sym (T .place i h) ∙ sym (number-inside starts n i (T .short) h))))
+    go false q = let h = ltb-false i n q in let c = T .count in sym (passed (ltb i n) (numberIn starts n i) l (placeOf l ts i) q (placed-past l ts i (omega arith)))
+
+-- THE FRONT END, FROM ITS END TO ITS BEGINNING
+
+-- counts that are the same
+equal-counts : (s o i u v s′ o′ i′ u′ v′ : ℕ) → s′ ≡ s → o′ ≡ o → i′ ≡ i → u′ ≡ u → v′ ≡ v
+    → _≡_ {A = Counts} (record { statements = s; operations = o; inputs = i; outputs = u; variables = v }) (record { statements = s′; operations = o′; inputs = i′; outputs = u′; variables = v′ })
+equal-counts s o i u v s′ o′ i′ u′ v′ a b c d e = rw (a, b, c, d, e)
+
+-- the counts are those of the process that the arrays hold
+same-counts : (q : Process) (ops : List ℕ) (args : List ℤ) (lines is os vs : List ℕ) (ps qs : List ℤ) (c : Counts) → Holds q ops args lines is os vs ps qs c → c ≡ countsOf q
+same-counts q ops args lines is os vs ps qs c h =
+    equal-counts (c .statements) (c .operations) (c .inputs) (c .outputs) (c .variables) (length (entries (q .body))) (length (entryOps (entries (q .body)))) (length (sourceTypes (q .inputs))) (length (slotTypes (q .outputs)))
+    (length (slotTypes (q .variables))) (h .body .lines .count) (h .body .code .count) (h .declared .inputs .0) (h .declared .outputs .0) (h .declared .variables .0)
+
+module _ {text kinds starts sizes codes indices rows decls owners₀ owners : List ℕ} {n : ℕ} {p : Parsed} {x : Ruling}
+    (R : Ruled text starts sizes n p codes indices rows decls owners x) (O : Resolves text kinds starts sizes n decls (p .names) owners₀ owners) (room : length owners₀ ≡ 16384) (ts : List Token) (t : Text)
+    (I : TreeIn text ts t kinds starts sizes n p codes indices rows decls) where
+  all-laid : Laid ts t kinds starts n codes indices (p .items) rows (p .statements) decls (p .names) owners
+  all-laid =
+      record {
+        of-tokens = I .tokens;
+        of-items = I .items;
+        of-rows = I .lines;
+        of-decls = I .names;
+        of-owners = O .owners ts t (let s = I .tokens .short in omega arith) (I .tokens) (I .words) (I .names) (I .kinded);
+        kinded = I .kinded;
+      }
+
+  decided : rulingTold x ≡ ruledAs (ruled table t)
+  decided = R .is ts t kinds all-laid (I .words) (I .heads) (I .process) (I .limits)
+
+  -- no rule is offended: the arrays of the design
+  pub front-free : {ops : List ℕ} {args : List ℤ} {lines is os vs : List ℕ} {ps qs : List ℤ} {c : Counts} (before : DesignArrays) → x ≡ Free → LaidOut text kinds starts sizes n p codes indices rows decls owners ops args lines is os vs ps qs c
+      → FrontAs (ruled table t) (Accepted c) before (designArrays ops args lines is os vs ps qs)
+  front-free {ops} {args} {lines} {is} {os} {vs} {ps} {qs} {c} before e l =
+      let s = free-text t (sym (ap rulingTold e) ∙ decided) in
+      let q = s .0 in
+      let h = l .holds ts t all-laid (I .words) (I .limits) (q .names) (q .clock) (well-formed t (I .moded) (I .limits) q) in
+      let w = same-counts (elaborate t) ops args lines is os vs ps qs c h in
+      rw (s .1) (ap done w, subst (λ (u : Counts). Holds (elaborate t) ops args lines is os vs ps qs u) w h)
+
+  -- a rule is offended: its refusal
+  pub front-offended : (y : Refusal) (before after : DesignArrays) → after ≡ before → x ≡ Offended y → FrontAs (ruled table t) (Refused y) before after
+  front-offended y before after u e = offended-as y (ruled table t) (sym (ap rulingTold e) ∙ decided) before after u
+
+not-tree : {A : Type 0} {p : Parsed} {k i : ℕ} → Tree p ≡ NotParsed k i → A
+not-tree e = absurd (let z : _≡_ {A = ℕ} 0 1 = cc in omega arith)
+
+module _ {text kinds starts sizes codes₀ codes indices₀ indices rows₀ rows decls₀ decls : List ℕ} {n : ℕ} {x : Parsing} (l : ℕ) (ts : List Token)
+    (P₁ : Parses ts (lent (output (arrays codes₀ indices₀) rows₀) decls₀) (lent (output (arrays codes indices) rows) decls) x) (T : TokensIn ts kinds starts n) where
+  -- a tree was read: the rules decide
+  pub front-tree : {p : Parsed} (r : Front) (before after : DesignArrays) → x ≡ Tree p → WordsIn text ts sizes n
+      → length codes₀ ≡ 16384 → length indices₀ ≡ 16384 → length rows₀ ≡ 3072 → length decls₀ ≡ 390
+      → ((t : Text) → TreeIn text ts t kinds starts sizes n p codes indices rows decls → FrontAs (ruled table t) r before after)
+      → FrontAs (parsed l ts (answer ts)) r before after
+  unfolding parsed
+  front-tree {p} r before after e Q lc li lr ld f = go (answer ts) refl (P₁ .is)
+    where
+      go : (a : P.Answer) → answer ts ≡ a → parsesAs ts (lent (output (arrays codes₀ indices₀) rows₀) decls₀) (lent (output (arrays codes indices) rows) decls) a x → FrontAs (parsed l ts a) r before after
+      go (P.accepted t) h (q, g, w) =
+          let z : Tree p ≡ Tree q = sym e ∙ g in
+          let y : q ≡ p = cc in
+          f t (tree-in h T Q lc li lr ld (subst (λ (u : Parsed). ReadAs ts t (lent (output (arrays codes₀ indices₀) rows₀) decls₀) (lent (output (arrays codes indices) rows) decls) u) y w))
+      go (P.no-sentence k) h g = not-tree (sym e ∙ g)
+      go (P.past-limit k) h g = not-tree (sym e ∙ g)
+
+module _ {kinds starts codes₀ codes indices₀ indices rows₀ rows decls₀ decls : List ℕ} {n : ℕ} {x : Parsing} (l : ℕ) (ts : List Token)
+    (P₁ : Parses ts (lent (output (arrays codes₀ indices₀) rows₀) decls₀) (lent (output (arrays codes indices) rows) decls) x) (T : TokensIn ts kinds starts n) where
+  -- no tree was read: refusal 3 or 4 at the token's place
+  pub front-unread : {k i w : ℕ} (y : Refusal) (before after : DesignArrays) → after ≡ before → x ≡ NotParsed k i → w ≡ placeIn starts n l i → ((k ≡ 3) → y ≡ NoSentence w) × ((k ≡ 4) → y ≡ LimitPassed w)
+      → FrontAs (parsed l ts (answer ts)) (Refused y) before after
+  unfolding parsed
+  front-unread {k} {i} {w} y before after u e hw hy = go (answer ts) (P₁ .is)
+    where
+      at : (j : ℕ) → i ≡ j → w ≡ placeOf l ts j
+      at j h = hw ∙ (place-is l i T ∙ ap (placeOf l ts) h)
+
+      go : (a : P.Answer) → parsesAs ts (lent (output (arrays codes₀ indices₀) rows₀) decls₀) (lent (output (arrays codes indices) rows) decls) a x → FrontAs (parsed l ts a) (Refused y) before after
+      go (P.accepted t) (q, g, _) = not-tree (sym g ∙ e)
+      go (P.no-sentence j) g =
+          let z : NotParsed k i ≡ NotParsed 3 j = sym e ∙ g in
+          let a : k ≡ 3 = cc in
+          let b : i ≡ j = cc in
+          (ap refusedBy (hy .0 a ∙ ap NoSentence (at j b)), u)
+      go (P.past-limit j) g =
+          let z : NotParsed k i ≡ NotParsed 4 j = sym e ∙ g in
+          let a : k ≡ 4 = cc in
+          let b : i ≡ j = cc in
+          (ap refusedBy (hy .1 a ∙ ap LimitPassed (at j b)), u)
+
+not-tokens : {A : Type 0} {n : ℕ} {x : Refusal} → Tokens n ≡ NotLexed x → A
+not-tokens e = absurd (let z : _≡_ {A = ℕ} 0 1 = cc in omega arith)
+
+-- the text has tokens: the parser decides
+pub front-tokens : (text : List ℕ) (n : ℕ) (r : Front) (before after : DesignArrays) → Tokens n ≡ X.lexed text
+    → ((ts : List Token) → lex text ≡ tokens ts → FrontAs (parsed (length text) ts (answer ts)) r before after) → FrontAs (verdict text) r before after
+unfolding verdict X.lexed lexed
+front-tokens text n r before after e f = go (ltb 16384 (length text)) refl (lex text) refl e
+  where
+    go : (b : Bool) → ltb 16384 (length text) ≡ b → (k : L.Lexed) → lex text ≡ k → Tokens n ≡ cond b (NotLexed TextTooLong) (counted 0 k)
+        → FrontAs (cond (leb (length text) 16384) (lexed (length text) k) (refused 1 0)) r before after
+    go true q k h g = not-tokens g
+    go false q (tokens ts) h g = rw (le-leb (length text) 16384 (let z = ltb-false 16384 (length text) q in omega arith)) (f ts h)
+    go false q (malformed p) h g = not-tokens g
+
+-- the text has none: refusal 1 or 2
+pub front-not-lexed : (text : List ℕ) (x : Refusal) (before after : DesignArrays) → after ≡ before → NotLexed x ≡ X.lexed text → FrontAs (verdict text) (Refused x) before after
+unfolding verdict X.lexed lexed
+front-not-lexed text x before after u e = go (ltb 16384 (length text)) refl (lex text) e
+  where
+    go : (b : Bool) → ltb 16384 (length text) ≡ b → (k : L.Lexed) → NotLexed x ≡ cond b (NotLexed TextTooLong) (counted 0 k)
+        → FrontAs (cond (leb (length text) 16384) (lexed (length text) k) (refused 1 0)) (Refused x) before after
+    go true q k g = let z : x ≡ TextTooLong = cc in rw (lt-leb (length text) 16384 (ltb-true 16384 (length text) q)) (ap refusedBy z, u)
+    go false q (tokens ts) g = not-tokens (sym g)
+    go false q (malformed p) g = let z : x ≡ NoToken p = cc in rw (le-leb (length text) 16384 (let y = ltb-false 16384 (length text) q in omega arith)) (ap refusedBy z, u)
+
+-- the text was lexed and its tokens marked: the parser decides
+pub front-lexed : (text kinds₀ kinds starts₀ starts sizes₀ sizes long₀ long : List ℕ) (n : ℕ) {x : Lexed} (r : Front) (before after : DesignArrays) → x ≡ Tokens n
+    → X.Lexing text x kinds₀ kinds starts₀ starts sizes₀ sizes → long ≡ marked text kinds starts sizes n long₀ → length kinds₀ ≡ 16384 → length starts₀ ≡ 16384 → length sizes₀ ≡ 16384 → length long₀ ≡ 16384
+    → (length long ≡ 16384 → (ts : List Token) → TokensIn ts kinds starts n → WordsIn text ts sizes n → C.Holds ts kinds long n → FrontAs (parsed (length text) ts (answer ts)) r before after)
+    → FrontAs (verdict text) r before after
+front-lexed text kinds₀ kinds starts₀ starts sizes₀ sizes long₀ long n r before after e lx m lk ls lz ll f =
+    front-tokens text n r before after (l .answer)
+    (λ ts t.
+    f (ap length m ∙ (marked-size text kinds starts sizes long₀ n ∙ ll)) ts (tokens-held text kinds₀ kinds starts₀ starts sizes₀ sizes n ts l t lk ls)
+    (words-held text kinds₀ kinds starts₀ starts sizes₀ sizes n ts l t lz)
+    (rw m (flags-held text kinds₀ kinds starts₀ starts sizes₀ sizes n ts l t lk ls lz long₀ ll)))
+  where
+    l : X.Lexing text (Tokens n) kinds₀ kinds starts₀ starts sizes₀ sizes
+    l = subst (λ (y : Lexed). X.Lexing text y kinds₀ kinds starts₀ starts sizes₀ sizes) e lx

@@ -1,0 +1,24 @@
+-- `front_accept::accept` meets its contract. Assumes nothing.
+use mathlib.Core.Path.{refl, sym, _∙_}
+use Rattle.front_accept.proofs.Fronting.{front-lexed, front-not-lexed}
+use borrow.Author.Needs.{needs}
+use Rattle.front_accept.proofs.accept.Statement.{statement}
+use Rattle.front_accept.proofs.accept.Tie as tie
+
+returns : tie.Need-returns
+returns c = λ z. front-lexed _ _ _ _ _ _ _ _ _ _ (c .parsed-text .result) _ _ (c .before .before .before .before .before .before .before .before .before .before .before .before .before .before .before .before .before .before .before .lexed .given .1) (c .before .before .before .before .before .before .before .before .before .before .before .before .before .before .before .before .before .before .before .before .before .lex .ensures) (c .before .before .before .before .before .before .before .before .before .before .before .before .before .mark .ensures) refl refl refl refl (λ l ts t w h. c .parsed-text .ensures z l ts t w h)
+
+returns-2 : tie.Need-returns-2
+returns-2 c = λ z. front-not-lexed _ _ _ _ refl (sym (c .before .lexed2 .given .1) ∙ c .before .before .before .lex .ensures .answer)
+
+pub accept-spec : {M : Type 1} → statement M
+accept-spec =
+    tie.close
+    (tie.spec
+    (λ c κs. search needs)
+    (λ c. search needs)
+    (λ c κs. search needs)
+    (λ c κs. search needs)
+    (λ c. search needs)
+    returns
+    returns-2)

@@ -1,0 +1,31 @@
+-- `front_declarations::value` meets its contract: a sign and a number, or a literal. Assumes nothing.
+use mathlib.Core.Path.{sym, _∙_}
+use borrow.Author.Needs.{needs}
+use borrow.Author.Tests.{eq-eqb, ne-eqb}
+use lib.Dec.{lit<}
+use Rattle.front_cursor.specs.Tokens.{kindIn}
+use Rattle.front_declarations.specs.Heads.{valueAt}
+use Rattle.front_declarations.proofs.Steps.{asks-head, took-moves}
+use Rattle.front_declarations.proofs.Values.{literal-pos}
+use Rattle.front_declarations.proofs.value.Statement.{statement}
+use Rattle.front_declarations.proofs.value.Tie as tie
+
+take-requires : tie.Need-take-requires
+take-requires c κs = (lit< tt, c .before .before .pre)
+
+take-requires-2 : tie.Need-take-requires-2
+take-requires-2 c κs = let s = c .before .before .before .args in (lit< tt, asks-head (c .before .before .before .pre) (took-moves (s .kinds .now) (s .long .now) 12 (lit< tt) (c .before .before .before .pre) (c .take .ensures)))
+
+returns : tie.Need-returns
+unfolding valueAt
+returns c = c .take2 .ensures ∙ rw (c .before .take .ensures, eq-eqb (kindIn (c .before .before .before .before .args .kinds .now) (c .before .before .before .before .args .n) (c .before .before .before .before .args .p .at)) 12 (sym (c .before .before .before .kind-at .ensures) ∙ c .before .before .if1 .taken))
+
+take-requires-3 : tie.Need-take-requires-3
+take-requires-3 c κs = (rw (c .literal-kind .ensures) (literal-pos (c .before .before .kind-at .result)), c .before .before .before .pre)
+
+returns-2 : tie.Need-returns-2
+unfolding valueAt
+returns-2 c = c .take3 .ensures ∙ rw (c .before .literal-kind .ensures, c .before .before .before .kind-at .ensures, ne-eqb (kindIn (c .before .before .before .before .args .kinds .now) (c .before .before .before .before .args .n) (c .before .before .before .before .args .p .at)) 12 (λ e. c .before .before .if1 .left (c .before .before .before .kind-at .ensures ∙ e)))
+
+pub value-spec : {M : Type 1} → statement M
+value-spec = tie.close (tie.spec (λ c κs. search needs) take-requires take-requires-2 returns (λ c κs. search needs) take-requires-3 returns-2)

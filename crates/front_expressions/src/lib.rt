@@ -1,0 +1,375 @@
+// The readers of expressions: tokens to postfix items in lent arrays. Expression, simple expression, product and primary call each other in a cycle,
+// the tokens left falling; factors, terms and chains are loops. An operator waits on the call stack and is written behind its operands.
+ghost use mathlib.Core.Path.{_≡_};
+ghost use Prim.Native.Nat.{ℕ, _+_, _<_, _≤_};
+ghost use Rattle.spec_grammar.specs.Grammar.{primary as primaryPart, factor as factorPart, term as termPart, simple as simplePart, relation as relationPart, expression as expressionPart};
+ghost use mathlib.Core.Bool.{true};
+ghost use Rattle.base_codes.specs.Token.{oneOf, operands, adding, multiplying, logical, LP};
+ghost use Rattle.front_cursor.specs.Reading.{Asks};
+ghost use Rattle.front_cursor.specs.Tokens.{kindIn};
+ghost use Rattle.front_expressions.specs.Postfix.{postfix};
+ghost use Rattle.front_expressions.specs.Written.{arrays, Put};
+ghost use Rattle.front_expressions.specs.Tests.{leafCode, moreTerms, moreFactors, goesOn};
+ghost use Rattle.front_expressions.specs.Readers.{Tail, sum, product as productTail, operatorOf, ReadsOver, PartlyOver, OneTurn};
+use base_codes::limit;
+use base_codes::operation;
+use base_codes::refusal;
+use base_codes::token;
+use front_cursor::Pos;
+use front_cursor::expect;
+use front_cursor::item;
+use front_cursor::kind_at;
+use front_cursor::refused;
+
+// The same place, made anew. A place that is handed on as it came is kept in memory from the start, and the most common way, that of a leaf, would pay for it.
+fn again(q: Pos) -> Pos
+    ensures { λ r. ⌜ r ≡ q ⌝ }
+{
+    Pos {
+        fault: q.fault,
+        at: q.at,
+        items: q.items,
+        n: q.n,
+    }
+}
+
+// Writes an item behind the others, unless the cursor has refused.
+fn put(
+    codes: &mut [u8; limit::TEXT],
+    tokens: &mut [u16; limit::TEXT],
+    q: Pos,
+    code: u8,
+    at: usize,
+) -> Pos
+    requires { ⌜ (q .fault ≡ 0 → q .n < 16384) × (at < 65536) ⌝ }
+    ensures { λ r. ⌜ Put q code at (arrays (now (codes .entry)) (now (tokens .entry))) r (arrays (now (codes .exit)) (now (tokens .exit))) ⌝ }
+{
+    if q.fault != 0 {
+        return q;
+    }
+    let n = q.n;
+    codes[n] = code;
+    tokens[n] = at as u16;
+    Pos {
+        fault: q.fault,
+        at: q.at,
+        items: q.items,
+        n: n + 1,
+    }
+}
+
+// The code of a leaf's item, by the kind of its token: '0' and '1' have one code.
+fn leaf_code(kind: u8) -> u8
+    ensures { λ r. ⌜ r ≡ leafCode kind ⌝ }
+{
+    match kind {
+        token::NAME => base_codes::item::NAME,
+        token::NUMBER => base_codes::item::NUMBER,
+        _ => base_codes::item::BIT,
+    }
+}
+
+// The expression in parentheses that begins at this token.
+fn parenthesised(
+    kinds: &[u8; limit::TEXT],
+    long: &[u8; limit::TEXT],
+    n: usize,
+    q: Pos,
+    parens: usize,
+    codes: &mut [u8; limit::TEXT],
+    tokens: &mut [u16; limit::TEXT],
+) -> Pos
+    requires { ⌜ (parens ≤ 16) × Asks n q × (q .fault ≡ 0) × (kindIn (now kinds) n (q .at) ≡ LP) ⌝ }
+    ensures { λ r. ⌜ ReadsOver primaryPart postfix (now (kinds .entry)) (now (long .entry)) n q parens (arrays (now (codes .entry)) (now (tokens .entry))) r (arrays (now (codes .exit)) (now (tokens .exit))) ⌝ }
+{
+    if parens >= limit::PARENTHESES {
+        return refused(q, refusal::LIMIT_PASSED);
+    }
+    let a = Pos {
+        fault: 0,
+        at: q.at + 1,
+        items: q.items,
+        n: q.n,
+    };
+    let b = expression(kinds, long, n, a, parens + 1, codes, tokens);
+    expect(kinds, long, n, b, token::RP)
+}
+
+// A literal or a name.
+fn leaf(
+    kinds: &[u8; limit::TEXT],
+    long: &[u8; limit::TEXT],
+    n: usize,
+    q: Pos,
+    codes: &mut [u8; limit::TEXT],
+    tokens: &mut [u16; limit::TEXT],
+) -> Pos
+    requires { ⌜ Asks n q × (oneOf (kindIn (now kinds) n (q .at)) operands ≡ true) ⌝ }
+    ensures { λ r. ⌜ ((parens : ℕ) → parens ≤ 16 → ReadsOver primaryPart postfix (now (kinds .entry)) (now (long .entry)) n q parens (arrays (now (codes .entry)) (now (tokens .entry))) r (arrays (now (codes .exit)) (now (tokens .exit)))) ⌝ }
+{
+    if q.fault != 0 {
+        return q;
+    }
+    let at = q.at;
+    let kind = kind_at(kinds, n, at);
+    let a = item(long, q);
+    put(codes, tokens, a, leaf_code(kind), at)
+}
+
+// A literal, a name or an expression in parentheses.
+fn primary(
+    kinds: &[u8; limit::TEXT],
+    long: &[u8; limit::TEXT],
+    n: usize,
+    q: Pos,
+    parens: usize,
+    codes: &mut [u8; limit::TEXT],
+    tokens: &mut [u16; limit::TEXT],
+) -> Pos
+    requires { ⌜ (parens ≤ 16) × Asks n q ⌝ }
+    ensures { λ r. ⌜ ReadsOver primaryPart postfix (now (kinds .entry)) (now (long .entry)) n q parens (arrays (now (codes .entry)) (now (tokens .entry))) r (arrays (now (codes .exit)) (now (tokens .exit))) ⌝ }
+{
+    if q.fault != 0 {
+        return q;
+    }
+    let at = q.at;
+    let kind = kind_at(kinds, n, at);
+    if kind == token::LP {
+        return parenthesised(kinds, long, n, q, parens, codes, tokens);
+    }
+    if token::is_operand(kind) {
+        return leaf(kinds, long, n, q, codes, tokens);
+    }
+    refused(q, refusal::NO_SENTENCE)
+}
+
+// A primary, perhaps behind `not`. Most are leaves, which are read at once.
+fn factor(
+    kinds: &[u8; limit::TEXT],
+    long: &[u8; limit::TEXT],
+    n: usize,
+    q: Pos,
+    parens: usize,
+    codes: &mut [u8; limit::TEXT],
+    tokens: &mut [u16; limit::TEXT],
+) -> Pos
+    requires { ⌜ (parens ≤ 16) × Asks n q ⌝ }
+    ensures { λ r. ⌜ ReadsOver factorPart postfix (now (kinds .entry)) (now (long .entry)) n q parens (arrays (now (codes .entry)) (now (tokens .entry))) r (arrays (now (codes .exit)) (now (tokens .exit))) ⌝ }
+{
+    let at = q.at;
+    let kind = kind_at(kinds, n, at);
+    if token::is_operand(kind) {
+        return leaf(kinds, long, n, q, codes, tokens);
+    }
+    if kind != token::NOT {
+        return primary(kinds, long, n, again(q), parens, codes, tokens);
+    }
+    let a = item(long, q);
+    let b = primary(kinds, long, n, a, parens, codes, tokens);
+    put(codes, tokens, b, operation::NOT, at)
+}
+
+// A further factor of a product: its operator, *, /, mod or rem, and a factor.
+fn multiplied(
+    kinds: &[u8; limit::TEXT],
+    long: &[u8; limit::TEXT],
+    n: usize,
+    q: Pos,
+    parens: usize,
+    codes: &mut [u8; limit::TEXT],
+    tokens: &mut [u16; limit::TEXT],
+) -> Pos
+    requires { ⌜ (parens ≤ 16) × Asks n q × (oneOf (kindIn (now kinds) n (q .at)) multiplying ≡ true) ⌝ }
+    ensures { λ r. ⌜ OneTurn productTail (now (kinds .entry)) (now (long .entry)) n q parens (arrays (now (codes .entry)) (now (tokens .entry))) r (arrays (now (codes .exit)) (now (tokens .exit))) ⌝ }
+{
+    let at = q.at;
+    let code = operation::operation_of(kind_at(kinds, n, at));
+    let a = item(long, q);
+    let b = factor(kinds, long, n, a, parens, codes, tokens);
+    put(codes, tokens, b, code, at)
+}
+
+// A product: the first factor, and further factors.
+fn product(
+    kinds: &[u8; limit::TEXT],
+    long: &[u8; limit::TEXT],
+    n: usize,
+    q: Pos,
+    parens: usize,
+    codes: &mut [u8; limit::TEXT],
+    tokens: &mut [u16; limit::TEXT],
+) -> Pos
+    requires { ⌜ (parens ≤ 16) × Asks n q ⌝ }
+    ensures { λ r. ⌜ ReadsOver termPart postfix (now (kinds .entry)) (now (long .entry)) n q parens (arrays (now (codes .entry)) (now (tokens .entry))) r (arrays (now (codes .exit)) (now (tokens .exit))) ⌝ }
+{
+    let mut a = factor(kinds, long, n, q, parens, codes, tokens);
+    while more_factors(kinds, n, a) {
+        a = multiplied(kinds, long, n, a, parens, codes, tokens);
+    }
+    a
+}
+
+// The first term of a sum, perhaps behind a sign, which covers the whole term.
+fn signed(
+    kinds: &[u8; limit::TEXT],
+    long: &[u8; limit::TEXT],
+    n: usize,
+    q: Pos,
+    parens: usize,
+    codes: &mut [u8; limit::TEXT],
+    tokens: &mut [u16; limit::TEXT],
+) -> Pos
+    requires { ⌜ (parens ≤ 16) × Asks n q ⌝ }
+    ensures { λ r. ⌜ PartlyOver sum (now (kinds .entry)) (now (long .entry)) n q parens (arrays (now (codes .entry)) (now (tokens .entry))) r (arrays (now (codes .exit)) (now (tokens .exit))) ⌝ }
+{
+    let at = q.at;
+    if kind_at(kinds, n, at) != token::MINUS {
+        return product(kinds, long, n, q, parens, codes, tokens);
+    }
+    let a = item(long, q);
+    let whole = product(kinds, long, n, a, parens, codes, tokens);
+    put(codes, tokens, whole, operation::SIGN, at)
+}
+
+// A further term of a sum: its operator, + or -, and a product.
+fn term(
+    kinds: &[u8; limit::TEXT],
+    long: &[u8; limit::TEXT],
+    n: usize,
+    q: Pos,
+    parens: usize,
+    codes: &mut [u8; limit::TEXT],
+    tokens: &mut [u16; limit::TEXT],
+) -> Pos
+    requires { ⌜ (parens ≤ 16) × Asks n q × (oneOf (kindIn (now kinds) n (q .at)) adding ≡ true) ⌝ }
+    ensures { λ r. ⌜ OneTurn sum (now (kinds .entry)) (now (long .entry)) n q parens (arrays (now (codes .entry)) (now (tokens .entry))) r (arrays (now (codes .exit)) (now (tokens .exit))) ⌝ }
+{
+    let at = q.at;
+    let code = operation::operation_of(kind_at(kinds, n, at));
+    let a = item(long, q);
+    let b = product(kinds, long, n, a, parens, codes, tokens);
+    put(codes, tokens, b, code, at)
+}
+
+// A sum: the first term, and further terms.
+fn simple(
+    kinds: &[u8; limit::TEXT],
+    long: &[u8; limit::TEXT],
+    n: usize,
+    q: Pos,
+    parens: usize,
+    codes: &mut [u8; limit::TEXT],
+    tokens: &mut [u16; limit::TEXT],
+) -> Pos
+    requires { ⌜ (parens ≤ 16) × Asks n q ⌝ }
+    ensures { λ r. ⌜ ReadsOver simplePart postfix (now (kinds .entry)) (now (long .entry)) n q parens (arrays (now (codes .entry)) (now (tokens .entry))) r (arrays (now (codes .exit)) (now (tokens .exit))) ⌝ }
+{
+    let mut a = signed(kinds, long, n, q, parens, codes, tokens);
+    while more_terms(kinds, n, a) {
+        a = term(kinds, long, n, a, parens, codes, tokens);
+    }
+    a
+}
+
+// A sum, or a comparison of two.
+fn relation(
+    kinds: &[u8; limit::TEXT],
+    long: &[u8; limit::TEXT],
+    n: usize,
+    q: Pos,
+    parens: usize,
+    codes: &mut [u8; limit::TEXT],
+    tokens: &mut [u16; limit::TEXT],
+) -> Pos
+    requires { ⌜ (parens ≤ 16) × Asks n q ⌝ }
+    ensures { λ r. ⌜ ReadsOver relationPart postfix (now (kinds .entry)) (now (long .entry)) n q parens (arrays (now (codes .entry)) (now (tokens .entry))) r (arrays (now (codes .exit)) (now (tokens .exit))) ⌝ }
+{
+    let a = simple(kinds, long, n, q, parens, codes, tokens);
+    let at = a.at;
+    let kind = kind_at(kinds, n, at);
+    if token::is_relational(kind) {
+        let code = operation::operation_of(kind);
+        let b = item(long, a);
+        let c = simple(kinds, long, n, b, parens, codes, tokens);
+        return put(codes, tokens, c, code, at);
+    }
+    a
+}
+
+// A further relation of a chain: its operator, and, or or xor, and a relation.
+fn joined(
+    kinds: &[u8; limit::TEXT],
+    long: &[u8; limit::TEXT],
+    n: usize,
+    q: Pos,
+    parens: usize,
+    codes: &mut [u8; limit::TEXT],
+    tokens: &mut [u16; limit::TEXT],
+) -> Pos
+    requires { ⌜ (parens ≤ 16) × Asks n q × (oneOf (kindIn (now kinds) n (q .at)) logical ≡ true) ⌝ }
+    ensures { λ r. ⌜ ((t : Tail) → operatorOf t (kindIn (now (kinds .entry)) n (q .at)) → OneTurn t (now (kinds .entry)) (now (long .entry)) n q parens (arrays (now (codes .entry)) (now (tokens .entry))) r (arrays (now (codes .exit)) (now (tokens .exit)))) ⌝ }
+{
+    let at = q.at;
+    let code = operation::operation_of(kind_at(kinds, n, at));
+    let a = item(long, q);
+    let b = relation(kinds, long, n, a, parens, codes, tokens);
+    put(codes, tokens, b, code, at)
+}
+
+// An expression: a relation, or a chain of them joined by `and` alone, `or` alone or `xor` alone.
+pub fn expression(
+    kinds: &[u8; limit::TEXT],
+    long: &[u8; limit::TEXT],
+    n: usize,
+    q: Pos,
+    parens: usize,
+    codes: &mut [u8; limit::TEXT],
+    tokens: &mut [u16; limit::TEXT],
+) -> Pos
+    requires { ⌜ (parens ≤ 16) × Asks n q ⌝ }
+    ensures { λ r. ⌜ ReadsOver expressionPart postfix (now (kinds .entry)) (now (long .entry)) n q parens (arrays (now (codes .entry)) (now (tokens .entry))) r (arrays (now (codes .exit)) (now (tokens .exit))) ⌝ }
+{
+    let mut a = relation(kinds, long, n, q, parens, codes, tokens);
+    let first = a.at;
+    let kind = kind_at(kinds, n, first);
+    if !token::is_logical(kind) {
+        return a;
+    }
+    while joins(kinds, n, a, kind) {
+        a = joined(kinds, long, n, a, parens, codes, tokens);
+    }
+    a
+}
+
+// Whether a further term follows.
+fn more_terms(kinds: &[u8; limit::TEXT], n: usize, q: Pos) -> bool
+    requires { ⌜ n ≤ 16384 ⌝ }
+    ensures { λ r. ⌜ r ≡ moreTerms (q .fault) (kindIn (now (kinds .entry)) n (q .at)) ⌝ }
+{
+    if q.fault != 0 {
+        return false;
+    }
+    token::is_adding(kind_at(kinds, n, q.at))
+}
+
+// Whether a further factor follows.
+fn more_factors(kinds: &[u8; limit::TEXT], n: usize, q: Pos) -> bool
+    requires { ⌜ n ≤ 16384 ⌝ }
+    ensures { λ r. ⌜ r ≡ moreFactors (q .fault) (kindIn (now (kinds .entry)) n (q .at)) ⌝ }
+{
+    if q.fault != 0 {
+        return false;
+    }
+    token::is_multiplying(kind_at(kinds, n, q.at))
+}
+
+// Whether the chain of this operator goes on.
+fn joins(kinds: &[u8; limit::TEXT], n: usize, q: Pos, kind: u8) -> bool
+    requires { ⌜ n ≤ 16384 ⌝ }
+    ensures { λ r. ⌜ r ≡ goesOn (q .fault) (kindIn (now (kinds .entry)) n (q .at)) kind ⌝ }
+{
+    if q.fault != 0 {
+        return false;
+    }
+    kind_at(kinds, n, q.at) == kind
+}

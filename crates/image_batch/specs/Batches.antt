@@ -1,0 +1,42 @@
+-- What a call with many rows comes to in the code, and each of its rows, by the definitions of format (document 02, slip 1). Assumes nothing.
+use mathlib.Core.Path.{_≡_}
+use mathlib.Core.Bool.{_||_}
+use mathlib.Core.List.{List}
+use Prim.Native.Nat.{ℕ, _+_}
+use lib.IntN.{ℤ}
+use borrow.Rule.Slice.PartMut.{putMid}
+use Rattle.base_answers.specs.declared.State.{State}
+use Rattle.base_answers.specs.Answers.{batchTold, isDone}
+use Rattle.base_answers.specs.Numbers.{numbersOf}
+use Rattle.spec_semantics.specs.Calls.{Called}
+use Rattle.spec_semantics.specs.Advances.{cycleAnswer}
+use Rattle.spec_format.specs.Batch.{rowsLeft, answersLeft, stateLeft, onePerformed, Batch, batchAnswer, isMoved}
+use Rattle.image_batch.specs.declared.Outcome.{Outcome}
+use Rattle.image_batch.specs.declared.Widths.{Widths}
+use Rattle.image_batch.specs.declared.Progress.{Progress}
+
+-- the outcome r, and the outputs u and the answers v as they are left, are those of the call c; it says whether a row was performed
+pub record Batches (c : Batch) (r : Outcome) (u : List ℤ) (v : List ℕ) : Type 0 where
+  pub answer : batchTold (r .answer) ≡ batchAnswer (c .answer)
+  pub state : r .state ≡ c .state
+  pub rows : u ≡ c .rows
+  pub answers : v ≡ c .answers
+  pub performed : r .performed ≡ isMoved (c .answer)
+
+-- one row more: the call c from where p stands, whose row and three numbers are put into their own parts of the outputs os and the answers ns; u and v are these
+-- as they are left
+pub record Steps (c : Called) (w : Widths) (p q : Progress) (os u : List ℤ) (ns v : List ℕ) : Type 0 where
+  pub input : q .input ≡ p .input + w .inputs
+  pub output : q .output ≡ p .output + w .outputs
+  pub answer : q .answer ≡ p .answer + 3
+  pub performed : q .performed ≡ (p .performed || isDone (cycleAnswer (c .answer)))
+  pub state : q .state ≡ c .state
+  pub rows : u ≡ putMid (p .output) (w .outputs) os (c .row)
+  pub answers : v ≡ putMid (p .answer) 3 ns (numbersOf (cycleAnswer (c .answer)))
+
+-- all rows: the calls rs from the state s
+pub record Runs (rs : List Called) (s : State) (q : Progress) (u : List ℤ) (v : List ℕ) : Type 0 where
+  pub performed : q .performed ≡ onePerformed rs
+  pub state : q .state ≡ stateLeft s rs
+  pub rows : u ≡ rowsLeft rs
+  pub answers : v ≡ answersLeft rs

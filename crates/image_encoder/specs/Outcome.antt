@@ -1,0 +1,39 @@
+-- What encoding into a lent buffer answers and leaves there: refusal 10 with the bytes needed, or the image's own bytes and no other. Assumes nothing.
+use mathlib.Core.Path.{_≡_}
+use mathlib.Core.Bool.{Bool, _&&_}
+use mathlib.Core.List.{List}
+use Prim.Native.Nat.{ℕ}
+use lib.IntN.{ℤ}
+use lib.Seq.{sets}
+use lib.Dec.{leb}
+use Rattle.base_answers.specs.Answers.{Told, done, refusal}
+use Rattle.base_codes.specs.Limit as L
+use Rattle.spec_design.specs.Process.{Process, WellFormed}
+use Rattle.base_ir.specs.Arrays.{BodyIn, NamesIn}
+use Rattle.spec_format.specs.Lines.{linesOf, reachesOf}
+use Rattle.spec_format.specs.Image.{rawsOf, rawsBytes}
+use Rattle.spec_format.specs.Encode.{encode}
+use Rattle.spec_format.specs.Writing.{writtenInto}
+use Rattle.image_encoder.specs.declared.Encoded.{Encoded}
+use Rattle.image_encoder.specs.declared.Encoded.the-variants.{Written, TooShort}
+
+-- what is told of it: the bytes written; or 10, "image buffer too short", at "bytes needed"
+abbrev pub encodedTold : Encoded → Told ℕ
+encodedTold (Written n) = done n
+encodedTold (TooShort n) = refusal 10 n
+
+-- of every process whose body the arrays hold: its lines section is stored from a place on, and all else is as it was
+abbrev pub LinesStored : List ℕ → List ℕ → ℕ → ℕ → List ℕ → List ℕ → Type 0
+LinesStored codes rows n at before after =
+    (p : Process) (args : List ℤ) (k : ℕ) → BodyIn p codes args rows k n → WellFormed p
+    → after ≡ sets before at (rawsBytes (rawsOf 0 (linesOf (p .body)) (reachesOf (p .body))))
+
+-- of every process that the arrays hold: the answer, and the buffer as it is left
+abbrev pub Encodes : List ℕ → List ℤ → ℕ → List ℕ → ℕ → List ℕ → List ℕ → List ℕ → List ℤ → List ℤ → ℕ → ℕ → ℕ → List ℕ → List ℕ → Encoded → Type 0
+Encodes codes args k rows n is os vs atOutputs atVariables i o v before after answer =
+    (p : Process) → BodyIn p codes args rows k n → NamesIn p is os vs atOutputs atVariables i o v → WellFormed p
+    → (encodedTold answer ≡ writtenInto (encode p) before .answer) × (after ≡ writtenInto (encode p) before .buffer)
+
+-- "Limits": counts that a design can have; a text of 16,384 bytes has no more operations. Other counts get no byte written and 0 bytes needed
+abbrev pub countsOk : ℕ → ℕ → ℕ → ℕ → ℕ → Bool
+countsOk k n i o v = leb k L.TEXT && (leb n L.STATEMENTS && (leb i L.INPUTS && (leb o L.OUTPUTS && leb v L.VARIABLES)))

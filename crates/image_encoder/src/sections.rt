@@ -1,0 +1,226 @@
+// The sections of an image stored into a buffer, each at its place: header, signature, lines, code.
+ghost use mathlib.Core.Path.{_≡_};
+ghost use Prim.Native.Nat.{_<_, _≤_, min};
+ghost use lib.IntN.{pos};
+ghost use lib.ListN.{getD};
+ghost use lib.Seq.{sets};
+ghost use Rattle.base_codes.specs.Image.{HEADER};
+ghost use Rattle.base_ir.specs.Arrays.{rowIn};
+ghost use Rattle.spec_format.specs.Image.{rawBytes, rawsBytes};
+ghost use Rattle.image_flow.specs.Followers.{links};
+ghost use Rattle.image_encoder.specs.Emitted.{codeFrom, runWidth, kindByte, lineAt, linesFrom, typesFrom, cellsFrom, signatureFrom, headerOf};
+use crate::bytes::put;
+use crate::bytes::put_cell;
+use crate::bytes::put_line;
+use crate::bytes::put_op;
+use crate::bytes::put2;
+use crate::bytes::put4;
+use base_codes::image;
+use base_codes::limit;
+use base_codes::operation::width;
+use base_codes::statement;
+use image_flow::number;
+
+// The value at an index, or 0 past the end.
+fn value(s: &[i32], i: usize) -> i32
+    ensures { λ r. ⌜ r ≡ getD (now (s .entry)) i (pos 0) ⌝ }
+{
+    if i < s.len() { s[i] } else { 0 }
+}
+
+// The header of an image whose sections have these lengths.
+pub(crate) fn put_header(image: &mut [u8], s: usize, l: usize, c: usize)
+    requires { ⌜ (s < 1000000) × (l < 1000000) × (c < 1000000) ⌝ }
+    ensures { λ _. ⌜ now (image .exit) ≡ sets (now (image .entry)) 0 (headerOf s l c) ⌝ }
+{
+    put2(image, image::FORM, image::FORM_1);
+    put2(image, image::SECTIONS, image::THREE);
+    put4(image, image::SIGNATURE, image::FIRST);
+    put4(image, image::SIGNATURE_SIZE, s as u32);
+    put4(image, image::LINES, (image::HEADER + s) as u32);
+    put4(image, image::LINES_SIZE, l as u32);
+    put4(image, image::CODE, (image::HEADER + s + l) as u32);
+    put4(image, image::CODE_SIZE, c as u32);
+}
+
+// n type bytes.
+fn put_types(image: &mut [u8], at: usize, types: &[u8], n: usize)
+    requires { ⌜ (at < 1000) × (n ≤ 32) ⌝ }
+    ensures { λ _. ⌜ now (image .exit) ≡ sets (now (image .entry)) at (typesFrom (now (types .entry)) 0 n) ⌝ }
+{
+    let mut k = 0;
+    while k < n {
+        put(image, at + k, base_words::byte(types, k));
+        k += 1;
+    }
+}
+
+// n types with their initial values.
+fn put_cells(image: &mut [u8], at: usize, types: &[u8], values: &[i32], n: usize)
+    requires { ⌜ (at < 1000) × (n ≤ 32) ⌝ }
+    ensures { λ _. ⌜ now (image .exit) ≡ sets (now (image .entry)) at (cellsFrom (now (types .entry)) (now (values .entry)) 0 n) ⌝ }
+{
+    let mut k = 0;
+    while k < n {
+        put_cell(
+            image,
+            at + image::SLOT * k,
+            base_words::byte(types, k),
+            value(values, k),
+        );
+        k += 1;
+    }
+}
+
+// The signature section.
+pub(crate) fn put_signature(
+    image: &mut [u8],
+    is: &[u8],
+    os: &[u8],
+    vs: &[u8],
+    at_outputs: &[i32],
+    at_variables: &[i32],
+    i: usize,
+    o: usize,
+    v: usize,
+)
+    requires { ⌜ (i ≤ 16) × (o ≤ 16) × (v ≤ 32) ⌝ }
+    ensures { λ _. ⌜ now (image .exit) ≡ sets (now (image .entry)) HEADER (signatureFrom (now (is .entry)) (now (os .entry)) (now (vs .entry)) (now («at_outputs» .entry)) (now («at_variables» .entry)) i o v) ⌝ }
+{
+    put(image, image::INPUT_COUNT, i as u8);
+    put(image, image::OUTPUT_COUNT, o as u8);
+    put(image, image::VARIABLE_COUNT, v as u8);
+    put_types(image, image::INPUT_TYPES, is, i);
+    put_cells(image, image::INPUT_TYPES + i, os, at_outputs, o);
+    put_cells(
+        image,
+        image::INPUT_TYPES + i + image::SLOT * o,
+        vs,
+        at_variables,
+        v,
+    );
+}
+
+// The lower of a number and 16384.
+fn bounded(n: usize) -> usize
+    ensures { λ r. ⌜ r ≡ min n 16384 ⌝ }
+{
+    if n < limit::TEXT { n } else { limit::TEXT }
+}
+
+// How many bytes the operations from an index up to another have.
+pub(crate) fn run_width(codes: &[u8; limit::TEXT], from: usize, to: usize) -> usize
+    ensures { λ r. ⌜ r ≡ runWidth (now (codes .entry)) from to ⌝ }
+    ensures { λ r. ⌜ r ≤ 81920 ⌝ }
+{
+    let stop = bounded(to);
+    let mut i = from;
+    let mut w = 0;
+    while i < stop {
+        w += width(codes[i]);
+        i += 1;
+    }
+    w
+}
+
+// How many bytes there are.
+const BYTES: u16 = u8::MAX as u16 + 1;
+
+// The kind byte of a line: a loop is a branch.
+fn kind_byte(kind: u16) -> u8
+    ensures { λ r. ⌜ r ≡ kindByte kind ⌝ }
+{
+    if kind == statement::WHILE {
+        return image::BRANCH;
+    }
+    (kind % BYTES) as u8
+}
+
+// The line of statement j.
+fn put_row(
+    image: &mut [u8],
+    at: usize,
+    rows: &[u16; statement::ROWS],
+    j: usize,
+    offset: usize,
+    size: usize,
+    next: u16,
+    other: u16,
+    reach: u16,
+)
+    requires { ⌜ (at < 900000) × (j < 512) × (offset < 50000000) × (size < 100000) ⌝ }
+    ensures { λ _. ⌜ now (image .exit) ≡ sets (now (image .entry)) at (rawBytes (lineAt (rowIn (now (rows .entry)) j) offset size next other reach)) ⌝ }
+{
+    let kind = kind_byte(number(rows, statement::ROW * j));
+    let target = (number(rows, statement::ROW * j + statement::TARGET) % BYTES) as u8;
+    put_line(
+        image,
+        at,
+        kind,
+        target,
+        offset as u32,
+        size as u32,
+        next,
+        other,
+        reach,
+    );
+}
+
+// The lines of n statements with these followers and reaches.
+pub(crate) fn put_lines(
+    image: &mut [u8],
+    at: usize,
+    codes: &[u8; limit::TEXT],
+    rows: &[u16; statement::ROWS],
+    n: usize,
+    next: &[u16],
+    other: &[u16],
+    reaches: &[u16],
+)
+    requires { ⌜ (at < 1000) × (n ≤ 512) ⌝ }
+    ensures { λ _. ⌜ now (image .exit) ≡ sets (now (image .entry)) at (rawsBytes (linesFrom (now (codes .entry)) (now (rows .entry)) (links (now (next .entry)) (now (other .entry))) (now (reaches .entry)) 0 n 0)) ⌝ }
+{
+    let mut j = 0;
+    let mut p = 0;
+    while j < n {
+        let size = run_width(
+            codes,
+            number(rows, statement::ROW * j + statement::FROM) as usize,
+            number(rows, statement::ROW * j + statement::TO) as usize,
+        );
+        put_row(
+            image,
+            at + image::LINE * j,
+            rows,
+            j,
+            p,
+            size,
+            number(next, j),
+            number(other, j),
+            number(reaches, j),
+        );
+        p += size;
+        j += 1;
+    }
+}
+
+// The code of k operations.
+pub(crate) fn put_code(
+    image: &mut [u8],
+    at: usize,
+    codes: &[u8; limit::TEXT],
+    args: &[i32; limit::TEXT],
+    k: usize,
+)
+    requires { ⌜ (at < 100000) × (k ≤ 16384) ⌝ }
+    ensures { λ _. ⌜ now (image .exit) ≡ sets (now (image .entry)) at (codeFrom (now (codes .entry)) (now (args .entry)) 0 k) ⌝ }
+{
+    let mut i = 0;
+    let mut p = at;
+    while i < k {
+        let code = codes[i];
+        put_op(image, p, code, args[i]);
+        p += width(code);
+        i += 1;
+    }
+}

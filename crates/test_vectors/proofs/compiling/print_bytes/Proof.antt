@@ -1,0 +1,30 @@
+-- `test_vectors::compiling::print_bytes` is safe and ends: at most as many turns as there are bytes. Assumes nothing.
+use Prim.Native.Nat.{_-_}
+use lib.ListN.{length}
+use borrow.Author.Needs.{needs}
+use Rattle.test_vectors.proofs.compiling.print_bytes.Statement.{statement}
+use Rattle.test_vectors.proofs.compiling.print_bytes.Tie as tie
+
+abbrev Inv-loop : tie.InvT-loop
+Inv-loop bytes k₀ k = Unit {0}
+
+abbrev μ-loop : tie.MeasureT-loop
+μ-loop bytes k₀ k = length bytes - k
+
+pub print-bytes-spec : {M : Type 1} → statement M
+print-bytes-spec =
+    tie.close
+    (tie.spec
+    Inv-loop
+    μ-loop
+    (λ c. search needs)
+    (λ c κs. search needs)
+    (λ c. search needs)
+    (λ c κs. search needs)
+    (λ c κs. search needs)
+    (λ c. search needs)
+    (λ c κs. search needs)
+    (λ c. search needs)
+    (λ c. search needs)
+    (λ c. search needs)
+    (λ c. search needs))
