@@ -28,7 +28,8 @@ opened-numbers b (opened t) = refl
 opened-numbers b (not-opened q k) = refl
 
 -- a fresh state asked for: a is the code's answer, t what the code asks before it stores, n the three numbers, l the 49 numbers before
-module _ (f : Started) (a : declared.Started) (t : Bool) (n : List ℕ) (l : List ℤ) (e : freshTold a ≡ freshAnswer f) (g : n ≡ startedNumbers a) (h : t ≡ isFresh a) where
+module _ (f : Started) (a : declared.Started) (t : Bool) (n : List ℕ) (l : List ℤ) (e : freshTold a ≡ freshAnswer f) (g : n ≡ startedNumbers a)
+    (h : t ≡ isFresh a) where
   numbers : (x : Started) → numbersOf (uncounted (freshAnswer x)) ≡ startLeft x l .0
   numbers (fresh s) = refl
   numbers (not-started q k) = refl
@@ -63,7 +64,8 @@ module _ (call : State → Called) (l : List ℤ) where
   abbrev pub After : List ℕ → List ℤ → List ℤ → Type 0
   After n c u = (n ≡ cycleLeft call l .answer) × (c ≡ cycleLeft call l .slots) × (u ≡ cycleLeft call l .row)
 
-  pub cycled-stored : (s x : State) (a : Cycled) (t : Bool) (n : List ℕ) (c u : List ℤ) → s ≡ stateOfC l → cycleTold a ≡ cycleAnswer (call s .answer) → x ≡ call s .state → u ≡ call s .row
+  pub cycled-stored : (s x : State) (a : Cycled) (t : Bool) (n : List ℕ) (c u : List ℤ) → s ≡ stateOfC l → cycleTold a ≡ cycleAnswer (call s .answer)
+      → x ≡ call s .state → u ≡ call s .row
       → n ≡ cycledNumbers a → t ≡ isPerformed a → t ≡ true → c ≡ cOfState x → After n c u
   cycled-stored s x a t n c u e f g h i j k m =
       let f′ = f ∙ ap (λ s. cycleAnswer (call s .answer)) e in (
@@ -72,7 +74,8 @@ module _ (call : State → Called) (l : List ℤ) where
         h ∙ ap (λ s. call s .row) e,
       )
 
-  pub cycled-kept : (s : State) (a : Cycled) (t : Bool) (n : List ℕ) (u : List ℤ) → s ≡ stateOfC l → cycleTold a ≡ cycleAnswer (call s .answer) → u ≡ call s .row
+  pub cycled-kept : (s : State) (a : Cycled) (t : Bool) (n : List ℕ) (u : List ℤ) → s ≡ stateOfC l → cycleTold a ≡ cycleAnswer (call s .answer)
+      → u ≡ call s .row
       → n ≡ cycledNumbers a → t ≡ isPerformed a → t ≡ false → After n l u
   cycled-kept s a t n u e f h i j k =
       let f′ = f ∙ ap (λ s. cycleAnswer (call s .answer)) e in (
@@ -85,28 +88,33 @@ module _ (call : State → Called) (l : List ℤ) where
 module _ (image : List ℕ) (l : List ℤ) (n : ℕ) (is os : List ℤ) (ns : List ℕ) where
   abbrev pub AfterRows : List ℕ → List ℤ → List ℤ → List ℕ → Type 0
   AfterRows m c u v =
-      (m ≡ batchInC image l n is os ns .answer) × (c ≡ batchInC image l n is os ns .slots) × (u ≡ batchInC image l n is os ns .rows) × (v ≡ batchInC image l n is os ns .answers)
+      (m ≡ batchInC image l n is os ns .answer) × (c ≡ batchInC image l n is os ns .slots) × (u ≡ batchInC image l n is os ns .rows)
+      × (v ≡ batchInC image l n is os ns .answers)
 
   told : (a : Told (List Called)) → numbersOf (uncounted (batchAnswer a)) ≡ numbersOf (uncounted a)
   told (done rs) = refl
   told (refusal q k) = refl
 
   -- the outcome is that of the record that the 49 numbers hold
-  left : (s : State) (r : Outcome) (m : List ℕ) (c u : List ℤ) (v : List ℕ) → s ≡ stateOfC l → Batches (batchOf image s n is os ns) r u v → m ≡ batchedNumbers (r .answer)
+  left : (s : State) (r : Outcome) (m : List ℕ) (c u : List ℤ) (v : List ℕ) → s ≡ stateOfC l → Batches (batchOf image s n is os ns) r u v
+      → m ≡ batchedNumbers (r .answer)
       → c ≡ cond (r .performed) (cOfState (r .state)) l → AfterRows m c u v
   left s r m c u v e h i j =
       let k : Batches (batchOf image (stateOfC l) n is os ns) r u v = subst (λ (x : State). Batches (batchOf image x n is os ns) r u v) e h in (
         i ∙ ap (λ (x : Told (Unit {0})). numbersOf (uncounted x)) (k .answer) ∙ told (batchOf image (stateOfC l) n is os ns .answer),
         j ∙ ap (λ (x : Bool). cond x (cOfState (r .state)) l) (k .performed)
-            ∙ ap (λ (x : State). cond (isMoved (batchOf image (stateOfC l) n is os ns .answer)) (cOfState x) l) (k .state) ∙ sym (slots-moved image l n is os ns),
+            ∙ ap (λ (x : State). cond (isMoved (batchOf image (stateOfC l) n is os ns .answer)) (cOfState x) l) (k .state)
+            ∙ sym (slots-moved image l n is os ns),
         k .rows,
         k .answers,
       )
 
-  pub rows-stored : (s : State) (r : Outcome) (m : List ℕ) (c u : List ℤ) (v : List ℕ) → s ≡ stateOfC l → Batches (batchOf image s n is os ns) r u v → m ≡ batchedNumbers (r .answer)
+  pub rows-stored : (s : State) (r : Outcome) (m : List ℕ) (c u : List ℤ) (v : List ℕ) → s ≡ stateOfC l → Batches (batchOf image s n is os ns) r u v
+      → m ≡ batchedNumbers (r .answer)
       → r .performed ≡ true → c ≡ cOfState (r .state) → AfterRows m c u v
   rows-stored s r m c u v e h i t j = left s r m c u v e h i (j ∙ sym (ap (λ (x : Bool). cond x (cOfState (r .state)) l) t))
 
-  pub rows-kept : (s : State) (r : Outcome) (m : List ℕ) (u : List ℤ) (v : List ℕ) → s ≡ stateOfC l → Batches (batchOf image s n is os ns) r u v → m ≡ batchedNumbers (r .answer)
+  pub rows-kept : (s : State) (r : Outcome) (m : List ℕ) (u : List ℤ) (v : List ℕ) → s ≡ stateOfC l → Batches (batchOf image s n is os ns) r u v
+      → m ≡ batchedNumbers (r .answer)
       → r .performed ≡ false → AfterRows m l u v
   rows-kept s r m u v e h i t = left s r m l u v e h i (sym (ap (λ (x : Bool). cond x (cOfState (r .state)) l) t))

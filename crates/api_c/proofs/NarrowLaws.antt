@@ -1,5 +1,5 @@
 -- Place and count of every answer have 32 bits: all are at most 65,535 (spec_promises/proofs/Places.antt); those of calls on an
--- image are `cycle-narrow` (spec_images/proofs/Places.antt) and `batch-narrow` (spec_promises/proofs/Batch.antt). Assumes nothing.
+-- image are `cycle-narrow` (spec_simulation/proofs/Places.antt) and `batch-narrow` (spec_promises/proofs/Batch.antt). Assumes nothing.
 use mathlib.Core.Path.{_≡_, refl, sym}
 use mathlib.Core.List.{List}
 use Prim.Native.Nat.{ℕ, _≤_}
@@ -20,14 +20,15 @@ use Rattle.spec_format.specs.Opening.{Opened, opened, not-opened, openOf}
 use Rattle.spec_format.specs.State.{freshOf}
 use Rattle.spec_behaviour.specs.Direct.{directOf, directFresh}
 use Rattle.spec_promises.specs.Compile.{compileOf}
-use Rattle.spec_images.proofs.Places.{open-place}
+use Rattle.spec_simulation.proofs.Places.{open-place}
 use Rattle.spec_promises.proofs.Places.{compile-place, compile-count, fresh-place, direct-place, direct-count, direct-fresh-place}
 use Rattle.image_loader.specs.Open.{openAnswer}
 use Rattle.base_answers.specs.Numbers.{Narrow, numbersOf, uncounted, compiledNumbers, openedNumbers, startedNumbers, cycledNumbers}
 use Rattle.base_answers.proofs.Narrow.{narrowed, refused-narrow, done-narrow}
 
 -- a cycle's answer
-cycled-narrow : (a : Answer) → ((w : List ℕ) → a ≡ performed w → length w ≤ 512) → ((q k : ℕ) → a ≡ not-performed q k → k ≤ 16384) → Narrow (numbersOf (cycleAnswer a))
+cycled-narrow : (a : Answer) → ((w : List ℕ) → a ≡ performed w → length w ≤ 512) → ((q k : ℕ) → a ≡ not-performed q k → k ≤ 16384)
+    → Narrow (numbersOf (cycleAnswer a))
 cycled-narrow (performed w) f g = let h = f w refl in done-narrow (length w) (omega arith)
 cycled-narrow (not-performed q k) f g = let h = g q k refl in refused-narrow q k (omega arith)
 

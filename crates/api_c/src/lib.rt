@@ -52,9 +52,10 @@ pub extern "C" fn rabtishu_cycle(
     row: &mut [i32],
     answer: &mut [u32; ANSWER],
 )
-    ensures { λ _. ⌜ (now (answer .exit) ≡ cycleInC (now (image .entry)) (now (state .entry)) (now (inputs .entry)) (now (row .entry)) .answer)
-        × (now (state .exit) ≡ cycleInC (now (image .entry)) (now (state .entry)) (now (inputs .entry)) (now (row .entry)) .slots)
-        × (now (row .exit) ≡ cycleInC (now (image .entry)) (now (state .entry)) (now (inputs .entry)) (now (row .entry)) .row) ⌝ }
+    ensures { λ _. ⌜ (let c = cycleInC (now (image .entry)) (now (state .entry)) (now (inputs .entry)) (now (row .entry)) in
+        (now (answer .exit) ≡ c .answer)
+        × (now (state .exit) ≡ c .slots)
+        × (now (row .exit) ≡ c .row)) ⌝ }
 {
     let before = *state;
     let s = record::to_state(before);
@@ -80,10 +81,11 @@ pub extern "C" fn rabtishu_cycles(
     answers: &mut [u32],
     answer: &mut [u32; ANSWER],
 )
-    ensures { λ _. ⌜ (now (answer .exit) ≡ batchInC (now (image .entry)) (now (state .entry)) count (now (inputs .entry)) (now (outputs .entry)) (now (answers .entry)) .answer)
-        × (now (state .exit) ≡ batchInC (now (image .entry)) (now (state .entry)) count (now (inputs .entry)) (now (outputs .entry)) (now (answers .entry)) .slots)
-        × (now (outputs .exit) ≡ batchInC (now (image .entry)) (now (state .entry)) count (now (inputs .entry)) (now (outputs .entry)) (now (answers .entry)) .rows)
-        × (now (answers .exit) ≡ batchInC (now (image .entry)) (now (state .entry)) count (now (inputs .entry)) (now (outputs .entry)) (now (answers .entry)) .answers) ⌝ }
+    ensures { λ _. ⌜ (let c = batchInC (now (image .entry)) (now (state .entry)) count (now (inputs .entry)) (now (outputs .entry)) (now (answers .entry)) in
+        (now (answer .exit) ≡ c .answer)
+        × (now (state .exit) ≡ c .slots)
+        × (now (outputs .exit) ≡ c .rows)
+        × (now (answers .exit) ≡ c .answers)) ⌝ }
 {
     let before = *state;
     let s = record::to_state(before);
@@ -127,9 +129,10 @@ pub extern "C" fn rabtishu_direct(
     row: &mut [i32],
     answer: &mut [u32; ANSWER],
 )
-    ensures { λ _. ⌜ (now (answer .exit) ≡ directInC (now (text .entry)) (now (state .entry)) (now (inputs .entry)) (now (row .entry)) .answer)
-        × (now (state .exit) ≡ directInC (now (text .entry)) (now (state .entry)) (now (inputs .entry)) (now (row .entry)) .slots)
-        × (now (row .exit) ≡ directInC (now (text .entry)) (now (state .entry)) (now (inputs .entry)) (now (row .entry)) .row) ⌝ }
+    ensures { λ _. ⌜ (let c = directInC (now (text .entry)) (now (state .entry)) (now (inputs .entry)) (now (row .entry)) in
+        (now (answer .exit) ≡ c .answer)
+        × (now (state .exit) ≡ c .slots)
+        × (now (row .exit) ≡ c .row)) ⌝ }
 {
     let before = *state;
     let s = record::to_state(before);

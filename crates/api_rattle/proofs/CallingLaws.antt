@@ -18,7 +18,8 @@ use Rattle.spec_semantics.specs.Advances.{startOf, cycleAnswer, freshAnswer}
 use Rattle.api_rattle.specs.Calling.{DirectOutcomes, Starting}
 
 module _ (text : List ℕ) (s : State) (i o : List ℤ) (a : Advanced) (u : List ℤ)
-    (h : (cycleTold (a .answer) ≡ cycleAnswer (directOf text s (callOf i o) .answer)) × (a .state ≡ directOf text s (callOf i o) .state) × (u ≡ directOf text s (callOf i o) .row)) where
+    (h : (cycleTold (a .answer) ≡ cycleAnswer (directOf text s (callOf i o) .answer)) × (a .state ≡ directOf text s (callOf i o) .state)
+    × (u ≡ directOf text s (callOf i o) .row)) where
   refused-kept : isPerformed (a .answer) ≡ false → directOf text s (callOf i o) .state ≡ s
   refused-kept e = on (directOf text s (callOf i o) .answer) refl
     where
@@ -31,6 +32,7 @@ module _ (text : List ℕ) (s : State) (i o : List ℤ) (a : Advanced) (u : List
   outcome-of p e = record { answer = h .0; state = h .1; row = h .2; kept = λ f. refused-kept (sym e ∙ f) }
 
 -- a fresh state asked for
-pub start-of : (f : Started) (a : declared.Started) (s : State) (d : Bool) → (freshTold a ≡ freshAnswer f) × (s ≡ startOf f) → d ≡ isFresh a → Starting f (record { done = d; state = s; answer = a })
+pub start-of : (f : Started) (a : declared.Started) (s : State) (d : Bool) → (freshTold a ≡ freshAnswer f) × (s ≡ startOf f) → d ≡ isFresh a
+    → Starting f (record { done = d; state = s; answer = a })
 start-of (fresh x) a s d h j = record { answer = h .0; stored = λ w t. h .1; kept = λ w t. false-true (sym w ∙ j ∙ ap isDone (h .0)) }
 start-of (not-started q k) a s d h j = record { answer = h .0; stored = λ w t. false-true (sym (j ∙ ap isDone (h .0)) ∙ w); kept = λ w t. refl }

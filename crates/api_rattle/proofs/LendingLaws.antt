@@ -9,7 +9,7 @@ use denote.Ref.{RefT, now}
 use Rattle.base_answers.specs.Answers.{done, refusedBy, numberOf, placeOf}
 use Rattle.base_answers.specs.declared.Refusal.{Refusal}
 use Rattle.base_answers.specs.declared.Sections.{Sections}
-use Rattle.spec_format.specs.Opening.{opened, openOf}
+use Rattle.spec_format.specs.Opening.{openOf}
 use Rattle.image_loader.specs.Open.{openAnswer}
 use Rattle.image_loader.proofs.OpenLaws.{image-opened, image-refused}
 use Rattle.spec_promises.specs.Lending.{within, Lends}
@@ -17,7 +17,8 @@ use Rattle.api_rattle.specs.Lending.{noSections, openingOf}
 use Rattle.api_rattle.specs.declared.Opening.{Opening}
 
 -- an image that opens
-pub found-image : (b : List ℕ) (x : Sections) → done x ≡ openAnswer b (openOf b) → _≡_ {A = Opening} (record { number = 0; place = 0; sections = x }) (openingOf b)
+pub found-image : (b : List ℕ) (x : Sections) → done x ≡ openAnswer b (openOf b)
+    → _≡_ {A = Opening} (record { number = 0; place = 0; sections = x }) (openingOf b)
 found-image b x e = let g = image-opened b x e in rw (g .1, g .2)
 
 -- an image that is refused
@@ -26,7 +27,8 @@ pub found-none : (b : List ℕ) (r : Refusal) (n p : ℕ) → refusedBy r ≡ op
 found-none b r n p e f g = rw (f, g, image-refused b r e)
 
 -- bounds that lie in the bytes, and bounds that do not
-pub lent : (s r : RefT (List ℕ)) (a e : ℕ) → a ≤ e → e ≤ length (now s) → now r ≡ take (e - a) (drop a (now s)) → r .ptr .0 ≡ s .ptr .0 → r .ptr .1 ≡ s .ptr .1 + a
+pub lent : (s r : RefT (List ℕ)) (a e : ℕ) → a ≤ e → e ≤ length (now s) → now r ≡ take (e - a) (drop a (now s)) → r .ptr .0 ≡ s .ptr .0
+    → r .ptr .1 ≡ s .ptr .1 + a
     → Lends s a e r
 lent s r a e h j f g i =
     let w : within (now s) a e ≡ true = rw (le-leb a e h, le-leb e (length (now s)) j) in

@@ -45,9 +45,10 @@ fn direct_outcome(text: &[u8], s: State, inputs: &[i32], row: &mut [i32]) -> Out
 
 // One cycle from a text, without an image.
 pub fn direct(text: &[u8], state: &mut State, inputs: &[i32], row: &mut [i32]) -> Cycled
-    ensures { λ r. ⌜ (cycleTold r ≡ cycleAnswer (directOf (now (text .entry)) (now (state .entry)) (callOf (now (inputs .entry)) (now (row .entry))) .answer))
-        × (now (state .exit) ≡ directOf (now (text .entry)) (now (state .entry)) (callOf (now (inputs .entry)) (now (row .entry))) .state)
-        × (now (row .exit) ≡ directOf (now (text .entry)) (now (state .entry)) (callOf (now (inputs .entry)) (now (row .entry))) .row) ⌝ }
+    ensures { λ r. ⌜ (let c = directOf (now (text .entry)) (now (state .entry)) (callOf (now (inputs .entry)) (now (row .entry))) in
+        (cycleTold r ≡ cycleAnswer (c .answer))
+        × (now (state .exit) ≡ c .state)
+        × (now (row .exit) ≡ c .row)) ⌝ }
 {
     let r = direct_outcome(text, *state, inputs, row);
     if r.performed {

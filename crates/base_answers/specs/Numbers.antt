@@ -21,7 +21,7 @@ abbrev pub uncounted : {A : Type 0} → Told A → Told ℕ
 uncounted (done x) = done 0
 uncounted (refusal q k) = refusal q k
 
--- place and count of an answer's three numbers have 32 bits; spec_images/proofs/Places.antt and spec_promises/specs/Places.antt say that those of every call do
+-- place and count of an answer's three numbers have 32 bits; spec_simulation/proofs/Places.antt and spec_promises/specs/Places.antt say that those of every call do
 pub record Narrow (a : List ℕ) : Type 0 where
   pub place : getD a 1 0 < 2 ^ 32
   pub count : getD a 2 0 < 2 ^ 32

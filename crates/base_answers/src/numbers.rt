@@ -1,4 +1,4 @@
-// The three numbers of an answer: the refusal's number or 0, its place or 0, a count. Callers show that place and count have 32 bits, by spec_images/proofs/Places
+// The three numbers of an answer: the refusal's number or 0, its place or 0, a count. Callers show that place and count have 32 bits, by spec_simulation/proofs/Places
 // and by the theorem `places-fit` of the crate spec_promises; so the casts lose nothing.
 ghost use mathlib.Core.Path.{_≡_};
 ghost use Prim.Native.Nat.{_<_, _^_};

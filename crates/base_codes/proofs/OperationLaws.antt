@@ -11,9 +11,27 @@ use Rattle.base_codes.specs.Operation.{PLUS, unaryCode, binaryCode, unar
 use Rattle.base_codes.proofs.Finite.{all, answers}
 
 -- a kind that is no operator's
-pub no-operation : (k : ℕ) → (k ≡ 11 → ⊥) → (k ≡ 12 → ⊥) → (k ≡ 13 → ⊥) → (k ≡ 14 → ⊥) → (k ≡ 15 → ⊥) → (k ≡ 16 → ⊥) → (k ≡ 17 → ⊥) → (k ≡ 18 → ⊥) → (k ≡ 19 → ⊥) → (k ≡ 20 → ⊥) → (k ≡ 21 → ⊥) → (k ≡ 44 → ⊥) → (k ≡ 45 → ⊥) → (k ≡ 46 → ⊥) → (k ≡ 47 → ⊥) → 0 ≡ operationOf k
+pub no-operation : (k : ℕ) → (k ≡ 11 → ⊥) → (k ≡ 12 → ⊥) → (k ≡ 13 → ⊥) → (k ≡ 14 → ⊥) → (k ≡ 15 → ⊥) → (k ≡ 16 → ⊥) → (k ≡ 17 → ⊥) → (k ≡ 18 → ⊥)
+    → (k ≡ 19 → ⊥) → (k ≡ 20 → ⊥) → (k ≡ 21 → ⊥) → (k ≡ 44 → ⊥) → (k ≡ 45 → ⊥) → (k ≡ 46 → ⊥) → (k ≡ 47 → ⊥) → 0 ≡ operationOf k
 unfolding operationOf operatorOf codeOr
-no-operation k h0 h1 h2 h3 h4 h5 h6 h7 h8 h9 h10 h11 h12 h13 h14 = rw (ne-eqb k 11 h0, ne-eqb k 12 h1, ne-eqb k 13 h2, ne-eqb k 14 h3, ne-eqb k 15 h4, ne-eqb k 16 h5, ne-eqb k 17 h6, ne-eqb k 18 h7, ne-eqb k 19 h8, ne-eqb k 20 h9, ne-eqb k 21 h10, ne-eqb k 44 h11, ne-eqb k 45 h12, ne-eqb k 46 h13, ne-eqb k 47 h14)
+no-operation k h0 h1 h2 h3 h4 h5 h6 h7 h8 h9 h10 h11 h12 h13 h14 =
+    rw (
+      ne-eqb k 11 h0,
+      ne-eqb k 12 h1,
+      ne-eqb k 13 h2,
+      ne-eqb k 14 h3,
+      ne-eqb k 15 h4,
+      ne-eqb k 16 h5,
+      ne-eqb k 17 h6,
+      ne-eqb k 18 h7,
+      ne-eqb k 19 h8,
+      ne-eqb k 20 h9,
+      ne-eqb k 21 h10,
+      ne-eqb k 44 h11,
+      ne-eqb k 45 h12,
+      ne-eqb k 46 h13,
+      ne-eqb k 47 h14,
+    )
 
 -- EACH OPERATOR HAS ITS CODE
 
@@ -56,7 +74,8 @@ operation-none k c l h e = code-apart (operatorOf k) c l h e
 
 -- AND NO OTHER HAS IT
 
-row : {X : Type 0} (code : X → ℕ) {k : ℕ} (n : ℕ) (x : X) {y : X} {r : Option X} → cond (eqb k n) (some x) r ≡ some y → n ≡ code x → (r ≡ some y → k ≡ code y) → k ≡ code y
+row : {X : Type 0} (code : X → ℕ) {k : ℕ} (n : ℕ) (x : X) {y : X} {r : Option X} → cond (eqb k n) (some x) r ≡ some y → n ≡ code x → (r ≡ some y → k ≡ code y)
+    → k ≡ code y
 row {X} code {k} n x {y} {r} e q f = go (eqb k n) refl e
   where
     go : (b : Bool) → eqb k n ≡ b → cond b (some x) r ≡ some y → k ≡ code y
@@ -74,7 +93,8 @@ binary-is k o e =
     row binaryCode 18 plus e refl (λ e. row binaryCode 19 minus e refl (λ e. row binaryCode 20 equal e refl (λ e. row binaryCode 21 unequal e refl
     (λ e. row binaryCode 22 less e refl (λ e. row binaryCode 23 at-most e refl (λ e. row binaryCode 24 greater e refl (λ e. row binaryCode 25 at-least e refl
     (λ e. row binaryCode 26 and e refl (λ e. row binaryCode 27 or e refl (λ e. row binaryCode 28 xor e refl
-    (λ e. row binaryCode 29 times e refl (λ e. row binaryCode 30 divide e refl (λ e. row binaryCode 31 modulo e refl (λ e. row binaryCode 32 remainder e refl (λ e. no-row o e)))))))))))))))
+    (λ e. row binaryCode 29 times e refl (λ e. row binaryCode 30 divide e refl
+    (λ e. row binaryCode 31 modulo e refl (λ e. row binaryCode 32 remainder e refl (λ e. no-row o e)))))))))))))))
 
 -- HOW MANY OPERANDS
 

@@ -113,7 +113,8 @@ operatorOf k =
     cond (eqb k Token.PLUS) (some plus) (cond (eqb k Token.MINUS) (some minus) (cond (eqb k Token.EQ) (some equal) (cond (eqb k Token.NE) (some unequal)
     (cond (eqb k Token.LT) (some less) (cond (eqb k Token.LE) (some at-most) (cond (eqb k Token.GT) (some greater) (cond (eqb k Token.GE) (some at-least)
     (cond (eqb k Token.AND) (some and) (cond (eqb k Token.OR) (some or) (cond (eqb k Token.XOR) (some xor)
-    (cond (eqb k Token.TIMES) (some times) (cond (eqb k Token.DIVIDE) (some divide) (cond (eqb k Token.MOD) (some modulo) (cond (eqb k Token.REM) (some remainder) none))))))))))))))
+    (cond (eqb k Token.TIMES) (some times) (cond (eqb k Token.DIVIDE) (some divide)
+    (cond (eqb k Token.MOD) (some modulo) (cond (eqb k Token.REM) (some remainder) none))))))))))))))
 
 -- the code of that operator; 0 for a token that is none
 unfoldable pub codeOr : Option Binary → ℕ

@@ -1,15 +1,15 @@
 -- Operations before the types of operands are told: the same rows, and in an operator's place its code. Assumes nothing.
-use mathlib.Core.Path.{_≡_, refl, sym, _∙_, ap}
-use mathlib.Core.List.{List, [], _∷_, _++_, map, map-append}
+use mathlib.Core.Path.{_≡_, refl, sym}
+use mathlib.Core.List.{List, [], _∷_, map, map-append}
 use Prim.Native.Nat.{ℕ, _+_}
 use lib.ListN.{length, length-map}
 use lib.IntN.{pos}
 use Rattle.spec_design.specs.Expression.{Leaf, int, bit, input, variable, Unary, Binary}
 use Rattle.base_codes.specs.Operation.{unaryCode, binaryCode, countOr, operandsOf}
 use Rattle.base_codes.proofs.OperationLaws.{unary-operands, binary-operands}
-use Rattle.base_ir.specs.Operations.{Op, op, leafOp, withType, bareOp}
-use Rattle.base_ir.specs.Entries.{Entry, entry, entryOps, bareEntry}
-use Rattle.base_ir.specs.Arrays.{Row, rowsOf}
+use Rattle.base_ir.specs.Operations.{op, leafOp, withType, bareOp}
+use Rattle.base_ir.specs.Entries.{Entry, entryOps, bareEntry}
+use Rattle.base_ir.specs.Arrays.{rowsOf}
 
 -- TYPES TOLD
 

@@ -1,16 +1,16 @@
 -- Arrays that hold a statement hold its parts, each from its own row and operation on. Assumes nothing.
 use mathlib.Core.Path.{_≡_, refl, sym, _∙_, ap}
 use mathlib.Core.List.{List, [], _∷_, _++_, append-assoc}
-use Prim.Native.Nat.{ℕ, zero, suc, _+_, _*_, _≤_, _<_}
+use Prim.Native.Nat.{ℕ, suc, _+_}
 use native.Mathlib.Omega.{arith}
-use lib.ListN.{length, getD, length-append}
-use lib.IntN.{ℤ, pos}
+use lib.ListN.{length, length-append}
+use lib.IntN.{ℤ}
 use Rattle.spec_design.specs.Expression.{Expr}
-use Rattle.spec_design.specs.Statement.{Act, output, variable, null, Stmt, act, wait, if-then, if-else, while, seq, size}
+use Rattle.spec_design.specs.Statement.{output, variable, null, Stmt, act, wait, if-then, if-else, while, seq, size}
 use Rattle.spec_design.specs.Process.{Process}
-use Rattle.base_ir.specs.Operations.{Op, op, ops}
+use Rattle.base_ir.specs.Operations.{Op, ops}
 use Rattle.base_ir.specs.Entries.{Entry, entry, entries, entryOps}
-use Rattle.base_ir.specs.Arrays.{opsFrom, OpsIn, Row, rowIn, rowsFrom, rowsOf, RowsIn, At, BodyIn}
+use Rattle.base_ir.specs.Arrays.{opsFrom, Row, rowIn, rowsFrom, rowsOf, At, BodyIn}
 
 -- as many entries as numbers
 pub entries-size : (s : Stmt) → length (entries s) ≡ size s
@@ -62,7 +62,8 @@ unfolding rowsOf
 rows-of-length s m [] = refl
 rows-of-length s m (e ∷ xs) = ap suc (rows-of-length (s + 1) (m + length (e .ops)) xs)
 
-rows-split : (rows : List ℕ) (j : ℕ) (xs ys : List Row) → rowsFrom rows j (length (xs ++ ys)) ≡ xs ++ ys → (rowsFrom rows j (length xs) ≡ xs) × (rowsFrom rows (j + length xs) (length ys) ≡ ys)
+rows-split : (rows : List ℕ) (j : ℕ) (xs ys : List Row) → rowsFrom rows j (length (xs ++ ys)) ≡ xs ++ ys
+    → (rowsFrom rows j (length xs) ≡ xs) × (rowsFrom rows (j + length xs) (length ys) ≡ ys)
 unfolding rowsFrom
 rows-split rows j [] ys e = (refl, (let z : j + 0 ≡ j = omega arith in rw z e))
 rows-split rows j (x ∷ xs) ys e =
@@ -87,7 +88,8 @@ listed-split {codes} {args} {rows} xs ys {j} {m} a =
     let n = rows-of-length j m xs in
     let n′ = rows-of-length (j + length xs) (m + length (entryOps xs)) ys in
     let l = rows-split rows j (rowsOf j m xs) (rowsOf (j + length xs) (m + length (entryOps xs)) ys) (
-    let w : length (rowsOf j m xs ++ rowsOf (j + length xs) (m + length (entryOps xs)) ys) ≡ length (xs ++ ys) = length-append (rowsOf j m xs) (rowsOf (j + length xs) (m + length (entryOps xs)) ys) ∙ (rw (n, n′) (sym (length-append xs ys))) in
+    let w : length (rowsOf j m xs ++ rowsOf (j + length xs) (m + length (entryOps xs)) ys) ≡ length (xs ++ ys) =
+    length-append (rowsOf j m xs) (rowsOf (j + length xs) (m + length (entryOps xs)) ys) ∙ (rw (n, n′) (sym (length-append xs ys))) in
     rw w (a .lines ∙ rows-append j m xs ys)
     ) in
     let c = ops-split codes args m (entryOps xs) (entryOps ys) (rw (sym (entry-ops-append xs ys)) (a .code)) in
@@ -97,7 +99,8 @@ listed-split {codes} {args} {rows} xs ys {j} {m} a =
     moved q q′ d d′ x e g f = rw (sym e, sym g) f
 
 -- the first statement of a list: its row, its operations, and the others
-listed-cons : {codes : List ℕ} {args : List ℤ} {rows : List ℕ} (e : Entry) (es : List Entry) {j m : ℕ} → Listed codes args rows (e ∷ es) j m → (rowIn rows j ≡ record { kind = e .kind; target = e .target; from = m; to = m + length (e .ops); other = j + 1 + e .part; end = j + 1 + e .inside })
+listed-cons : {codes : List ℕ} {args : List ℤ} {rows : List ℕ} (e : Entry) (es : List Entry) {j m : ℕ} → Listed codes args rows (e ∷ es) j m
+    → (rowIn rows j ≡ record { kind = e .kind; target = e .target; from = m; to = m + length (e .ops); other = j + 1 + e .part; end = j + 1 + e .inside })
     × ((opsFrom codes args m (length (e .ops)) ≡ e .ops) × Listed codes args rows es (j + 1) (m + length (e .ops)))
 unfolding rowsFrom rowsOf entryOps
 listed-cons {codes} {args} {rows} e es {j} {m} a =
@@ -123,15 +126,18 @@ pub at-first : {codes : List ℕ} {args : List ℤ} {rows : List ℕ} {a b : Stm
 unfolding entries
 at-first {a = a} {b} h = unlisted (listed-split (entries a) (entries b) (listed h) .0)
 
-pub at-rest : {codes : List ℕ} {args : List ℤ} {rows : List ℕ} {a b : Stmt} {j m : ℕ} → At codes args rows (seq a b) j m → At codes args rows b (j + size a) (m + length (entryOps (entries a)))
+pub at-rest : {codes : List ℕ} {args : List ℤ} {rows : List ℕ} {a b : Stmt} {j m : ℕ} → At codes args rows (seq a b) j m
+    → At codes args rows b (j + size a) (m + length (entryOps (entries a)))
 unfolding entries
 at-rest {codes} {args} {rows} {a} {b} {j} {m} h = rw (entries-size a) at (unlisted {s = b} (listed-split (entries a) (entries b) (listed h) .1))
 
-pub at-output : {codes : List ℕ} {args : List ℤ} {rows : List ℕ} {k : ℕ} {e : Expr} {j m : ℕ} → At codes args rows (act (output k e)) j m → Own codes args rows 1 k (ops e) j m 0 0
+pub at-output : {codes : List ℕ} {args : List ℤ} {rows : List ℕ} {k : ℕ} {e : Expr} {j m : ℕ} → At codes args rows (act (output k e)) j m
+    → Own codes args rows 1 k (ops e) j m 0 0
 unfolding entries
 at-output {k = k} {e} h = let r = listed-cons (entry 1 k (ops e) 0 0) [] (listed h) in record { line = r .0; code = r .1 .0 }
 
-pub at-variable : {codes : List ℕ} {args : List ℤ} {rows : List ℕ} {k : ℕ} {e : Expr} {j m : ℕ} → At codes args rows (act (variable k e)) j m → Own codes args rows 2 k (ops e) j m 0 0
+pub at-variable : {codes : List ℕ} {args : List ℤ} {rows : List ℕ} {k : ℕ} {e : Expr} {j m : ℕ} → At codes args rows (act (variable k e)) j m
+    → Own codes args rows 2 k (ops e) j m 0 0
 unfolding entries
 at-variable {k = k} {e} h = let r = listed-cons (entry 2 k (ops e) 0 0) [] (listed h) in record { line = r .0; code = r .1 .0 }
 
@@ -147,12 +153,14 @@ at-wait h = let r = listed-cons (entry 0 0 [] 0 0) [] (listed h) in record { lin
 pub at-if : {codes : List ℕ} {args : List ℤ} {rows : List ℕ} {e : Expr} {a : Stmt} {j m : ℕ} → At codes args rows (if-then e a) j m
     → Own codes args rows 3 0 (ops e) j m (size a) (size a) × At codes args rows a (j + 1) (m + length (ops e))
 unfolding entries
-at-if {e = e} {a} h = let r = listed-cons (entry 3 0 (ops e) (size a) (size a)) (entries a) (listed h) in (record { line = r .0; code = r .1 .0 }, unlisted (r .1 .1))
+at-if {e = e} {a} h = let r = listed-cons (entry 3 0 (ops e) (size a) (size a)) (entries a) (listed h) in
+    (record { line = r .0; code = r .1 .0 }, unlisted (r .1 .1))
 
 pub at-while : {codes : List ℕ} {args : List ℤ} {rows : List ℕ} {e : Expr} {a : Stmt} {j m : ℕ} → At codes args rows (while e a) j m
     → Own codes args rows 5 0 (ops e) j m (size a) (size a) × At codes args rows a (j + 1) (m + length (ops e))
 unfolding entries
-at-while {e = e} {a} h = let r = listed-cons (entry 5 0 (ops e) (size a) (size a)) (entries a) (listed h) in (record { line = r .0; code = r .1 .0 }, unlisted (r .1 .1))
+at-while {e = e} {a} h = let r = listed-cons (entry 5 0 (ops e) (size a) (size a)) (entries a) (listed h) in
+    (record { line = r .0; code = r .1 .0 }, unlisted (r .1 .1))
 
 -- an if with else: the own row, and both parts
 pub at-else : {codes : List ℕ} {args : List ℤ} {rows : List ℕ} {e : Expr} {a b : Stmt} {j m : ℕ} → At codes args rows (if-else e a b) j m

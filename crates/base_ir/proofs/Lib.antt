@@ -1,3 +1,4 @@
 pub mod Held
 pub mod Laid
 pub mod Bare
+pub mod Bounds

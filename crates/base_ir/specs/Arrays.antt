@@ -7,8 +7,9 @@ use lib.IntN.{ℤ, pos}
 use Rattle.spec_design.specs.Types.{Ty, typeByte}
 use Rattle.spec_design.specs.Statement.{Stmt, size}
 use Rattle.spec_design.specs.Process.{Process, sourceTypes, slotTypes, initials}
-use Rattle.base_codes.specs.Limit.{TEXT, STATEMENTS}
+use Rattle.base_codes.specs.Limit.{TEXT, STATEMENTS, INPUTS, OUTPUTS, VARIABLES}
 use Rattle.base_codes.specs.Statement.{ROW, TARGET, FROM, TO, OTHER, END}
+use Rattle.base_ir.specs.declared.Declared.{Declared}
 use Rattle.base_ir.specs.Operations.{Op, op, bareOp}
 use Rattle.base_ir.specs.Entries.{Entry, entries, entryOps, Block}
 
@@ -52,7 +53,8 @@ rowsFrom rows j (suc c) = rowIn rows j ∷ rowsFrom rows (j + 1) c
 unfoldable pub rowsOf : ℕ → ℕ → List Entry → List Row
 rowsOf s m [] = []
 rowsOf s m (e ∷ es) =
-    record { kind = e .kind; target = e .target; from = m; to = m + length (e .ops); other = s + 1 + e .part; end = s + 1 + e .inside } ∷ rowsOf (s + 1) (m + length (e .ops)) es
+    record { kind = e .kind; target = e .target; from = m; to = m + length (e .ops); other = s + 1 + e .part; end = s + 1 + e .inside } ∷ rowsOf (s + 1)
+    (m + length (e .ops)) es
 
 -- the array holds s statements, which are these
 pub record RowsIn (es : List Entry) (rows : List ℕ) (s : ℕ) : Type 0 where
@@ -84,10 +86,20 @@ pub record BareIn (p : Process) (codes : List ℕ) (args : List ℤ) (rows : Lis
   pub code : OpsIn (map bareOp (entryOps (entries (p .body)))) codes args k
   pub lines : RowsIn (entries (p .body)) rows s
 
--- the arrays hold the declarations of a process: types of its inputs; types and initial values of its outputs and of its variables
-pub record NamesIn (p : Process) (is os vs : List ℕ) (atOutputs atVariables : List ℤ) (i o v : ℕ) : Type 0 where
-  pub inputs : TypesIn (sourceTypes (p .inputs)) is i
-  pub outputs : TypesIn (slotTypes (p .outputs)) os o
-  pub variables : TypesIn (slotTypes (p .variables)) vs v
-  pub first-outputs : ValuesIn (initials (p .outputs)) atOutputs o
-  pub first-variables : ValuesIn (initials (p .variables)) atVariables v
+-- what is declared is what a process declares: types of its inputs; types and initial values of its outputs and of its variables
+pub record NamesIn (p : Process) (d : Declared) : Type 0 where
+  pub inputs : TypesIn (sourceTypes (p .inputs)) (d .inputs .types) (d .inputs .count)
+  pub outputs : TypesIn (slotTypes (p .outputs)) (d .outputs .types) (d .outputs .count)
+  pub variables : TypesIn (slotTypes (p .variables)) (d .variables .types) (d .variables .count)
+  pub first-outputs : ValuesIn (initials (p .outputs)) (d .outputs .values) (d .outputs .count)
+  pub first-variables : ValuesIn (initials (p .variables)) (d .variables .values) (d .variables .count)
+
+-- THE BORDER: the struct and the arrays hold the process p
+pub record Holds (p : Process) (d : Declared) (codes : List ℕ) (args : List ℤ) (rows : List ℕ) : Type 0 where
+  pub body : BodyIn p codes args rows (d .operations) (d .statements)
+  pub declared : NamesIn p d
+
+-- "Limits": counts that a design can have; a text of 16,384 bytes has no more operations
+abbrev pub Bounded : Declared → Type 0
+Bounded d = (d .operations ≤ TEXT) × (d .statements ≤ STATEMENTS) × (d .inputs .count ≤ INPUTS) × (d .outputs .count ≤ OUTPUTS)
+    × (d .variables .count ≤ VARIABLES)

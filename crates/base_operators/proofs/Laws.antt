@@ -167,7 +167,8 @@ pub unary-tag : (u : ExprTy) (k t : ℕ) (x : ℤ) {r : Checked} → t ≡ tagOf
 unfolding unaryOn
 unary-tag u k t x h e = e ∙ sym (ap (λ (w : Option ExprTy). checkedOf (unaryBy (unaryFor k) w x)) (ap typeOfTag h ∙ tag-type u))
 
-pub binary-tag : (u : ExprTy) (k t : ℕ) (x y : ℤ) {r : Checked} → t ≡ tagOf u → r ≡ checkedOf (binaryBy (binaryFor k) (some u) x y) → r ≡ checkedOf (binaryOn k t x y)
+pub binary-tag : (u : ExprTy) (k t : ℕ) (x y : ℤ) {r : Checked} → t ≡ tagOf u → r ≡ checkedOf (binaryBy (binaryFor k) (some u) x y)
+    → r ≡ checkedOf (binaryOn k t x y)
 unfolding binaryOn
 binary-tag u k t x y h e = e ∙ sym (ap (λ (w : Option ExprTy). checkedOf (binaryBy (binaryFor k) w x y)) (ap typeOfTag h ∙ tag-type u))
 

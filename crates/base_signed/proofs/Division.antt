@@ -7,7 +7,7 @@ use native.Mathlib.Omega.{arith}
 use native.Mathlib.Nat.{mul-le-mul}
 use lib.IntN.{ℤ, pos, negsuc, negℤ, _+ℤ_, _*ℤ_, subℕ}
 use lib.Signed.{mag, ltZ, quotZ, remZ, mag-rem}
-use lib.Dec.{eqb, ltb}
+use lib.Dec.{ltb}
 use borrow.Author.Tests.{eqb-false, le-ltb}
 use mir.Syntax.{w32, w64}
 use mir.Val.{SFits, ofZ}

@@ -2,7 +2,7 @@
 // two's complement, the values of a type. No other crate computes with signed numbers.
 ghost use mathlib.Core.Path.{_≡_};
 ghost use mathlib.Core.Bool.{_&&_, cond};
-ghost use lib.IntN.{pos, negsuc, _+ℤ_, _-ℤ_, _*ℤ_, negℤ};
+ghost use lib.IntN.{negsuc, _+ℤ_, _-ℤ_, _*ℤ_, negℤ};
 ghost use lib.Signed.{ltZ, leZ, quotZ, remZ};
 ghost use Rattle.spec_design.specs.Expression.{fine};
 ghost use Rattle.spec_design.specs.Types.{eqZ};

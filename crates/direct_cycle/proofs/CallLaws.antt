@@ -33,17 +33,16 @@ use Rattle.spec_semantics.specs.Records.{pad, stateFor}
 use Rattle.spec_semantics.proofs.Slots.{pad-first}
 use Rattle.spec_semantics.specs.Comparison.{laid}
 use Rattle.spec_semantics.specs.DirectRow.{fitsText, placeFor, keptOf, cycled, directRow}
+use Rattle.base_ir.specs.declared.Declared.{Declared}
 use Rattle.base_ir.specs.Arrays.{Row, At, BodyIn, NamesIn}
 use Rattle.base_ir.proofs.Held.{entries-size, at-whole, at-first, at-rest, at-output, at-variable, at-null, at-wait as at-wait-row, at-if, at-while, at-else}
-use Rattle.spec_format.proofs.Lines.{fits-type}
 use Rattle.direct_expressions.specs.Machine.{Performable}
 use Rattle.direct_statements.specs.Holding.{Ready, HeldIn}
 use Rattle.direct_statements.specs.Standing.{run, Stands}
-use Rattle.direct_cycle.specs.Checks.{checkOf, rowIs, slotsIn, placeIn, stateIs}
-use Rattle.spec_semantics.specs.Calls.{Called}
+use Rattle.direct_cycle.specs.Checks.{checkOf, rowIs, slotsIn, placeIn, inUse, stateIs}
 use Rattle.spec_semantics.proofs.Described.{used-outputs, used-variables, outputs-long, variables-long, kept-laid}
 use Rattle.direct_cycle.specs.Calls.{Design, Names, callOf, fedOf}
-use Rattle.spec_semantics.specs.Advances.{Advances, cycleAnswer}
+use Rattle.spec_semantics.specs.Advances.{Advances}
 use Rattle.direct_statements.specs.declared.Progress.{Progress}
 use Rattle.direct_statements.specs.declared.Progress.the-variants.{Passed, Reached, Refused}
 use Rattle.direct_cycle.specs.declared.RowCheck.{RowCheck}
@@ -54,6 +53,7 @@ use Rattle.base_answers.proofs.Refusals.{operator-told}
 use Rattle.direct_statements.proofs.ResumeLaws.{not-below, not-above}
 use Rattle.direct_cycle.proofs.CheckLaws.{wrong-values, slots-types}
 use Rattle.spec_semantics.proofs.Numbers.{cycle-number}
+use Rattle.spec_semantics.proofs.Typed.{fits-type}
 
 -- THE DESIGN
 
@@ -94,22 +94,53 @@ typed-ready is os vs (seq a b) h =
     (typed-ready is os vs a (and-left x y h), typed-ready is os vs b (and-right x y h))
 
 -- arrays that hold an accepted text's process, as its front end leaves them
-pub design-held : (p : Process) (codes : List ℕ) (args : List ℤ) (rows : List ℕ) (k n : ℕ) → BodyIn p codes args rows k n → WellFormed p → Design p codes args rows n
+pub design-held : (p : Process) (codes : List ℕ) (args : List ℤ) (rows : List ℕ) (k n : ℕ) → BodyIn p codes args rows k n → WellFormed p
+    → Design p codes args rows n
 design-held p codes args rows k n b w =
     record {
-      body = record { m = 0; lies = at-whole b; ready = typed-ready _ _ _ (p .body) (w .typed); end = let e = b .lines .count in let f = entries-size (p .body) in omega arith };
+      body = record {
+        m = 0;
+        lies = at-whole b;
+        ready = typed-ready _ _ _ (p .body) (w .typed);
+        end = let e = b .lines .count in
+            let f = entries-size (p .body) in omega arith;
+      };
       block = b .block;
       well-formed = w;
     }
 
-pub names-held : (p : Process) (is os vs : List ℕ) (o v : List ℤ) (i j k : ℕ) → NamesIn p is os vs o v i j k → Names p (take i is) (take j os) (take k vs)
-names-held p is os vs o v i j k n = record { inputs = n .inputs .1; outputs = n .outputs .1; variables = n .variables .1 }
+-- the parts of the arrays that are in use
+pub part-first : {A : Type 0} (l : List A) (n : ℕ) → take (n - 0) (drop 0 l) ≡ take n l
+part-first l n = let z : n - 0 ≡ n = omega arith in rw z
+
+pub names-held : (p : Process) (d : Declared) → NamesIn p d
+    → Names p (inUse (d .inputs)) (inUse (d .outputs)) (inUse (d .variables))
+names-held p d n =
+    record {
+      inputs = part-first (d .inputs .types) (d .inputs .count) ∙ n .inputs .1;
+      outputs = part-first (d .outputs .types) (d .outputs .count) ∙ n .outputs .1;
+      variables = part-first (d .variables .types) (d .variables .count) ∙ n .variables .1;
+    }
+
+pub names-count : (p : Process) (d : Declared) → NamesIn p d → (d .outputs .count ≡ length (p .outputs)) × (d .variables .count ≡ length (p .variables))
+names-count p d n = (
+  sym (n .outputs .0) ∙ length-map (p .outputs) (λ (x : Slot). x .type),
+  sym (n .variables .0) ∙ length-map (p .variables) (λ (x : Slot). x .type),
+)
 
 -- 14
-pub row-law : (p : Process) (is os vs : List ℕ) (i : List ℤ) (room : ℕ) → Names p is os vs → rowIs is i (length os) room ≡ rowRefusal p (fedOf i room)
+pub row-law : (p : Process) (d : Declared) (i : List ℤ) (room : ℕ) → NamesIn p d
+    → rowIs (inUse (d .inputs)) i (d .outputs .count) room ≡ rowRefusal p (fedOf i room)
 unfolding rowIs rowRefusal
-row-law p is os vs i room n =
-    rw (n .inputs, n .outputs, length-map (sourceTypes (p .inputs)) typeByte, length-map (p .inputs) (λ (x : Source). x .type), length-map (slotTypes (p .outputs)) typeByte, length-map (p .outputs) (λ (x : Slot). x .type), wrong-values (sourceTypes (p .inputs)) i 0)
+row-law p d i room n =
+    rw (
+      names-held p d n .inputs,
+      names-count p d n .0,
+      length-map (sourceTypes (p .inputs)) typeByte,
+      length-map (p .inputs)
+          (λ (x : Source). x .type),
+      wrong-values (sourceTypes (p .inputs)) i 0,
+    )
 
 -- 15: a wait is a row of kind 0
 or-false : (x y : Bool) → y ≡ false → (x || y) ≡ x
@@ -125,14 +156,16 @@ module _ (codes : List ℕ) (args : List ℤ) (rows : List ℕ) where
   no-wait n j k e h = rw (e, h) (sym (ne-eqb (suc k) 0 (λ z. omega arith)))
 
   -- the statement's own row, or a row inside it
-  inside : (a : Stmt) (j n k : ℕ) → getD rows (6 * j) 0 ≡ suc k → j ≤ n → (j + 1 ≤ n → has a (suc j) n ≡ eqb (getD rows (6 * n) 0) 0) → has a (suc j) n ≡ eqb (getD rows (6 * n) 0) 0
+  inside : (a : Stmt) (j n k : ℕ) → getD rows (6 * j) 0 ≡ suc k → j ≤ n → (j + 1 ≤ n → has a (suc j) n ≡ eqb (getD rows (6 * n) 0) 0)
+      → has a (suc j) n ≡ eqb (getD rows (6 * n) 0) 0
   inside a j n k h l f = go (decLt j n)
     where
       go : Dec (j < n) → has a (suc j) n ≡ eqb (getD rows (6 * n) 0) 0
       go (yes x) = f (omega arith)
       go (no x) = not-below a (suc j) n (omega arith) ∙ no-wait n j k (omega arith) h
 
-  both : (a b : Stmt) (j n : ℕ) → (n < j + size a → has a j n ≡ eqb (getD rows (6 * n) 0) 0) → (j + size a ≤ n → has b (j + size a) n ≡ eqb (getD rows (6 * n) 0) 0)
+  both : (a b : Stmt) (j n : ℕ) → (n < j + size a → has a j n ≡ eqb (getD rows (6 * n) 0) 0)
+      → (j + size a ≤ n → has b (j + size a) n ≡ eqb (getD rows (6 * n) 0) 0)
       → (has a j n || has b (j + size a) n) ≡ eqb (getD rows (6 * n) 0) 0
   both a b j n f g = go (decLt n (j + size a))
     where
@@ -141,7 +174,8 @@ module _ (codes : List ℕ) (args : List ℤ) (rows : List ℕ) where
       go (no x) = false-or (has a j n) (has b (j + size a) n) (not-above a j n (omega arith)) ∙ g (omega arith)
 
   either : (a b : Stmt) (j n : ℕ) → getD rows (6 * j) 0 ≡ 3 → j ≤ n → (j + 1 ≤ n → n < suc j + size a → has a (suc j) n ≡ eqb (getD rows (6 * n) 0) 0)
-      → (suc j + size a ≤ n → has b (suc j + size a) n ≡ eqb (getD rows (6 * n) 0) 0) → (has a (suc j) n || has b (suc j + size a) n) ≡ eqb (getD rows (6 * n) 0) 0
+      → (suc j + size a ≤ n → has b (suc j + size a) n ≡ eqb (getD rows (6 * n) 0) 0)
+      → (has a (suc j) n || has b (suc j + size a) n) ≡ eqb (getD rows (6 * n) 0) 0
   either a b j n h l f g = go (decLt j n)
     where
       go : Dec (j < n) → (has a (suc j) n || has b (suc j + size a) n) ≡ eqb (getD rows (6 * n) 0) 0
@@ -182,16 +216,23 @@ module _ (codes : List ℕ) (args : List ℤ) (rows : List ℕ) where
       go (yes x) = let z = h .end in rw (lt-ltb n e x, has-kind s 0 (h .m) n (h .lies) (omega arith) (omega arith))
       go (no x) = let z = h .end in rw (le-ltb n e (omega arith), not-above s 0 n (omega arith))
 
-pub state-law : (p : Process) (codes : List ℕ) (args : List ℤ) (rows : List ℕ) (e : ℕ) (is os vs : List ℕ) (s : State) → Design p codes args rows e → Names p is os vs
+pub state-law : (p : Process) (codes : List ℕ) (args : List ℤ) (rows : List ℕ) (e : ℕ) (is os vs : List ℕ) (s : State) → Design p codes args rows e
+    → Names p is os vs
     → length (s .outputs) ≡ 16 → length (s .variables) ≡ 32 → stateIs rows e os vs s ≡ fitsText p s
 unfolding stateIs fitsText
 state-law p codes args rows e is os vs s d n a b =
-    rw (place-law codes args rows (p .body) e (s .place) (d .body), n .outputs, n .variables, slots-types (slotTypes (p .outputs)) (s .outputs), slots-types (slotTypes (p .variables)) (s .variables), eq-eqb (length (s .outputs)) 16 a, eq-eqb (length (s .variables)) 32 b)
+    rw (
+      place-law codes args rows (p .body) e (s .place) (d .body),
+      n .outputs,
+      n .variables,
+      slots-types (slotTypes (p .outputs)) (s .outputs),
+      slots-types
+          (slotTypes (p .variables)) (s .variables),
+      eq-eqb (length (s .outputs)) 16 a,
+      eq-eqb (length (s .variables)) 32 b,
+    )
 
 -- THE STATE
-
-pub part-first : (l : List ℤ) (n : ℕ) → take (n - 0) (drop 0 l) ≡ take n l
-part-first l n = let z : n - 0 ≡ n = omega arith in rw z
 
 -- new values in the slots in use, and the unused ones behind them
 pad-behind : (n : ℕ) (l m : List ℤ) → length m ≡ length l → length l ≤ n → l ++ drop (length l) (pad n m) ≡ pad n l
@@ -220,7 +261,8 @@ module _ (p : Process) (s : State) (f : fitsText p s ≡ true) where
     abbrev Made : ℕ → List ℤ → List ℤ → State
     Made x o′ v′ = record { place = x; outputs = o′ ++ drop (length (p .outputs)) (s .outputs); variables = v′ ++ drop (length (p .variables)) (s .variables) }
 
-    made : (x : ℕ) (o′ v′ : List ℤ) → length o′ ≡ length (p .outputs) → length v′ ≡ length (p .variables) → Made x o′ v′ ≡ stateFor x (record { outputs = o′; variables = v′ })
+    made : (x : ℕ) (o′ v′ : List ℤ) → length o′ ≡ length (p .outputs) → length v′ ≡ length (p .variables)
+        → Made x o′ v′ ≡ stateFor x (record { outputs = o′; variables = v′ })
     unfolding stateFor
     made x o′ v′ a b =
         let c = pad-part 16 (length (p .outputs)) o′ (s .outputs) (outputs-long p s f) (w .outputs) a (used-outputs p s f .1) in
@@ -229,18 +271,23 @@ module _ (p : Process) (s : State) (f : fitsText p s ≡ true) where
 
     made-row : (o′ : List ℤ) → length o′ ≡ length (p .outputs) → take (length o) (o′ ++ drop (length (p .outputs)) (s .outputs)) ≡ o′
     made-row o′ a =
-        rw (room, pad-part 16 (length (p .outputs)) o′ (s .outputs) (outputs-long p s f) (w .outputs) a (used-outputs p s f .1)) (pad-first 16 (length (p .outputs)) o′ a (w .outputs))
+        rw (room, pad-part 16 (length (p .outputs)) o′ (s .outputs) (outputs-long p s f) (w .outputs) a (used-outputs p s f .1))
+        (pad-first 16 (length (p .outputs)) o′ a (w .outputs))
 
     pub reached-small : (x k : ℕ) (o′ v′ : List ℤ) → Stands Cycle (Reached x k) o′ v′ → x < 65536
     reached-small x k o′ v′ t =
         let e = t .is .1 .1 in
-        let g : Ended (p .body) (reached x (run (t .is .0) o′ v′)) = rw e at (cycle-ends (p .body) (w .class) (placeFor (s .place)) i (run [] (take (length (p .outputs)) (s .outputs)) (take (length (p .variables)) (s .variables)))) in
+        let g : Ended (p .body) (reached x (run (t .is .0) o′ v′)) =
+        rw e at (cycle-ends (p .body) (w .class) (placeFor (s .place)) i
+        (run [] (take (length (p .outputs)) (s .outputs)) (take (length (p .variables)) (s .variables)))) in
         let b = has-below (p .body) 0 x (ended-has g) in
         let c = w .statements in
         omega arith
 
-    pub reached-advances : (x : ℕ) (k : Counts) (o′ v′ : List ℤ) → Stands Cycle (Reached x (k .lines)) o′ v′ → length o′ ≡ length (p .outputs) → length v′ ≡ length (p .variables)
-        → (a : Advanced) (row : List ℤ) → a ≡ record { state = Made x o′ v′; answer = Performed k } → row ≡ take (length o) (o′ ++ drop (length (p .outputs)) (s .outputs))
+    pub reached-advances : (x : ℕ) (k : Counts) (o′ v′ : List ℤ) → Stands Cycle (Reached x (k .lines)) o′ v′ → length o′ ≡ length (p .outputs)
+        → length v′ ≡ length (p .variables)
+        → (a : Advanced) (row : List ℤ) → a ≡ record { state = Made x o′ v′; answer = Performed k }
+        → row ≡ take (length o) (o′ ++ drop (length (p .outputs)) (s .outputs))
         → Advances (cycled p (keptOf p s) (callOf i o)) a row
     unfolding keptOf concluded
     reached-advances x k o′ v′ t a b A row e q =
@@ -251,8 +298,10 @@ module _ (p : Process) (s : State) (f : fitsText p s ≡ true) where
           row = q ∙ made-row o′ a;
         })
 
-    pub passed-advances : (k : Counts) (o′ v′ : List ℤ) → Stands Cycle (Passed (k .lines)) o′ v′ → length o′ ≡ length (p .outputs) → length v′ ≡ length (p .variables)
-        → (a : Advanced) (row : List ℤ) → a ≡ record { state = Made 512 o′ v′; answer = Performed k } → row ≡ take (length o) (o′ ++ drop (length (p .outputs)) (s .outputs))
+    pub passed-advances : (k : Counts) (o′ v′ : List ℤ) → Stands Cycle (Passed (k .lines)) o′ v′ → length o′ ≡ length (p .outputs)
+        → length v′ ≡ length (p .variables)
+        → (a : Advanced) (row : List ℤ) → a ≡ record { state = Made 512 o′ v′; answer = Performed k }
+        → row ≡ take (length o) (o′ ++ drop (length (p .outputs)) (s .outputs))
         → Advances (cycled p (keptOf p s) (callOf i o)) a row
     unfolding keptOf concluded
     passed-advances k o′ v′ t a b A row e q =
@@ -268,7 +317,8 @@ module _ (p : Process) (s : State) (f : fitsText p s ≡ true) where
         → Advances (cycled p (keptOf p s) (callOf i o)) a o
     unfolding keptOf concluded
     refused-advances m x o′ v′ t A e =
-        let u = cycle-number i m x (p .body) (placeFor (s .place)) (run [] (take (length (p .outputs)) (s .outputs)) (take (length (p .variables)) (s .variables))) (t .is) in
+        let u = cycle-number i m x (p .body) (placeFor (s .place))
+        (run [] (take (length (p .outputs)) (s .outputs)) (take (length (p .variables)) (s .variables))) (t .is) in
         rw (t .is)
         (record {
           answer = ap (λ (y : Advanced). cycleTold (y .answer)) e ∙ operator-told m x u;
@@ -292,9 +342,19 @@ module _ (p : Process) (s : State) (f : fitsText p s ≡ true) (w : WellFormed p
 
   -- the state that it makes of them
   abbrev Back : ℕ → State
-  Back x = record { place = x; outputs = take 0 (s .outputs) ++ (o′ ++ drop (n - 0) (drop 0 (s .outputs))); variables = take 0 (s .variables) ++ (v′ ++ drop (m - 0) (drop 0 (s .variables))) }
+  Back x = record {
+    place = x;
+    outputs = take 0 (s .outputs) ++ (o′ ++ drop (n - 0) (drop 0 (s .outputs)));
+    variables = take 0
+        (s .variables) ++ (v′ ++ drop (m - 0) (drop 0 (s .variables)));
+  }
 
-  back : (x : ℕ) → Back x ≡ record { place = x; outputs = o′ ++ drop (length (p .outputs)) (s .outputs); variables = v′ ++ drop (length (p .variables)) (s .variables) }
+  back : (x : ℕ) → Back x ≡ record {
+    place = x;
+    outputs = o′ ++ drop (length (p .outputs)) (s .outputs);
+    variables = v′ ++ drop (length (p .variables))
+        (s .variables);
+  }
   back x = rw (← oc, ← vc) (λ j. record { place = x; outputs = part-back (s .outputs) o′ n j; variables = part-back (s .variables) v′ m j })
 
   ran : Ran ≡ cycle (p .body) (placeFor (s .place)) i (run [] (take (length (p .outputs)) (s .outputs)) (take (length (p .variables)) (s .variables)))
@@ -311,10 +371,12 @@ module _ (p : Process) (s : State) (f : fitsText p s ≡ true) (w : WellFormed p
 
   -- what `performed` makes at the place x
   abbrev Performs : ℕ → Counts → Advanced → List ℤ → Type 0
-  Performs x k a row = x < 65536 → length o ≤ 16 → (a ≡ record { state = Back x; answer = Performed k }) × (row ≡ take (length o) (take 0 (s .outputs) ++ (o′ ++ drop (n - 0) (drop 0 (s .outputs)))))
+  Performs x k a row = x < 65536 → length o ≤ 16
+      → (a ≡ record { state = Back x; answer = Performed k }) × (row ≡ take (length o) (take 0 (s .outputs) ++ (o′ ++ drop (n - 0) (drop 0 (s .outputs)))))
 
   pub run-passed : (r : Progress) (k : Counts) (a : Advanced) (row : List ℤ) → Stands Ran r o′ v′ → r ≡ Passed (k .lines) → Performs 512 k a row
-      → length o′ ≡ length (take (n - 0) (drop 0 (s .outputs))) → length v′ ≡ length (take (m - 0) (drop 0 (s .variables))) → Advances (cycled p (keptOf p s) (callOf i o)) a row
+      → length o′ ≡ length (take (n - 0) (drop 0 (s .outputs))) → length v′ ≡ length (take (m - 0) (drop 0 (s .variables)))
+      → Advances (cycled p (keptOf p s) (callOf i o)) a row
   run-passed r k a row t e q x y =
       let u = q (omega arith) few in
       let b = part-back (s .outputs) o′ n in
@@ -323,7 +385,8 @@ module _ (p : Process) (s : State) (f : fitsText p s ≡ true) (w : WellFormed p
       (u .1 ∙ ap (λ (z : List ℤ). take (length o) z) (b ∙ ap (λ (j : ℕ). o′ ++ drop j (s .outputs)) oc))
 
   pub run-reached : (r : Progress) (z : ℕ) (k : Counts) (a : Advanced) (row : List ℤ) → Stands Ran r o′ v′ → r ≡ Reached z (k .lines) → Performs z k a row
-      → length o′ ≡ length (take (n - 0) (drop 0 (s .outputs))) → length v′ ≡ length (take (m - 0) (drop 0 (s .variables))) → Advances (cycled p (keptOf p s) (callOf i o)) a row
+      → length o′ ≡ length (take (n - 0) (drop 0 (s .outputs))) → length v′ ≡ length (take (m - 0) (drop 0 (s .variables)))
+      → Advances (cycled p (keptOf p s) (callOf i o)) a row
   run-reached r z k a row t e q x y =
       let t′ = rw (ran, e) at t in
       let u = q (reached-small p s f w i o room z (k .lines) o′ v′ t′) few in
@@ -339,16 +402,19 @@ module _ (p : Process) (s : State) (f : fitsText p s ≡ true) (w : WellFormed p
 
 -- CALLS
 module _ (p : Process) (s : State) (i o : List ℤ) where
-  pub call-cycled : (a : Advanced) (row : List ℤ) → rowRefusal p (fedOf i (length o)) ≡ none → fitsText p s ≡ true → Advances (cycled p (keptOf p s) (callOf i o)) a row
+  pub call-cycled : (a : Advanced) (row : List ℤ) → rowRefusal p (fedOf i (length o)) ≡ none → fitsText p s ≡ true
+      → Advances (cycled p (keptOf p s) (callOf i o)) a row
       → Advances (directRow p s (callOf i o)) a row
   unfolding directRow
   call-cycled a row z f k = rw (z, f) k
 
-  pub call-state : rowRefusal p (fedOf i (length o)) ≡ none → fitsText p s ≡ false → (a : Advanced) → a ≡ record { state = s; answer = NotPerformed BadState } → Advances (directRow p s (callOf i o)) a o
+  pub call-state : rowRefusal p (fedOf i (length o)) ≡ none → fitsText p s ≡ false → (a : Advanced) → a ≡ record { state = s; answer = NotPerformed BadState }
+      → Advances (directRow p s (callOf i o)) a o
   unfolding directRow
   call-state z f a e = rw (z, f) (record { answer = ap (λ (y : Advanced). cycleTold (y .answer)) e; state = ap (λ (y : Advanced). y .state) e; row = refl })
 
-  pub call-row : (k : ℕ) (q : RowCheck) → q ≡ checkOf (rowRefusal p (fedOf i (length o))) → q ≡ WrongAt k → (a : Advanced) → a ≡ record { state = s; answer = NotPerformed (BadRow k) }
+  pub call-row : (k : ℕ) (q : RowCheck) → q ≡ checkOf (rowRefusal p (fedOf i (length o))) → q ≡ WrongAt k → (a : Advanced)
+      → a ≡ record { state = s; answer = NotPerformed (BadRow k) }
       → Advances (directRow p s (callOf i o)) a o
   unfolding directRow
   call-row k q e f a ea = on (rowRefusal p (fedOf i (length o))) refl
@@ -372,18 +438,13 @@ module _ (p : Process) (s : State) (i o : List ℤ) where
           absurd (let d : _≡_ {A = ℕ} 0 1 = cc in omega arith)
 
 -- THE TESTS
-pub names-count : (p : Process) (is os vs : List ℕ) → Names p is os vs → (length os ≡ length (p .outputs)) × (length vs ≡ length (p .variables))
-names-count p is os vs n = (
-  ap length (n .outputs) ∙ (length-map (slotTypes (p .outputs)) typeByte ∙ length-map (p .outputs) (λ (x : Slot). x .type)),
-  ap length (n .variables) ∙ (length-map (slotTypes (p .variables)) typeByte ∙ length-map (p .variables) (λ (x : Slot). x .type)),
-)
-
 pub room-right : (p : Process) (i : List ℤ) (n : ℕ) → rowRefusal p (fedOf i n) ≡ none → n ≡ length (p .outputs)
 unfolding Fitting
 room-right p i n z = (meets-none p (fedOf i n) z) .0 .1
 
 module _ (rows : List ℕ) (n : ℕ) (ot vt : List ℕ) (s : State) where
-  pub state-third : (x y z : Bool) → x ≡ placeIn rows n (s .place) → x ≡ true → y ≡ slotsIn ot (s .outputs) → y ≡ true → z ≡ slotsIn vt (s .variables) → z ≡ stateIs rows n ot vt s
+  pub state-third : (x y z : Bool) → x ≡ placeIn rows n (s .place) → x ≡ true → y ≡ slotsIn ot (s .outputs) → y ≡ true → z ≡ slotsIn vt (s .variables)
+      → z ≡ stateIs rows n ot vt s
   unfolding stateIs
   state-third x y z a b c d e = rw (sym a ∙ b, sym c ∙ d) e
 
@@ -408,7 +469,3 @@ pub fresh-law : (p : Process) (o v : List ℤ) (r : State) (a b : List ℤ) → 
     → o ≡ initials (p .outputs) → v ≡ initials (p .variables) → r ≡ laid (atFirst p)
 unfolding atFirst stateFor
 fresh-law p o v r a b e x y f g = e ∙ rw (x, y, f, g)
-
--- the equations of a call one by one
-pub advances-parts : {c : Called} {a : Advanced} {o : List ℤ} → Advances c a o → (cycleTold (a .answer) ≡ cycleAnswer (c .answer)) × (a .state ≡ c .state) × (o ≡ c .row)
-advances-parts h = (h .answer, h .state, h .row)

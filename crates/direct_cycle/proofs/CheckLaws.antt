@@ -54,12 +54,14 @@ module _ (types : List ℕ) (i : List ℤ) (n room : ℕ) where
 -- SLOTS
 module _ (s : List ℕ) (l : List ℤ) (k : ℕ) where
   slots-step : k < length l
-      → slotsIn (drop k s) (drop k l) ≡ (cond (ltb k (length s)) (inTypeByte (getD s k 0) (getD l k (pos 0))) (eqZ (getD l k (pos 0)) (pos 0)) && slotsIn (drop (k + 1) s) (drop (k + 1) l))
+      → slotsIn (drop k s) (drop k l) ≡ (cond (ltb k (length s)) (inTypeByte (getD s k 0) (getD l k (pos 0))) (eqZ (getD l k (pos 0)) (pos 0)) && slotsIn
+      (drop (k + 1) s) (drop (k + 1) l))
   unfolding slotsIn zeros
   slots-step h = go (decLt k (length s))
     where
       go : Dec (k < length s)
-          → slotsIn (drop k s) (drop k l) ≡ (cond (ltb k (length s)) (inTypeByte (getD s k 0) (getD l k (pos 0))) (eqZ (getD l k (pos 0)) (pos 0)) && slotsIn (drop (k + 1) s) (drop (k + 1) l))
+          → slotsIn (drop k s) (drop k l) ≡ (cond (ltb k (length s)) (inTypeByte (getD s k 0) (getD l k (pos 0))) (eqZ (getD l k (pos 0)) (pos 0)) && slotsIn
+          (drop (k + 1) s) (drop (k + 1) l))
       go (yes u) = rw (add-one k, drop-cons l k (pos 0) h, drop-cons s k 0 u, lt-ltb k (length s) u)
       go (no u) =
           let a : drop k s ≡ [] = drop-of-length-le s {i = k} (omega arith) in
@@ -70,7 +72,8 @@ module _ (s : List ℕ) (l : List ℤ) (k : ℕ) where
       → slotsIn (drop (k + 1) s) (drop (k + 1) l) ≡ slotsIn (drop k s) (drop k l)
   slots-again h e = sym (slots-step h ∙ rw e)
 
-  pub slots-wrong : k < length l → cond (ltb k (length s)) (inTypeByte (getD s k 0) (getD l k (pos 0))) (eqZ (getD l k (pos 0)) (pos 0)) ≡ false → false ≡ slotsIn (drop k s) (drop k l)
+  pub slots-wrong : k < length l → cond (ltb k (length s)) (inTypeByte (getD s k 0) (getD l k (pos 0))) (eqZ (getD l k (pos 0)) (pos 0)) ≡ false
+      → false ≡ slotsIn (drop k s) (drop k l)
   slots-wrong h e = sym (slots-step h ∙ rw e)
 
   pub slots-end : k ≤ length l → length l ≤ k → leb (length s) (length l) ≡ slotsIn (drop k s) (drop k l)

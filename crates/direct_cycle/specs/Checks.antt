@@ -2,13 +2,14 @@
 use mathlib.Core.Bool.{Bool, false, cond, _&&_, _||_}
 use mathlib.Core.Option.{Option, none, some}
 use mathlib.Core.List.{List, [], _∷_}
-use Prim.Native.Nat.{ℕ, suc, _*_}
-use lib.ListN.{length, getD}
+use Prim.Native.Nat.{ℕ, suc, _*_, _-_}
+use lib.ListN.{length, getD, take, drop}
 use lib.IntN.{ℤ}
 use lib.Dec.{eqb, ltb}
 use Rattle.base_codes.specs.Statement as S
 use Rattle.base_codes.specs.Limit as L
 use Rattle.base_answers.specs.declared.State.{State}
+use Rattle.base_ir.specs.declared.Names.{Names}
 use Rattle.base_signed.specs.Signed.{inTypeByte}
 use Rattle.spec_semantics.specs.Records.{zeros}
 use Rattle.direct_cycle.specs.declared.RowCheck.{RowCheck}
@@ -42,3 +43,7 @@ placeIn rows size p = eqb p L.BEGINNING || (ltb p size && eqb (getD rows (S.ROW 
 -- 15 is given where this is false
 unfoldable pub stateIs : List ℕ → ℕ → List ℕ → List ℕ → State → Bool
 stateIs rows size ot vt s = placeIn rows size (s .place) && (slotsIn ot (s .outputs) && slotsIn vt (s .variables))
+
+-- the types of declared names that are in use
+abbrev pub inUse : Names → List ℕ
+inUse d = take (d .count - 0) (drop 0 (d .types))

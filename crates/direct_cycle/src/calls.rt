@@ -2,21 +2,20 @@
 ghost use mathlib.Core.Path.{_≡_};
 ghost use mathlib.Core.Bool.{true};
 ghost use mathlib.Core.Option.{none};
-ghost use mathlib.Core.List.{List};
-ghost use Prim.Native.Nat.{ℕ, _≤_, _<_};
+ghost use Prim.Native.Nat.{_≤_, _<_};
 ghost use lib.ListN.{length, take};
-ghost use Rattle.spec_design.specs.Process.{Process, initials};
+ghost use Rattle.spec_design.specs.Process.{Process, WellFormed};
 ghost use Rattle.base_answers.specs.declared.Cycled.the-variants.{Performed};
-ghost use Rattle.base_answers.specs.Answers.{cycleTold};
 ghost use Rattle.spec_semantics.specs.Rows.{rowRefusal, atFirst};
 ghost use Rattle.spec_semantics.specs.Records.{pad};
 ghost use Rattle.spec_semantics.specs.Comparison.{laid};
 ghost use Rattle.spec_semantics.specs.DirectRow.{fitsText, keptOf, cycled, directRow};
-ghost use Rattle.direct_cycle.specs.Calls.{Design, Names, callOf, fedOf};
-ghost use Rattle.spec_semantics.specs.Advances.{Advances, cycleAnswer};
+ghost use Rattle.direct_cycle.specs.Calls.{Design, callOf, fedOf};
+ghost use Rattle.base_ir.specs.Arrays.{NamesIn, Holds, Bounded};
+ghost use Rattle.spec_semantics.specs.Advances.{Advances};
 use crate::RowCheck;
 use crate::checks::row_check;
-use crate::checks::state_check;
+use crate::checks::state_right;
 use base_answers::Advanced;
 use base_answers::Counts;
 use base_answers::Cycled;
@@ -26,6 +25,7 @@ use base_answers::operator_refusal;
 use base_answers::refused;
 use base_codes::limit;
 use base_codes::record;
+use base_ir::Declared;
 use direct_expressions::evaluation::number;
 use direct_statements::Progress;
 use direct_statements::cycles::cycle;
@@ -127,27 +127,25 @@ fn judged(
     codes: &[u8],
     args: &[i32],
     rows: &[u16],
-    size: usize,
-    output_types: &[u8],
-    variable_types: &[u8],
+    d: Declared,
     inputs: &[i32],
     s: State,
     row: &mut [i32],
 ) -> Advanced
-    ensures { λ a. ⌜ ((p : Process) (is : List ℕ) → Design p (now (codes .entry)) (now (args .entry)) (now (rows .entry)) size
-        → Names p is (now («output_types» .entry)) (now («variable_types» .entry))
+    requires { ⌜ Bounded d ⌝ }
+    ensures { λ a. ⌜ ((p : Process) → Holds p d (now (codes .entry)) (now (args .entry)) (now (rows .entry)) → WellFormed p
         → rowRefusal p (fedOf (now (inputs .entry)) (length (now (row .entry)))) ≡ none
         → Advances (directRow p s (callOf (now (inputs .entry)) (now (row .entry)))) a (now (row .exit))) ⌝ }
 {
-    let right = state_check(rows, size, output_types, variable_types, s);
+    let right = state_right(rows, d, s);
     if right {
         return run(
             codes,
             args,
             rows,
-            size,
-            output_types.len(),
-            variable_types.len(),
+            d.statements,
+            d.outputs.count,
+            d.variables.count,
             inputs,
             s,
             row,
@@ -156,38 +154,25 @@ fn judged(
     refused(s, Refusal::BadState)
 }
 
-// One call on a design in arrays: 14, then 15, then a cycle. A refused one hands back the state, and the output row is as it was.
+// One call on a design: 14, then 15, then a cycle. A refused one hands back the state, and the output row is as it was.
 pub fn advance(
     codes: &[u8],
     args: &[i32],
     rows: &[u16],
-    size: usize,
-    input_types: &[u8],
-    output_types: &[u8],
-    variable_types: &[u8],
+    d: Declared,
     inputs: &[i32],
     s: State,
     row: &mut [i32],
 ) -> Advanced
-    ensures { λ a. ⌜ ((p : Process) → Design p (now (codes .entry)) (now (args .entry)) (now (rows .entry)) size
-        → Names p (now («input_types» .entry)) (now («output_types» .entry)) (now («variable_types» .entry))
-        → (cycleTold (a .answer) ≡ cycleAnswer (directRow p s (callOf (now (inputs .entry)) (now (row .entry))) .answer))
-        × (a .state ≡ directRow p s (callOf (now (inputs .entry)) (now (row .entry))) .state)
-        × (now (row .exit) ≡ directRow p s (callOf (now (inputs .entry)) (now (row .entry))) .row)) ⌝ }
+    requires { ⌜ Bounded d ⌝ }
+    ensures { λ a. ⌜ ((p : Process) → Holds p d (now (codes .entry)) (now (args .entry)) (now (rows .entry)) → WellFormed p
+        → Advances (directRow p s (callOf (now (inputs .entry)) (now (row .entry)))) a (now (row .exit))) ⌝ }
 {
-    let check = row_check(input_types, inputs, output_types.len(), row.len());
+    let i = d.inputs.count;
+    let types = d.inputs.types;
+    let check = row_check(&types[0..i], inputs, d.outputs.count, row.len());
     match check {
-        RowCheck::Right => judged(
-            codes,
-            args,
-            rows,
-            size,
-            output_types,
-            variable_types,
-            inputs,
-            s,
-            row,
-        ),
+        RowCheck::Right => judged(codes, args, rows, d, inputs, s, row),
         RowCheck::WrongAt(k) => refused(s, Refusal::BadRow(k)),
     }
 }
@@ -204,13 +189,18 @@ fn fill(values: &[i32], slots: &mut [i32])
 }
 
 // "The fresh state has place 512 and the initial values."
-pub fn fresh(outputs: &[i32], variables: &[i32]) -> State
-    ensures { λ r. ⌜ ((p : Process) → now (outputs .entry) ≡ initials (p .outputs) → now (variables .entry) ≡ initials (p .variables) → r ≡ laid (atFirst p)) ⌝ }
+pub fn fresh(d: Declared) -> State
+    requires { ⌜ Bounded d ⌝ }
+    ensures { λ r. ⌜ ((p : Process) → NamesIn p d → r ≡ laid (atFirst p)) ⌝ }
 {
+    let o = d.outputs.count;
+    let outputs = d.outputs.values;
     let mut first = [0i32; limit::OUTPUTS];
-    fill(outputs, &mut first);
+    fill(&outputs[0..o], &mut first);
+    let v = d.variables.count;
+    let variables = d.variables.values;
     let mut second = [0i32; limit::VARIABLES];
-    fill(variables, &mut second);
+    fill(&variables[0..v], &mut second);
     State {
         place: record::BEGINNING,
         outputs: first,

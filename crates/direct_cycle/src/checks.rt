@@ -7,12 +7,14 @@ ghost use lib.IntN.{pos};
 ghost use lib.Dec.{ltb};
 ghost use Rattle.spec_design.specs.Types.{eqZ};
 ghost use Rattle.base_signed.specs.Signed.{inTypeByte};
-ghost use Rattle.direct_cycle.specs.Checks.{checkOf, wrongIn, rowIs, slotsIn, placeIn, stateIs};
+ghost use Rattle.direct_cycle.specs.Checks.{checkOf, wrongIn, rowIs, slotsIn, placeIn, inUse, stateIs};
+ghost use Rattle.base_ir.specs.Arrays.{Bounded};
 use crate::RowCheck;
 use base_answers::State;
 use base_codes::kind;
 use base_codes::limit;
 use base_codes::statement;
+use base_ir::Declared;
 use base_signed::equal;
 use base_signed::in_type;
 use direct_statements::blocks::entry;
@@ -89,7 +91,7 @@ fn place_right(rows: &[u16], size: usize, place: usize) -> bool
 }
 
 // Refusal 15: place, outputs and variables of the state.
-pub(crate) fn state_check(
+fn state_check(
     rows: &[u16],
     size: usize,
     output_types: &[u8],
@@ -109,4 +111,17 @@ pub(crate) fn state_check(
         }
     }
     false
+}
+
+// Refusal 15 for what a design declares.
+pub(crate) fn state_right(rows: &[u16], d: Declared, s: State) -> bool
+    requires { ⌜ Bounded d ⌝ }
+    ensures { λ r. ⌜ r ≡ stateIs (now (rows .entry)) (d .statements) (inUse (d .outputs)) (inUse (d .variables)) s ⌝ }
+    ensures { λ _. ⌜ (length (s .outputs) ≡ 16) × (length (s .variables) ≡ 32) ⌝ }
+{
+    let o = d.outputs.count;
+    let v = d.variables.count;
+    let outputs = d.outputs.types;
+    let variables = d.variables.types;
+    state_check(rows, d.statements, &outputs[0..o], &variables[0..v], s)
 }

@@ -17,12 +17,11 @@ use Rattle.base_codes.specs.Operation.{SIGN, NOT, unaryCode, binaryCode, countO
 use Rattle.base_codes.specs.Types.{tagOf}
 use Rattle.base_ir.specs.Arrays.{opsFrom}
 use Rattle.base_ir.proofs.Laid.{unaryOp, binaryOp, ops-laid}
-use Rattle.spec_format.proofs.Coding.{bind-cong}
-use Rattle.spec_format.proofs.Decoding.{given-some, given2-some}
 use Rattle.base_operators.specs.Operators.{unaryOn, binaryOn}
 use Rattle.base_operators.proofs.Laws.{unary-taken, binary-taken}
 use Rattle.direct_expressions.specs.Machine.{kindOf, pushed, stepOf, runOps, topOf, valueIn, evaluatedOf, Performable}
 use Rattle.direct_expressions.specs.declared.Evaluated.{Evaluated}
+use Rattle.spec_semantics.proofs.Typed.{bind-cong, given-some, given2-some}
 
 -- NUMBERS
 
@@ -53,7 +52,8 @@ module _ (i v : List ℤ) where
       record { ofLeaf = values i v .ofLeaf; ofUnary = λ o t x. unaryOn (unaryCode o) (tagOf t) x; ofBinary = λ o t x y. binaryOn (binaryCode o) (tagOf t) x y }
 
   -- operators take their operands from the stack
-  step-unary : (o : Unary) (t : ExprTy) (x : ℤ) (st : List ℤ) → stepOf i v (unaryOp o t) (x ∷ st) ≡ bind (unaryOn (unaryCode o) (tagOf t) x) (λ z. fine (z ∷ st))
+  step-unary : (o : Unary) (t : ExprTy) (x : ℤ) (st : List ℤ)
+      → stepOf i v (unaryOp o t) (x ∷ st) ≡ bind (unaryOn (unaryCode o) (tagOf t) x) (λ z. fine (z ∷ st))
   step-unary o t x st = by-code o ∙ pushed-is (unaryOn (unaryCode o) (tagOf t) x) st
     where
       by-code : (o : Unary) → stepOf i v (unaryOp o t) (x ∷ st) ≡ pushed (unaryOn (unaryCode o) (tagOf t) x) st

@@ -46,7 +46,8 @@ pub stopped : (a : List ℤ) (n q : ℕ) {o : Out (List ℤ)} → Room a n → f
 stopped a n q m e = record { room = record { numbers = m .numbers; depth = omega arith }; says = e }
 
 -- an operator that gives o, applied at element i
-pub went : {b : List ℤ} {r : ℕ} {n : Out (List ℤ)} (o : Out ℤ) (a : List ℤ) (i : ℕ) → n ≡ pushed o (stackOf (pos 0) a i) → Applied o a i b r → r ≡ 0 → Room a (i + 1)
+pub went : {b : List ℤ} {r : ℕ} {n : Out (List ℤ)} (o : Out ℤ) (a : List ℤ) (i : ℕ) → n ≡ pushed o (stackOf (pos 0) a i) → Applied o a i b r → r ≡ 0
+    → Room a (i + 1)
     → Says b (Go (i + 1)) n
 went o a i h p e m = let v = p .value e in saying h (rw (v .1, v .2) (put a i (v .0) m))
 
@@ -72,7 +73,8 @@ binary-short a zero k t h = refl
 binary-short a (suc zero) k t h = refl
 binary-short a (suc (suc n)) k t h = absurd (omega arith)
 
-pub unary-more : (a : List ℤ) (n k t : ℕ) → 1 ≤ n → unaryNext k t (stackOf (pos 0) a n) ≡ pushed (unaryOn k t (getD a (n - 1) (pos 0))) (stackOf (pos 0) a (n - 1))
+pub unary-more : (a : List ℤ) (n k t : ℕ) → 1 ≤ n
+    → unaryNext k t (stackOf (pos 0) a n) ≡ pushed (unaryOn k t (getD a (n - 1) (pos 0))) (stackOf (pos 0) a (n - 1))
 unfolding stackOf
 unary-more a zero k t h = absurd (omega arith)
 unary-more a (suc n) k t h = let e : suc n - 1 ≡ n = omega arith in rw e
@@ -147,13 +149,15 @@ module _ (codes : List ℕ) (args : List ℤ) (from to : ℕ) (i v : List ℤ) w
       record { room = w .room; same = turn n k a (fine (stackOf (pos 0) a′ d)) p h (w .says) }
 
   pub left-stop : (n k : ℕ) (a a′ : List ℤ) (r : Transition) (x : ℕ) → Left a n k → k < to
-      → Says a′ r (stepOf i v (op (getD codes k 0) (getD args k (pos 0))) (stackOf (pos 0) a n)) → r ≡ Stop x → Fault x ≡ evaluatedOf (valueIn codes args from to i v)
+      → Says a′ r (stepOf i v (op (getD codes k 0) (getD args k (pos 0))) (stackOf (pos 0) a n)) → r ≡ Stop x
+      → Fault x ≡ evaluatedOf (valueIn codes args from to i v)
   unfolding bind
   left-stop n k a a′ r x p h q e =
       let w = rw e at q in
       ap (λ (y : Out ℤ). evaluatedOf y) (turn n k a (fault x) p h (w .says))
 
-  pub left-end : (n k : ℕ) (a : List ℤ) (r : Evaluated) → Left a n k → to ≤ k → r ≡ evaluatedOf (topOf (stackOf (pos 0) a n)) → r ≡ evaluatedOf (valueIn codes args from to i v)
+  pub left-end : (n k : ℕ) (a : List ℤ) (r : Evaluated) → Left a n k → to ≤ k → r ≡ evaluatedOf (topOf (stackOf (pos 0) a n))
+      → r ≡ evaluatedOf (valueIn codes args from to i v)
   unfolding bind runOps opsFrom
   left-end n k a r p h e =
       let z : to - k ≡ 0 = omega arith in

@@ -1,6 +1,6 @@
 // The value of an expression: its operations, one after another, on a stack of numbers.
 ghost use mathlib.Core.Path.{_≡_};
-ghost use Prim.Native.Nat.{_+_, _≤_};
+ghost use Prim.Native.Nat.{_+_};
 ghost use lib.ListN.{length, getD};
 ghost use lib.IntN.{pos};
 ghost use Rattle.spec_design.specs.Expression.{Expr};

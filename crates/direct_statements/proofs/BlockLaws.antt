@@ -72,12 +72,32 @@ module _ (codes : List ℕ) (args : List ℤ) (rows : List ℕ) where
   front-of {s} j e (only k) h =
       let n = h .end in
       let z = size-some s in
-      rw (row-end j e k h) (record { one = s; single = k; held = h; rest = none; after = refl; same = λ i σ. sym (then-none (start s j i σ)); low = omega arith; high = omega arith })
+      rw (row-end j e k h) (record {
+        one = s;
+        single = k;
+        held = h;
+        rest = none;
+        after = refl;
+        same = λ i σ. sym
+            (then-none (start s j i σ));
+        low = omega arith;
+        high = omega arith;
+      })
   front-of {s = seq a b} j e (andThen k l) h =
       let n = (rest-held j e h) .end in
       let z = size-some a in
       rw (row-end j (j + size a) k (first-held j e h))
-      (record { one = a; single = k; held = first-held j e h; rest = some b; after = (rest-held j e h, l); same = λ i σ. refl; low = omega arith; high = omega arith })
+      (record {
+        one = a;
+        single = k;
+        held = first-held j e h;
+        rest = some b;
+        after =
+            (rest-held j e h, l);
+        same = λ i σ. refl;
+        low = omega arith;
+        high = omega arith;
+      })
 
   pub front : (q : Option Stmt) (j e : ℕ) → HeldRest codes args rows q j e → j < e → Front q j (getD rows (6 * j + 5) 0) e
   front none j e h l = absurd (omega arith)
@@ -125,7 +145,16 @@ module _ (codes : List ℕ) (args : List ℤ) (rows : List ℕ) where
       going-reached x k g l q f h =
           let p : Front (g .block) j next e = rw q (front (g .block) j e (g .held) l) in
           let s = (rw h at (f (p .one) (g .way) (p .single) (p .held) (g .count))) .is in
-          record { is = (s .0, (s .1 .0, g .same ∙ (p .same i (run (g .way) o v) ∙ ap (λ (R : Result). then R (λ τ. startRest (p .rest) next i τ)) (s .1 .1)))) }
+          record {
+            is = (
+              s .0,
+              (
+                s .1 .0,
+                g .same ∙ (p .same i (run (g .way) o v)
+                    ∙ ap (λ (R : Result). then R (λ τ. startRest (p .rest) next i τ)) (s .1 .1)),
+              ),
+            );
+          }
 
       pub going-refused : (m x : ℕ) → Going j n o v → j < e → next ≡ getD rows (6 * j + 5) 0 → Answered → r ≡ Refused m x → Stands whole (Refused m x) o′ v′
       unfolding then

@@ -18,7 +18,7 @@ use Rattle.base_ir.specs.Entries.{Single, single-act, single-wait, single-if, s
 use Rattle.base_ir.specs.Arrays.{opsFrom, Row, rowIn, At}
 use Rattle.base_ir.proofs.Held.{at-output, at-variable, at-null, at-wait, at-if, at-while, at-else}
 use Rattle.direct_expressions.specs.Machine.{valueIn, Performable}
-use Rattle.direct_statements.specs.Effects.{branchOf, effectOf, effectIn, storedOf, storedIn}
+use Rattle.direct_statements.specs.Effects.{branchOf, effectOf, storedOf, valueOf}
 use Rattle.direct_statements.specs.Holding.{Ready, HeldIn, HeldRest, startRest}
 use Rattle.direct_statements.specs.Standing.{run}
 use Rattle.direct_statements.specs.declared.Effect.{Effect}
@@ -43,7 +43,9 @@ module _ (codes : List ℕ) (args : List ℤ) (rows : List ℕ) (i : List ℤ) w
 
   -- the effect by the row r says what R is
   abbrev By : ℕ → ℕ → List ℕ → Result → List ℤ → List ℤ → Row → Type 0
-  By j next w R o v r = EffectSays j next w R (effectIn codes args i v j r) (storedIn 1 codes args i v r o) (storedIn 2 codes args i v r v)
+  By j next w R o v r =
+      let e = valueOf codes args i v r in
+      EffectSays j next w R (effectOf (r .kind) e j (r .other) (r .end)) (storedOf 1 (r .kind) (r .target) e o) (storedOf 2 (r .kind) (r .target) e v)
 
   module _ (j next : ℕ) (w : List ℕ) (o v : List ℤ) where
     -- nothing follows
@@ -51,36 +53,43 @@ module _ (codes : List ℕ) (args : List ℤ) (rows : List ℕ) (i : List ℤ) w
     alone R o′ v′ h e = record { block = none; held = refl; low = omega arith; mid = omega arith; high = omega arith; same = e }
 
     -- the value of an expression that the arrays hold
-    valued : (m : ℕ) (e : Expr) (P : Out ℤ → Type 0) → opsFrom codes args m (length (ops e)) ≡ ops e → Performable e → P (evaluate e i v) → P (valueIn codes args m (m + length (ops e)) i v)
+    valued : (m : ℕ) (e : Expr) (P : Out ℤ → Type 0) → opsFrom codes args m (length (ops e)) ≡ ops e → Performable e → P (evaluate e i v)
+        → P (valueIn codes args m (m + length (ops e)) i v)
     valued m e P h n p = subst (λ (r : Out ℤ). P r) (sym (value-expr i v codes args m e h n)) p
 
-    output-says : (k : ℕ) (e : Expr) → HeldIn codes args rows (act (output k e)) j next → By j next w (start (act (output k e)) j i (run w o v)) o v (rowIn rows j)
+    output-says : (k : ℕ) (e : Expr) → HeldIn codes args rows (act (output k e)) j next
+        → By j next w (start (act (output k e)) j i (run w o v)) o v (rowIn rows j)
     unfolding Ready size start acted perform bind
     output-says k e h =
         let own = at-output (h .lies) in
         let n = h .end in
         subst (λ (r : Row). By j next w (start (act (output k e)) j i (run w o v)) o v r) (sym (own .line))
         (valued (h .m) e
-        (λ (r : Out ℤ). EffectSays j next w (start (act (output k e)) j i (run w o v)) (effectOf 1 r j (j + 1 + 0) (j + 1 + 0)) (storedOf 1 1 k r o) (storedOf 2 1 k r v))
+        (λ (r : Out ℤ). EffectSays j next w (start (act (output k e)) j i (run w o v)) (effectOf 1 r j (j + 1 + 0) (j + 1 + 0)) (storedOf 1 1 k r o)
+        (storedOf 2 1 k r v))
         (own .code) (h .ready) (go (evaluate e i v) (omega arith)))
       where
         go : (r : Out ℤ) → j < next
-            → EffectSays j next w (acted (bind r (λ z. fine (record { outputs = set o k z; variables = v }))) j (run w o v)) (effectOf 1 r j (j + 1 + 0) (j + 1 + 0)) (storedOf 1 1 k r o) (storedOf 2 1 k r v)
+            → EffectSays j next w (acted (bind r (λ z. fine (record { outputs = set o k z; variables = v }))) j (run w o v))
+            (effectOf 1 r j (j + 1 + 0) (j + 1 + 0)) (storedOf 1 1 k r o) (storedOf 2 1 k r v)
         go (fine z) l = alone (passed (run (w ++ (j ∷ [])) (set o k z) v)) (set o k z) v l refl
         go (fault q) l = refl
 
-    variable-says : (k : ℕ) (e : Expr) → HeldIn codes args rows (act (variable k e)) j next → By j next w (start (act (variable k e)) j i (run w o v)) o v (rowIn rows j)
+    variable-says : (k : ℕ) (e : Expr) → HeldIn codes args rows (act (variable k e)) j next
+        → By j next w (start (act (variable k e)) j i (run w o v)) o v (rowIn rows j)
     unfolding Ready size start acted perform bind
     variable-says k e h =
         let own = at-variable (h .lies) in
         let n = h .end in
         subst (λ (r : Row). By j next w (start (act (variable k e)) j i (run w o v)) o v r) (sym (own .line))
         (valued (h .m) e
-        (λ (r : Out ℤ). EffectSays j next w (start (act (variable k e)) j i (run w o v)) (effectOf 2 r j (j + 1 + 0) (j + 1 + 0)) (storedOf 1 2 k r o) (storedOf 2 2 k r v))
+        (λ (r : Out ℤ). EffectSays j next w (start (act (variable k e)) j i (run w o v)) (effectOf 2 r j (j + 1 + 0) (j + 1 + 0)) (storedOf 1 2 k r o)
+        (storedOf 2 2 k r v))
         (own .code) (h .ready) (go (evaluate e i v) (omega arith)))
       where
         go : (r : Out ℤ) → j < next
-            → EffectSays j next w (acted (bind r (λ z. fine (record { outputs = o; variables = set v k z }))) j (run w o v)) (effectOf 2 r j (j + 1 + 0) (j + 1 + 0)) (storedOf 1 2 k r o) (storedOf 2 2 k r v)
+            → EffectSays j next w (acted (bind r (λ z. fine (record { outputs = o; variables = set v k z }))) j (run w o v))
+            (effectOf 2 r j (j + 1 + 0) (j + 1 + 0)) (storedOf 1 2 k r o) (storedOf 2 2 k r v)
         go (fine z) l = alone (passed (run (w ++ (j ∷ [])) o (set v k z))) o (set v k z) l refl
         go (fault q) l = refl
 
@@ -88,7 +97,8 @@ module _ (codes : List ℕ) (args : List ℤ) (rows : List ℕ) (i : List ℤ) w
     unfolding size start acted perform
     null-says h =
         let n = h .end in
-        subst (λ (r : Row). By j next w (start (act null) j i (run w o v)) o v r) (sym (at-null (h .lies) .line)) (go (valueIn codes args (h .m) (h .m + 0) i v) (omega arith))
+        subst (λ (r : Row). By j next w (start (act null) j i (run w o v)) o v r) (sym (at-null (h .lies) .line))
+        (go (valueIn codes args (h .m) (h .m + 0) i v) (omega arith))
       where
         go : (r : Out ℤ) → j < next
             → EffectSays j next w (passed (run (w ++ (j ∷ [])) o v)) (Performed (j + 1) (j + 1)) (storedOf 1 4 0 r o) (storedOf 2 4 0 r v)
@@ -97,7 +107,8 @@ module _ (codes : List ℕ) (args : List ℤ) (rows : List ℕ) (i : List ℤ) w
 
     wait-says : HeldIn codes args rows wait j next → By j next w (start wait j i (run w o v)) o v (rowIn rows j)
     unfolding start log
-    wait-says h = subst (λ (r : Row). By j next w (start wait j i (run w o v)) o v r) (sym (at-wait (h .lies) .line)) (go (valueIn codes args (h .m) (h .m + 0) i v))
+    wait-says h = subst (λ (r : Row). By j next w (start wait j i (run w o v)) o v r) (sym (at-wait (h .lies) .line))
+        (go (valueIn codes args (h .m) (h .m + 0) i v))
       where
         go : (r : Out ℤ) → EffectSays j next w (reached j (run (w ++ (j ∷ [])) o v)) Waits (storedOf 1 0 0 r o) (storedOf 2 0 0 r v)
         go (fine z) = refl
@@ -128,14 +139,16 @@ module _ (codes : List ℕ) (args : List ℤ) (rows : List ℕ) (i : List ℤ) w
     none-part : (a : ℕ) (R : Result) → j < a → a ≤ next → R ≡ passed (run (w ++ (j ∷ [])) o v) → Inner j next w R a a o v
     none-part a R l h e = record { block = none; held = refl; low = l; mid = omega arith; high = h; same = e }
 
-    if-says : (e : Expr) (a : Stmt) → Block a → HeldIn codes args rows (if-then e a) j next → By j next w (start (if-then e a) j i (run w o v)) o v (rowIn rows j)
+    if-says : (e : Expr) (a : Stmt) → Block a → HeldIn codes args rows (if-then e a) j next
+        → By j next w (start (if-then e a) j i (run w o v)) o v (rowIn rows j)
     unfolding Ready size start holds bind tested
     if-says e a k h =
         let p = at-if (h .lies) in
         let n = h .end in
         subst (λ (r : Row). By j next w (start (if-then e a) j i (run w o v)) o v r) (sym (p .0 .line))
         (valued (h .m) e
-        (λ (r : Out ℤ). EffectSays j next w (start (if-then e a) j i (run w o v)) (effectOf 3 r j (j + 1 + size a) (j + 1 + size a)) (storedOf 1 3 0 r o) (storedOf 2 3 0 r v))
+        (λ (r : Out ℤ). EffectSays j next w (start (if-then e a) j i (run w o v)) (effectOf 3 r j (j + 1 + size a) (j + 1 + size a)) (storedOf 1 3 0 r o)
+        (storedOf 2 3 0 r v))
         (p .0 .code) (h .ready .0)
         (go (evaluate e i v)
         (first-part a _ (start a (suc j) i (run (w ++ (j ∷ [])) o v)) (p .1) (h .ready .1) k (omega arith) refl)
@@ -148,14 +161,16 @@ module _ (codes : List ℕ) (args : List ℤ) (rows : List ℕ) (i : List ℤ) w
         go (fine z) p q = chosen (λ τ. start a (suc j) i τ) passed (j + 1 + size a) (j + 1 + size a) (isOne z) p q
         go (fault q) p p′ = refl
 
-    while-says : (e : Expr) (a : Stmt) → Block a → HeldIn codes args rows (while e a) j next → By j next w (start (while e a) j i (run w o v)) o v (rowIn rows j)
+    while-says : (e : Expr) (a : Stmt) → Block a → HeldIn codes args rows (while e a) j next
+        → By j next w (start (while e a) j i (run w o v)) o v (rowIn rows j)
     unfolding Ready size start holds bind tested
     while-says e a k h =
         let p = at-while (h .lies) in
         let n = h .end in
         subst (λ (r : Row). By j next w (start (while e a) j i (run w o v)) o v r) (sym (p .0 .line))
         (valued (h .m) e
-        (λ (r : Out ℤ). EffectSays j next w (start (while e a) j i (run w o v)) (effectOf 5 r j (j + 1 + size a) (j + 1 + size a)) (storedOf 1 5 0 r o) (storedOf 2 5 0 r v))
+        (λ (r : Out ℤ). EffectSays j next w (start (while e a) j i (run w o v)) (effectOf 5 r j (j + 1 + size a) (j + 1 + size a)) (storedOf 1 5 0 r o)
+        (storedOf 2 5 0 r v))
         (p .0 .code) (h .ready .0)
         (go (evaluate e i v)
         (first-part a _ (start a (suc j) i (run (w ++ (j ∷ [])) o v)) (p .1) (h .ready .1) k (omega arith) refl)
@@ -190,11 +205,13 @@ module _ (codes : List ℕ) (args : List ℤ) (rows : List ℕ) (i : List ℤ) w
         let z : suc j + size a ≡ j + 1 + size a = omega arith in
         subst (λ (r : Row). By j next w (start (if-else e a b) j i (run w o v)) o v r) (sym (p .0 .line))
         (valued (h .m) e
-        (λ (r : Out ℤ). EffectSays j next w (start (if-else e a b) j i (run w o v)) (effectOf 3 r j (j + 1 + size a) (j + 1 + (size a + size b))) (storedOf 1 3 0 r o) (storedOf 2 3 0 r v))
+        (λ (r : Out ℤ). EffectSays j next w (start (if-else e a b) j i (run w o v)) (effectOf 3 r j (j + 1 + size a) (j + 1 + (size a + size b)))
+        (storedOf 1 3 0 r o) (storedOf 2 3 0 r v))
         (p .0 .code) (h .ready .0)
         (go (evaluate e i v)
         (first-part a _ (start a (suc j) i (run (w ++ (j ∷ [])) o v)) (p .1 .0) (h .ready .1 .0) k (omega arith) refl)
-        (second-part b _ (j + 1 + size a) (j + 1 + (size a + size b)) (start b (suc j + size a) i (run (w ++ (j ∷ [])) o v)) (p .1 .1) (h .ready .1 .1) l (omega arith) (omega arith) (omega arith) (rw z))))
+        (second-part b _ (j + 1 + size a) (j + 1 + (size a + size b)) (start b (suc j + size a) i (run (w ++ (j ∷ [])) o v)) (p .1 .1) (h .ready .1 .1) l
+        (omega arith) (omega arith) (omega arith) (rw z))))
       where
         go : (r : Out ℤ) → Inner j next w (start a (suc j) i (run (w ++ (j ∷ [])) o v)) (j + 1) (j + 1 + size a) o v
             → Inner j next w (start b (suc j + size a) i (run (w ++ (j ∷ [])) o v)) (j + 1 + size a) (j + 1 + (size a + size b)) o v

@@ -1,26 +1,29 @@
 // Statements started and resumed, by the rows that hold them: blocks in blocks are a cycle of calls, the statements of a block a loop.
 ghost use mathlib.Core.Path.{_≡_};
-ghost use mathlib.Core.Bool.{true, cond, _&&_};
-ghost use mathlib.Core.Option.{Option};
+ghost use mathlib.Core.Bool.{true, cond, _&&_, _||_};
 ghost use mathlib.Core.List.{List};
 ghost use Prim.Native.Nat.{ℕ, _+_, _-_, _*_, _≤_, _<_};
-ghost use lib.ListN.{length, getD, set};
+ghost use lib.ListN.{getD, set};
 ghost use lib.IntN.{ℤ};
 ghost use lib.Dec.{eqb, ltb, leb};
 ghost use Rattle.base_codes.specs.Statement as S;
+ghost use Rattle.spec_design.specs.Expression.{fine};
 ghost use Rattle.spec_design.specs.Statement.{Stmt, has};
 ghost use Rattle.spec_semantics.specs.Evaluation.{isOne};
-ghost use Rattle.spec_semantics.specs.Equations.{Result, then, start as startOf, resume as resumeOf};
-ghost use Rattle.base_ir.specs.Entries.{Single, Block};
+ghost use Rattle.base_ir.specs.Entries.{Block};
 ghost use Rattle.base_ir.specs.Arrays.{rowIn};
-ghost use Rattle.direct_statements.specs.Effects.{branchOf, effectIn, storedIn};
-ghost use Rattle.direct_statements.specs.Holding.{HeldIn, HeldRest, startRest, Part};
-ghost use Rattle.direct_statements.specs.Standing.{run, counted, Stands, Bounds};
+ghost use Rattle.direct_statements.specs.Effects.{branchOf, valueOf, Valued, Acts};
+ghost use Rattle.direct_statements.specs.Holding.{HeldIn, Part};
+ghost use Rattle.direct_statements.specs.Standing.{counted, Bounds};
+ghost use Rattle.direct_statements.specs.Resuming.{insideRows, ResumesAt};
+ghost use Rattle.direct_statements.specs.Running.{StartsOne, Starts, GoesOn, Resumes};
 use crate::Effect;
+use crate::Inside;
 use crate::Progress;
 use base_codes::kind;
 use base_codes::statement as row;
 use direct_expressions::Evaluated;
+use direct_expressions::Found;
 use direct_expressions::evaluation::evaluate;
 
 // The k-th number of the rows; 0 where there is none.
@@ -43,6 +46,16 @@ fn store(row: &mut [i32], w: usize, k: usize, n: usize, v: i32)
     }
 }
 
+// Whether a statement of kind k has parts: an if or a while.
+fn has_parts(k: usize) -> bool
+    ensures { λ r. ⌜ r ≡ (eqb k S.IF || eqb k S.WHILE) ⌝ }
+{
+    if k == kind::IF {
+        return true;
+    }
+    k == kind::WHILE
+}
+
 // The part of an if or a while that a condition's value picks.
 fn branch(at: usize, other: usize, end: usize, v: i32) -> Effect
     requires { ⌜ at < 512 ⌝ }
@@ -56,6 +69,33 @@ fn branch(at: usize, other: usize, end: usize, v: i32) -> Effect
     }
 }
 
+// A value stored in the target of statement `at`, which is of kind k, or picking the part that follows.
+fn assign(
+    rows: &[u16],
+    at: usize,
+    k: usize,
+    f: Found,
+    outputs: &mut [i32],
+    variables: &mut [i32],
+) -> Effect
+    requires { ⌜ Valued (now rows) at k ⌝ }
+    ensures { λ r. ⌜ Acts (rowIn (now (rows .entry)) at) at (fine (f .value)) (now (outputs .entry)) (now (variables .entry)) r (now (outputs .exit)) (now (variables .exit)) ⌝ }
+{
+    let v = f.value;
+    if has_parts(k) {
+        return branch(
+            at,
+            entry(rows, row::ROW * at + row::OTHER),
+            entry(rows, row::ROW * at + row::END),
+            v,
+        );
+    }
+    let n = entry(rows, row::ROW * at + row::TARGET);
+    store(outputs, kind::OUTPUT, k, n, v);
+    store(variables, kind::VARIABLE, k, n, v);
+    Effect::Performed(at + 1, at + 1)
+}
+
 // What statement `at` does itself: its value is stored in its target, or picks the part that follows.
 fn perform(
     codes: &[u8],
@@ -67,9 +107,8 @@ fn perform(
     variables: &mut [i32],
 ) -> Effect
     requires { ⌜ at < 512 ⌝ }
-    ensures { λ r. ⌜ r ≡ effectIn (now (codes .entry)) (now (args .entry)) (now (inputs .entry)) (now (variables .entry)) at (rowIn (now (rows .entry)) at) ⌝ }
-    ensures { λ _. ⌜ now (outputs .exit) ≡ storedIn S.OUTPUT (now (codes .entry)) (now (args .entry)) (now (inputs .entry)) (now (variables .entry)) (rowIn (now (rows .entry)) at) (now (outputs .entry)) ⌝ }
-    ensures { λ _. ⌜ now (variables .exit) ≡ storedIn S.VARIABLE (now (codes .entry)) (now (args .entry)) (now (inputs .entry)) (now (variables .entry)) (rowIn (now (rows .entry)) at) (now (variables .entry)) ⌝ }
+    ensures { λ r. ⌜ Acts (rowIn (now (rows .entry)) at) at (valueOf (now (codes .entry)) (now (args .entry)) (now (inputs .entry)) (now (variables .entry)) (rowIn (now (rows .entry)) at))
+        (now (outputs .entry)) (now (variables .entry)) r (now (outputs .exit)) (now (variables .exit)) ⌝ }
 {
     let k = entry(rows, row::ROW * at);
     if k == kind::WAIT {
@@ -83,29 +122,7 @@ fn perform(
     let e = evaluate(codes, args, from, to, inputs, variables);
     match e {
         Evaluated::Fault(q) => Effect::Refuses(q),
-        Evaluated::Value(f) => {
-            let v = f.value;
-            if k == kind::IF {
-                return branch(
-                    at,
-                    entry(rows, row::ROW * at + row::OTHER),
-                    entry(rows, row::ROW * at + row::END),
-                    v,
-                );
-            }
-            if k == kind::WHILE {
-                return branch(
-                    at,
-                    entry(rows, row::ROW * at + row::OTHER),
-                    entry(rows, row::ROW * at + row::END),
-                    v,
-                );
-            }
-            let n = entry(rows, row::ROW * at + row::TARGET);
-            store(outputs, kind::OUTPUT, k, n, v);
-            store(variables, kind::VARIABLE, k, n, v);
-            Effect::Performed(at + 1, at + 1)
-        }
+        Evaluated::Value(f) => assign(rows, at, k, f, outputs, variables),
     }
 }
 
@@ -136,8 +153,7 @@ fn statement(
 ) -> Progress
     requires { ⌜ Bounds at next count × (at < next) ⌝ }
     ensures { λ r. ⌜ counted r ≤ count + (next - at) ⌝ }
-    ensures { λ r. ⌜ ((f : Stmt) (w : List ℕ) → Single f → HeldIn (now (codes .entry)) (now (args .entry)) (now (rows .entry)) f at next → length w ≡ count
-        → Stands (startOf f at (now (inputs .entry)) (run w (now (outputs .entry)) (now (variables .entry)))) r (now (outputs .exit)) (now (variables .exit))) ⌝ }
+    ensures { λ r. ⌜ StartsOne (now (codes .entry)) (now (args .entry)) (now (rows .entry)) at next count (now (inputs .entry)) (now (outputs .entry)) (now (variables .entry)) r (now (outputs .exit)) (now (variables .exit)) ⌝ }
 {
     let m = perform(codes, args, rows, at, inputs, outputs, variables);
     match m {
@@ -177,8 +193,7 @@ pub(crate) fn start(
 ) -> Progress
     requires { ⌜ Bounds first end count ⌝ }
     ensures { λ r. ⌜ counted r ≤ count + (end - first) ⌝ }
-    ensures { λ r. ⌜ ((q : Option Stmt) (w : List ℕ) → HeldRest (now (codes .entry)) (now (args .entry)) (now (rows .entry)) q first end → length w ≡ count
-        → Stands (startRest q first (now (inputs .entry)) (run w (now (outputs .entry)) (now (variables .entry)))) r (now (outputs .exit)) (now (variables .exit))) ⌝ }
+    ensures { λ r. ⌜ Starts (now (codes .entry)) (now (args .entry)) (now (rows .entry)) first end count (now (inputs .entry)) (now (outputs .entry)) (now (variables .entry)) r (now (outputs .exit)) (now (variables .exit)) ⌝ }
 {
     let mut at = first;
     let mut n = count;
@@ -221,9 +236,7 @@ pub(crate) fn go_on(
 ) -> Progress
     requires { ⌜ Bounds from end (counted r) ⌝ }
     ensures { λ s. ⌜ counted s ≤ counted r + (end - from) ⌝ }
-    ensures { λ s. ⌜ ((R : Result) (q : Option Stmt) → Stands R r (now (outputs .entry)) (now (variables .entry))
-        → HeldRest (now (codes .entry)) (now (args .entry)) (now (rows .entry)) q from end
-        → Stands (then R (λ τ. startRest q from (now (inputs .entry)) τ)) s (now (outputs .exit)) (now (variables .exit))) ⌝ }
+    ensures { λ s. ⌜ GoesOn (now (codes .entry)) (now (args .entry)) (now (rows .entry)) from end (now (inputs .entry)) (now (outputs .entry)) (now (variables .entry)) r s (now (outputs .exit)) (now (variables .exit)) ⌝ }
 {
     match r {
         Progress::Passed(n) => start(codes, args, rows, from, end, inputs, outputs, variables, n),
@@ -267,6 +280,33 @@ fn again(kind: usize, at: usize, next: usize) -> usize
     if kind == kind::WHILE { at } else { next }
 }
 
+// Where the statements whose rows are first .. end are resumed at their wait `place`: the statement with the wait is found, and of it the part with the wait.
+fn inside(rows: &[u16], first: usize, end: usize, place: usize) -> Inside
+    requires { ⌜ (first ≤ end) × (end ≤ 512) ⌝ }
+    ensures { λ r. ⌜ insideRows first end r ⌝ }
+    ensures { λ r. ⌜ ResumesAt (now (rows .entry)) first end place r ⌝ }
+{
+    let at = part(rows, first, end, place);
+    let next = entry(rows, row::ROW * at + row::END);
+    if next <= at {
+        return Inside::Nothing;
+    }
+    if end < next {
+        return Inside::Nothing;
+    }
+    let kind = entry(rows, row::ROW * at);
+    if kind == kind::WAIT {
+        return Inside::Wait(next);
+    }
+    let other = entry(rows, row::ROW * at + row::OTHER);
+    let a = pick(place, other, at + 1, other);
+    let b = pick(place, other, other, next);
+    if nested(at, a, b, next) {
+        return Inside::Part(a, b, again(kind, at, next));
+    }
+    Inside::Nothing
+}
+
 // The statements whose rows are first .. end resumed at their wait `place`: the one with the wait is resumed, then those behind it are started.
 pub(crate) fn resume(
     codes: &[u8],
@@ -278,64 +318,18 @@ pub(crate) fn resume(
     inputs: &[i32],
     outputs: &mut [i32],
     variables: &mut [i32],
-    count: usize,
 ) -> Progress
-    requires { ⌜ (first ≤ end) × ((end ≤ 512) × (count + 512 * (end - first) ≤ 1000000)) ⌝ }
-    ensures { λ r. ⌜ counted r ≤ count + 512 * (end - first) ⌝ }
-    ensures { λ r. ⌜ ((s : Stmt) (w : List ℕ) → HeldIn (now (codes .entry)) (now (args .entry)) (now (rows .entry)) s first end → Block s → has s first place ≡ true
-        → length w ≡ count
-        → Stands (resumeOf s first place (now (inputs .entry)) (run w (now (outputs .entry)) (now (variables .entry)))) r (now (outputs .exit)) (now (variables .exit))) ⌝ }
+    requires { ⌜ (first ≤ end) × (end ≤ 512) ⌝ }
+    ensures { λ r. ⌜ counted r ≤ 512 * (end - first) ⌝ }
+    ensures { λ r. ⌜ Resumes (now (codes .entry)) (now (args .entry)) (now (rows .entry)) first end place (now (inputs .entry)) (now (outputs .entry)) (now (variables .entry)) r (now (outputs .exit)) (now (variables .exit)) ⌝ }
 {
-    let at = part(rows, first, end, place);
-    let next = entry(rows, row::ROW * at + row::END);
-    if next <= at {
-        return Progress::Passed(count);
+    let p = inside(rows, first, end, place);
+    match p {
+        Inside::Nothing => Progress::Passed(0),
+        Inside::Wait(from) => start(codes, args, rows, from, end, inputs, outputs, variables, 0),
+        Inside::Part(a, b, from) => {
+            let r = resume(codes, args, rows, a, b, place, inputs, outputs, variables);
+            go_on(codes, args, rows, from, end, inputs, outputs, variables, r)
+        }
     }
-    if end < next {
-        return Progress::Passed(count);
-    }
-    let kind = entry(rows, row::ROW * at);
-    if kind == kind::WAIT {
-        return start(
-            codes,
-            args,
-            rows,
-            next,
-            end,
-            inputs,
-            outputs,
-            variables,
-            count,
-        );
-    }
-    let other = entry(rows, row::ROW * at + row::OTHER);
-    let a = pick(place, other, at + 1, other);
-    let b = pick(place, other, other, next);
-    let right = nested(at, a, b, next);
-    if right {
-        let r = resume(
-            codes,
-            args,
-            rows,
-            a,
-            b,
-            place,
-            inputs,
-            outputs,
-            variables,
-            count,
-        );
-        return go_on(
-            codes,
-            args,
-            rows,
-            again(kind, at, next),
-            end,
-            inputs,
-            outputs,
-            variables,
-            r,
-        );
-    }
-    Progress::Passed(count)
 }

@@ -6,11 +6,12 @@ ghost use Prim.Native.Nat.{_*_, _≤_};
 ghost use lib.Dec.{eqb};
 ghost use Rattle.base_codes.specs.Limit.{BEGINNING};
 ghost use Rattle.spec_design.specs.Statement.{Stmt, has};
-ghost use Rattle.spec_semantics.specs.Equations.{enter as enterOf, cycle as cycleOf};
+ghost use Rattle.spec_semantics.specs.Equations.{cycle as cycleOf};
 ghost use Rattle.base_ir.specs.Entries.{Block};
 ghost use Rattle.spec_semantics.specs.DirectRow.{placeFor};
 ghost use Rattle.direct_statements.specs.Holding.{HeldIn};
 ghost use Rattle.direct_statements.specs.Standing.{run, counted, Stands};
+ghost use Rattle.direct_statements.specs.Running.{Enters};
 use crate::Progress;
 use crate::blocks::go_on;
 use crate::blocks::resume;
@@ -30,8 +31,7 @@ fn enter(
 ) -> Progress
     requires { ⌜ size ≤ 512 ⌝ }
     ensures { λ r. ⌜ counted r ≤ 512 * size ⌝ }
-    ensures { λ r. ⌜ ((s : Stmt) → HeldIn (now (codes .entry)) (now (args .entry)) (now (rows .entry)) s 0 size → Block s → (eqb place BEGINNING || has s 0 place) ≡ true
-        → Stands (enterOf s (placeFor place) (now (inputs .entry)) (run [] (now (outputs .entry)) (now (variables .entry)))) r (now (outputs .exit)) (now (variables .exit))) ⌝ }
+    ensures { λ r. ⌜ Enters (now (codes .entry)) (now (args .entry)) (now (rows .entry)) size place (now (inputs .entry)) (now (outputs .entry)) (now (variables .entry)) r (now (outputs .exit)) (now (variables .exit)) ⌝ }
 {
     if place == limit::BEGINNING {
         return start(codes, args, rows, 0, size, inputs, outputs, variables, 0);
@@ -46,7 +46,6 @@ fn enter(
         inputs,
         outputs,
         variables,
-        0,
     )
 }
 

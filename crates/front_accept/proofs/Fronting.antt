@@ -3,10 +3,10 @@ use mathlib.Core.Path.{_≡_, refl, sym, _∙_, ap, subst}
 use mathlib.Core.Bool.{Bool, true, false, cond}
 use mathlib.Core.Option.{Option, none, some}
 use mathlib.Core.List.{List, [], _∷_}
-use Prim.Native.Nat.{ℕ, zero, suc, _≤_, _<_}
+use Prim.Native.Nat.{ℕ, zero, suc, _+_, _≤_, _<_}
 use native.Mathlib.Omega.{arith}
 use lib.Dec.{leb, ltb}
-use lib.ListN.{length}
+use lib.ListN.{length, length-set}
 use lib.IntN.{ℤ}
 use borrow.Author.Tests.{ltb-true, ltb-false, le-leb, lt-leb}
 use Rattle.base_answers.specs.declared.Refusal.{Refusal}
@@ -16,7 +16,6 @@ use Rattle.spec_grammar.specs.Tree.{Text}
 use Rattle.spec_grammar.specs.Acceptance as P
 use Rattle.spec_grammar.specs.Reader.{answer}
 use Rattle.spec_grammar.proofs.Limits.{exactly-limits}
-use Rattle.spec_design.specs.Process.{Process, sourceTypes, slotTypes}
 use Rattle.spec_language.specs.Lexer.{lex, tokens, malformed}
 use Rattle.spec_language.specs.Lexer as L
 use Rattle.spec_language.specs.Rules.{Offence, Stage, table}
@@ -35,35 +34,37 @@ use Rattle.front_lexer.specs.Tokens as X
 use Rattle.front_lexer.specs.Tokens.{counted}
 use Rattle.front_limits.specs.Flags.{marked}
 use Rattle.front_limits.proofs.Held.{marked-size, tokens-held, words-held, flags-held}
-use Rattle.front_cursor.specs.Tokens.{tokenAt}
-use Rattle.front_cursor.specs.Tokens as C
-use Rattle.front_statements.specs.Rows.{output}
-use Rattle.front_expressions.specs.Written.{arrays}
+use Rattle.front_layout.specs.Tokens as C
 use Rattle.front_parser.specs.declared.Parsed.{Parsed}
 use Rattle.front_parser.specs.declared.Parsing.{Parsing}
 use Rattle.front_parser.specs.declared.Parsing.the-variants.{Tree, NotParsed}
 use Rattle.front_parser.specs.Answers.{lent, ReadAs, parsesAs, Parses}
-use Rattle.front_syntax.specs.Arrays.{numberIn, TokensIn}
-use Rattle.front_syntax.proofs.Kinded.{kinded}
-use Rattle.front_syntax.proofs.Stored.{rows-held, items-held}
 use Rattle.front_offences.specs.Laid.{Laid}
 use Rattle.front_scope.specs.Resolves.{Resolves}
 use Rattle.front_limits.specs.Words.{WordsIn}
 use Rattle.front_offences.proofs.Tokens.{number-inside, picked, passed}
-use Rattle.base_ir.specs.Entries.{entries, entryOps}
+use Rattle.base_ir.specs.declared.Declared.{Declared}
 use Rattle.front_accept.specs.declared.rules.Ruling.{Ruling}
 use Rattle.front_accept.specs.declared.rules.Ruling.the-variants.{Free, Offended}
 use Rattle.front_accept.specs.declared.Front.{Front}
-use Rattle.front_accept.specs.declared.Front.the-variants.{Accepted, Refused}
-use Rattle.front_accept.specs.declared.layout.Counts.{Counts}
-use Rattle.base_answers.specs.Answers.{done, refusedBy}
+use Rattle.front_accept.specs.declared.Acceptance.the-variants.{Accepted}
+use Rattle.base_answers.specs.Answers.{refusedBy}
 use Rattle.base_answers.proofs.Refusals.{told-again}
 use Rattle.base_answers.proofs.Told.{done-refused}
 use Rattle.front_accept.specs.Answered.{placeIn}
-use Rattle.front_accept.specs.Stages.{ruledAs, Ruled, rulingTold}
-use Rattle.front_accept.specs.Designs.{Holds, LaidOut}
-use Rattle.front_accept.specs.Fronts.{TreeIn, countsOf, DesignArrays, designArrays, FrontAs}
-use Rattle.front_accept.proofs.Declared.{decls-held}
+use Rattle.front_accept.specs.Stages.{shapeOf, ruledAs, Ruled, Read, rulingTold}
+use Rattle.front_accept.specs.Designs.{Border}
+use Rattle.spec_grammar.specs.Limits.{WithinLimits}
+use Rattle.spec_design.specs.Process.{WellFormed}
+use Rattle.spec_language.specs.Names.{names}
+use Rattle.spec_language.specs.Clock.{clock}
+use Rattle.front_accept.specs.Fronts.{TreeIn, refusedFront, DesignArrays, designArrays, FrontAs}
+use Rattle.front_layout.specs.Tokens.{tokenAt}
+use Rattle.front_layout.specs.Rows.{output}
+use Rattle.front_layout.specs.Items.{Arrays, arrays, Placed, store}
+use Rattle.front_layout.specs.Arrays.{numberIn, TokensIn}
+use Rattle.front_offences.proofs.Kinded.{kinded}
+use Rattle.front_layout.proofs.Stored.{rows-held, items-held, names-held}
 
 -- THE RULES
 
@@ -73,7 +74,8 @@ unfolding ruled judged
 free-rules [] t e = (tt, refl)
 free-rules (r ∷ rs) t e = go (lowestOffence (r t)) refl e (free-rules rs t)
   where
-    go : (o : Option Offence) → lowestOffence (r t) ≡ o → rulingTold Free ≡ ruledAs (judged o (ruled rs t)) → (rulingTold Free ≡ ruledAs (ruled rs t) → W.Free rs t × (ruled rs t ≡ accepted (elaborate t)))
+    go : (o : Option Offence) → lowestOffence (r t) ≡ o → rulingTold Free ≡ ruledAs (judged o (ruled rs t))
+        → (rulingTold Free ≡ ruledAs (ruled rs t) → W.Free rs t × (ruled rs t ≡ accepted (elaborate t)))
         → ((r t ≡ []) × W.Free rs t) × (judged o (ruled rs t) ≡ accepted (elaborate t))
     go none q f ih = let s = ih f in ((lowest-none (r t) q, s .0), s .1)
     go (some o) q f ih = done-refused f
@@ -82,16 +84,25 @@ pub free-text : (t : Text) → rulingTold Free ≡ ruledAs (ruled table t) → C
 free-text t e = let s = free-rules table t e in (clean t (s .0), s .1)
 
 -- an offence is the verdict's
-pub offended-as : (x : Refusal) (v : Verdict) → rulingTold (Offended x) ≡ ruledAs v → (before after : DesignArrays) → after ≡ before → FrontAs v (Refused x) before after
-offended-as x (accepted p) e before after u = done-refused (sym e)
-offended-as x (refused n k) e before after u = (told-again x n k e, u)
+pub offended-as : (text : List ℕ) (x : Refusal) (v : Verdict) → rulingTold (Offended x) ≡ ruledAs v → (after : DesignArrays)
+    → FrontAs v text (refusedFront x) after
+offended-as text x (accepted p) e after = done-refused (sym e)
+offended-as text x (refused n k) e after = (told-again x n k e, refl)
 
 -- THE PARSER
 
+-- items that are stored leave the array as long as it was
+store-length : (n : ℕ) (ps : List Placed) (b : Arrays) → length (store n ps b .codes) ≡ length (b .codes)
+unfolding store
+store-length n [] b = refl
+store-length n (p ∷ ps) b = store-length (n + 1) ps _ ∙ length-set (b .codes) n (p .code)
+
 -- what was parsed is a tree within the limits, and the arrays hold it
-pub tree-in : {text kinds starts sizes codes₀ codes indices₀ indices rows₀ rows decls₀ decls : List ℕ} {n : ℕ} {p : Parsed} {ts : List Token} {t : Text} → answer ts ≡ P.accepted t → TokensIn ts kinds starts n → WordsIn text ts sizes n
+pub tree-in : {text kinds starts sizes codes₀ codes indices₀ indices rows₀ rows decls₀ decls : List ℕ} {n : ℕ} {p : Parsed} {ts : List Token} {t : Text}
+    → answer ts ≡ P.accepted t → TokensIn ts kinds starts n → WordsIn text ts sizes n
     → length codes₀ ≡ 16384 → length indices₀ ≡ 16384 → length rows₀ ≡ 3072 → length decls₀ ≡ 390
-    → ReadAs ts t (lent (output (arrays codes₀ indices₀) rows₀) decls₀) (lent (output (arrays codes indices) rows) decls) p → TreeIn text ts t kinds starts sizes n p codes indices rows decls
+    → ReadAs ts t (lent (output (arrays codes₀ indices₀) rows₀) decls₀) (lent (output (arrays codes indices) rows) decls) p
+    → TreeIn text ts t kinds starts sizes n p codes indices rows decls
 tree-in {p = p} {ts} {t} e T Q lc li lr ld r =
     let x = exactly-limits ts t .0 e in
     record {
@@ -99,12 +110,13 @@ tree-in {p = p} {ts} {t} e T Q lc li lr ld r =
       words = Q;
       items = items-held (r .lines .items) lc li (r .few-items);
       lines = rows-held (r .lines) lr (r .few-statements);
-      names = decls-held t (r .names) ld (r .few-names);
+      names = names-held (r .names) ld (r .few-names);
       heads = record { entity-at = r .entity; entity-end-at = r .entity-end; arch-at = r .arch; arch-of-at = r .arch-of; arch-end-at = r .arch-end };
       process = r .process;
       kinded = kinded (x .1);
       moded = moded (x .1);
       limits = x .2;
+      room = ap (λ (a : Arrays). length (a .codes)) (r .lines .items .arrays) ∙ (store-length 0 (r .lines .items .placed) _ ∙ lc);
     }
 
 placed-inside : (l : ℕ) (ts : List Token) (i : ℕ) → i < length ts → placeOf l ts i ≡ tokenAt ts i .place
@@ -127,24 +139,16 @@ place-is {ts} {kinds} {starts} {n} l i T = go (ltb i n) refl
     go true q =
         let h = ltb-true i n q in
         let c = T .count in
-        sym (picked (ltb i n) (numberIn starts n i) l (placeOf l ts i) q (placed-inside l ts i (omega arith) ∙ (sym (T .place i h) ∙ sym (number-inside starts n i (T .short) h))))
-    go false q = let h = ltb-false i n q in let c = T .count in sym (passed (ltb i n) (numberIn starts n i) l (placeOf l ts i) q (placed-past l ts i (omega arith)))
+        sym (picked (ltb i n) (numberIn starts n i) l (placeOf l ts i) q
+        (placed-inside l ts i (omega arith) ∙ (sym (T .place i h) ∙ sym (number-inside starts n i (T .short) h))))
+    go false q = let h = ltb-false i n q in let c = T .count in
+        sym (passed (ltb i n) (numberIn starts n i) l (placeOf l ts i) q (placed-past l ts i (omega arith)))
 
 -- THE FRONT END, FROM ITS END TO ITS BEGINNING
 
--- counts that are the same
-equal-counts : (s o i u v s′ o′ i′ u′ v′ : ℕ) → s′ ≡ s → o′ ≡ o → i′ ≡ i → u′ ≡ u → v′ ≡ v
-    → _≡_ {A = Counts} (record { statements = s; operations = o; inputs = i; outputs = u; variables = v }) (record { statements = s′; operations = o′; inputs = i′; outputs = u′; variables = v′ })
-equal-counts s o i u v s′ o′ i′ u′ v′ a b c d e = rw (a, b, c, d, e)
-
--- the counts are those of the process that the arrays hold
-same-counts : (q : Process) (ops : List ℕ) (args : List ℤ) (lines is os vs : List ℕ) (ps qs : List ℤ) (c : Counts) → Holds q ops args lines is os vs ps qs c → c ≡ countsOf q
-same-counts q ops args lines is os vs ps qs c h =
-    equal-counts (c .statements) (c .operations) (c .inputs) (c .outputs) (c .variables) (length (entries (q .body))) (length (entryOps (entries (q .body)))) (length (sourceTypes (q .inputs))) (length (slotTypes (q .outputs)))
-    (length (slotTypes (q .variables))) (h .body .lines .count) (h .body .code .count) (h .declared .inputs .0) (h .declared .outputs .0) (h .declared .variables .0)
-
 module _ {text kinds starts sizes codes indices rows decls owners₀ owners : List ℕ} {n : ℕ} {p : Parsed} {x : Ruling}
-    (R : Ruled text starts sizes n p codes indices rows decls owners x) (O : Resolves text kinds starts sizes n decls (p .names) owners₀ owners) (room : length owners₀ ≡ 16384) (ts : List Token) (t : Text)
+    (R : Ruled table (Read text starts sizes (shapeOf n p) codes indices rows decls owners) x)
+    (O : Resolves text kinds starts sizes n decls (p .names) owners₀ owners) (room : length owners₀ ≡ 16384) (ts : List Token) (t : Text)
     (I : TreeIn text ts t kinds starts sizes n p codes indices rows decls) where
   all-laid : Laid ts t kinds starts n codes indices (p .items) rows (p .statements) decls (p .names) owners
   all-laid =
@@ -158,100 +162,114 @@ module _ {text kinds starts sizes codes indices rows decls owners₀ owners : Li
       }
 
   decided : rulingTold x ≡ ruledAs (ruled table t)
-  decided = R .is ts t kinds all-laid (I .words) (I .heads) (I .process) (I .limits)
+  decided =
+      R .is t
+      (record { held = record { tokens = ts; kinds = kinds; laid = all-laid; words = I .words; heads = I .heads }; process = I .process; within = I .limits })
 
-  -- no rule is offended: the arrays of the design
-  pub front-free : {ops : List ℕ} {args : List ℤ} {lines is os vs : List ℕ} {ps qs : List ℤ} {c : Counts} (before : DesignArrays) → x ≡ Free → LaidOut text kinds starts sizes n p codes indices rows decls owners ops args lines is os vs ps qs c
-      → FrontAs (ruled table t) (Accepted c) before (designArrays ops args lines is os vs ps qs)
-  front-free {ops} {args} {lines} {is} {os} {vs} {ps} {qs} {c} before e l =
+  -- no rule is offended: the design
+  pub front-free : {ops : List ℕ} {args : List ℤ} {lines : List ℕ} {d : Declared} → x ≡ Free
+      → ((ts : List Token) (t : Text) → Laid ts t kinds starts n codes indices (p .items) rows (p .statements) decls (p .names) owners → WordsIn text ts sizes n
+      → WithinLimits t → names t ≡ [] → clock t ≡ []
+      → WellFormed (elaborate t) → Border text (elaborate t) d ops args lines)
+      → FrontAs (ruled table t) text (record { declared = d; answer = Accepted }) (designArrays ops args lines)
+  front-free {ops} {args} {lines} {d} e l =
       let s = free-text t (sym (ap rulingTold e) ∙ decided) in
       let q = s .0 in
-      let h = l .holds ts t all-laid (I .words) (I .limits) (q .names) (q .clock) (well-formed t (I .moded) (I .limits) q) in
-      let w = same-counts (elaborate t) ops args lines is os vs ps qs c h in
-      rw (s .1) (ap done w, subst (λ (u : Counts). Holds (elaborate t) ops args lines is os vs ps qs u) w h)
+      rw (s .1) (refl, l ts t all-laid (I .words) (I .limits) (q .names) (q .clock) (well-formed t (I .moded) (I .limits) q))
 
   -- a rule is offended: its refusal
-  pub front-offended : (y : Refusal) (before after : DesignArrays) → after ≡ before → x ≡ Offended y → FrontAs (ruled table t) (Refused y) before after
-  front-offended y before after u e = offended-as y (ruled table t) (sym (ap rulingTold e) ∙ decided) before after u
+  pub front-offended : (y : Refusal) {r : Front} (after : DesignArrays) → x ≡ Offended y → r ≡ refusedFront y → FrontAs (ruled table t) text r after
+  front-offended y after e f = subst (λ (z : Front). FrontAs (ruled table t) text z after) (sym f)
+      (offended-as text y (ruled table t) (sym (ap rulingTold e) ∙ decided) after)
 
 not-tree : {A : Type 0} {p : Parsed} {k i : ℕ} → Tree p ≡ NotParsed k i → A
 not-tree e = absurd (let z : _≡_ {A = ℕ} 0 1 = cc in omega arith)
 
 module _ {text kinds starts sizes codes₀ codes indices₀ indices rows₀ rows decls₀ decls : List ℕ} {n : ℕ} {x : Parsing} (l : ℕ) (ts : List Token)
-    (P₁ : Parses ts (lent (output (arrays codes₀ indices₀) rows₀) decls₀) (lent (output (arrays codes indices) rows) decls) x) (T : TokensIn ts kinds starts n) where
+    (P₁ : Parses ts (lent (output (arrays codes₀ indices₀) rows₀) decls₀) (lent (output (arrays codes indices) rows) decls) x)
+    (T : TokensIn ts kinds starts n) where
   -- a tree was read: the rules decide
-  pub front-tree : {p : Parsed} (r : Front) (before after : DesignArrays) → x ≡ Tree p → WordsIn text ts sizes n
+  pub front-tree : {p : Parsed} (r : Front) (after : DesignArrays) → x ≡ Tree p → WordsIn text ts sizes n
       → length codes₀ ≡ 16384 → length indices₀ ≡ 16384 → length rows₀ ≡ 3072 → length decls₀ ≡ 390
-      → ((t : Text) → TreeIn text ts t kinds starts sizes n p codes indices rows decls → FrontAs (ruled table t) r before after)
-      → FrontAs (parsed l ts (answer ts)) r before after
+      → ((t : Text) → TreeIn text ts t kinds starts sizes n p codes indices rows decls → FrontAs (ruled table t) text r after)
+      → FrontAs (parsed l ts (answer ts)) text r after
   unfolding parsed
-  front-tree {p} r before after e Q lc li lr ld f = go (answer ts) refl (P₁ .is)
+  front-tree {p} r after e Q lc li lr ld f = go (answer ts) refl (P₁ .is)
     where
-      go : (a : P.Answer) → answer ts ≡ a → parsesAs ts (lent (output (arrays codes₀ indices₀) rows₀) decls₀) (lent (output (arrays codes indices) rows) decls) a x → FrontAs (parsed l ts a) r before after
+      go : (a : P.Answer) → answer ts ≡ a → parsesAs ts (lent (output (arrays codes₀ indices₀) rows₀) decls₀)
+          (lent (output (arrays codes indices) rows) decls) a x → FrontAs (parsed l ts a) text r after
       go (P.accepted t) h (q, g, w) =
           let z : Tree p ≡ Tree q = sym e ∙ g in
           let y : q ≡ p = cc in
-          f t (tree-in h T Q lc li lr ld (subst (λ (u : Parsed). ReadAs ts t (lent (output (arrays codes₀ indices₀) rows₀) decls₀) (lent (output (arrays codes indices) rows) decls) u) y w))
+          f t (tree-in h T Q lc li lr ld (subst (λ (u : Parsed). ReadAs ts t (lent (output (arrays codes₀ indices₀) rows₀) decls₀)
+          (lent (output (arrays codes indices) rows) decls) u) y w))
       go (P.no-sentence k) h g = not-tree (sym e ∙ g)
       go (P.past-limit k) h g = not-tree (sym e ∙ g)
 
 module _ {kinds starts codes₀ codes indices₀ indices rows₀ rows decls₀ decls : List ℕ} {n : ℕ} {x : Parsing} (l : ℕ) (ts : List Token)
-    (P₁ : Parses ts (lent (output (arrays codes₀ indices₀) rows₀) decls₀) (lent (output (arrays codes indices) rows) decls) x) (T : TokensIn ts kinds starts n) where
+    (P₁ : Parses ts (lent (output (arrays codes₀ indices₀) rows₀) decls₀) (lent (output (arrays codes indices) rows) decls) x)
+    (T : TokensIn ts kinds starts n) where
   -- no tree was read: refusal 3 or 4 at the token's place
-  pub front-unread : {k i w : ℕ} (y : Refusal) (before after : DesignArrays) → after ≡ before → x ≡ NotParsed k i → w ≡ placeIn starts n l i → ((k ≡ 3) → y ≡ NoSentence w) × ((k ≡ 4) → y ≡ LimitPassed w)
-      → FrontAs (parsed l ts (answer ts)) (Refused y) before after
+  pub front-unread : {k i w : ℕ} (text : List ℕ) (y : Refusal) {r : Front} (after : DesignArrays) → x ≡ NotParsed k i → w ≡ placeIn starts n l i
+      → ((k ≡ 3) → y ≡ NoSentence w) × ((k ≡ 4) → y ≡ LimitPassed w)
+      → r ≡ refusedFront y → FrontAs (parsed l ts (answer ts)) text r after
   unfolding parsed
-  front-unread {k} {i} {w} y before after u e hw hy = go (answer ts) (P₁ .is)
+  front-unread {k} {i} {w} text y {r} after e hw hy f = subst (λ (z : Front). FrontAs (parsed l ts (answer ts)) text z after) (sym f) (go (answer ts) (P₁ .is))
     where
       at : (j : ℕ) → i ≡ j → w ≡ placeOf l ts j
       at j h = hw ∙ (place-is l i T ∙ ap (placeOf l ts) h)
 
-      go : (a : P.Answer) → parsesAs ts (lent (output (arrays codes₀ indices₀) rows₀) decls₀) (lent (output (arrays codes indices) rows) decls) a x → FrontAs (parsed l ts a) (Refused y) before after
+      go : (a : P.Answer) → parsesAs ts (lent (output (arrays codes₀ indices₀) rows₀) decls₀) (lent (output (arrays codes indices) rows) decls) a x
+          → FrontAs (parsed l ts a) text (refusedFront y) after
       go (P.accepted t) (q, g, _) = not-tree (sym g ∙ e)
       go (P.no-sentence j) g =
           let z : NotParsed k i ≡ NotParsed 3 j = sym e ∙ g in
           let a : k ≡ 3 = cc in
           let b : i ≡ j = cc in
-          (ap refusedBy (hy .0 a ∙ ap NoSentence (at j b)), u)
+          (ap refusedBy (hy .0 a ∙ ap NoSentence (at j b)), refl)
       go (P.past-limit j) g =
           let z : NotParsed k i ≡ NotParsed 4 j = sym e ∙ g in
           let a : k ≡ 4 = cc in
           let b : i ≡ j = cc in
-          (ap refusedBy (hy .1 a ∙ ap LimitPassed (at j b)), u)
+          (ap refusedBy (hy .1 a ∙ ap LimitPassed (at j b)), refl)
 
 not-tokens : {A : Type 0} {n : ℕ} {x : Refusal} → Tokens n ≡ NotLexed x → A
 not-tokens e = absurd (let z : _≡_ {A = ℕ} 0 1 = cc in omega arith)
 
 -- the text has tokens: the parser decides
-pub front-tokens : (text : List ℕ) (n : ℕ) (r : Front) (before after : DesignArrays) → Tokens n ≡ X.lexed text
-    → ((ts : List Token) → lex text ≡ tokens ts → FrontAs (parsed (length text) ts (answer ts)) r before after) → FrontAs (verdict text) r before after
+pub front-tokens : (text : List ℕ) (n : ℕ) (r : Front) (after : DesignArrays) → Tokens n ≡ X.lexed text
+    → ((ts : List Token) → lex text ≡ tokens ts → FrontAs (parsed (length text) ts (answer ts)) text r after) → FrontAs (verdict text) text r after
 unfolding verdict X.lexed lexed
-front-tokens text n r before after e f = go (ltb 16384 (length text)) refl (lex text) refl e
+front-tokens text n r after e f = go (ltb 16384 (length text)) refl (lex text) refl e
   where
     go : (b : Bool) → ltb 16384 (length text) ≡ b → (k : L.Lexed) → lex text ≡ k → Tokens n ≡ cond b (NotLexed TextTooLong) (counted 0 k)
-        → FrontAs (cond (leb (length text) 16384) (lexed (length text) k) (refused 1 0)) r before after
+        → FrontAs (cond (leb (length text) 16384) (lexed (length text) k) (refused 1 0)) text r after
     go true q k h g = not-tokens g
     go false q (tokens ts) h g = rw (le-leb (length text) 16384 (let z = ltb-false 16384 (length text) q in omega arith)) (f ts h)
     go false q (malformed p) h g = not-tokens g
 
 -- the text has none: refusal 1 or 2
-pub front-not-lexed : (text : List ℕ) (x : Refusal) (before after : DesignArrays) → after ≡ before → NotLexed x ≡ X.lexed text → FrontAs (verdict text) (Refused x) before after
+pub front-not-lexed : (text : List ℕ) (x : Refusal) {r : Front} (after : DesignArrays) → NotLexed x ≡ X.lexed text → r ≡ refusedFront x
+    → FrontAs (verdict text) text r after
 unfolding verdict X.lexed lexed
-front-not-lexed text x before after u e = go (ltb 16384 (length text)) refl (lex text) e
+front-not-lexed text x after e f = subst (λ (z : Front). FrontAs (verdict text) text z after) (sym f) (go (ltb 16384 (length text)) refl (lex text) e)
   where
     go : (b : Bool) → ltb 16384 (length text) ≡ b → (k : L.Lexed) → NotLexed x ≡ cond b (NotLexed TextTooLong) (counted 0 k)
-        → FrontAs (cond (leb (length text) 16384) (lexed (length text) k) (refused 1 0)) (Refused x) before after
-    go true q k g = let z : x ≡ TextTooLong = cc in rw (lt-leb (length text) 16384 (ltb-true 16384 (length text) q)) (ap refusedBy z, u)
+        → FrontAs (cond (leb (length text) 16384) (lexed (length text) k) (refused 1 0)) text (refusedFront x) after
+    go true q k g = let z : x ≡ TextTooLong = cc in rw (lt-leb (length text) 16384 (ltb-true 16384 (length text) q)) (ap refusedBy z, refl)
     go false q (tokens ts) g = not-tokens (sym g)
-    go false q (malformed p) g = let z : x ≡ NoToken p = cc in rw (le-leb (length text) 16384 (let y = ltb-false 16384 (length text) q in omega arith)) (ap refusedBy z, u)
+    go false q (malformed p) g = let z : x ≡ NoToken p = cc in
+        rw (le-leb (length text) 16384 (let y = ltb-false 16384 (length text) q in omega arith)) (ap refusedBy z, refl)
 
 -- the text was lexed and its tokens marked: the parser decides
-pub front-lexed : (text kinds₀ kinds starts₀ starts sizes₀ sizes long₀ long : List ℕ) (n : ℕ) {x : Lexed} (r : Front) (before after : DesignArrays) → x ≡ Tokens n
-    → X.Lexing text x kinds₀ kinds starts₀ starts sizes₀ sizes → long ≡ marked text kinds starts sizes n long₀ → length kinds₀ ≡ 16384 → length starts₀ ≡ 16384 → length sizes₀ ≡ 16384 → length long₀ ≡ 16384
-    → (length long ≡ 16384 → (ts : List Token) → TokensIn ts kinds starts n → WordsIn text ts sizes n → C.Holds ts kinds long n → FrontAs (parsed (length text) ts (answer ts)) r before after)
-    → FrontAs (verdict text) r before after
-front-lexed text kinds₀ kinds starts₀ starts sizes₀ sizes long₀ long n r before after e lx m lk ls lz ll f =
-    front-tokens text n r before after (l .answer)
+pub front-lexed : (text kinds₀ kinds starts₀ starts sizes₀ sizes long₀ long : List ℕ) (n : ℕ) {x : Lexed} (r : Front) (after : DesignArrays) → x ≡ Tokens n
+    → X.Lexing text x kinds₀ kinds starts₀ starts sizes₀ sizes → long ≡ marked text kinds starts sizes n long₀ → length kinds₀ ≡ 16384 → length starts₀ ≡ 16384
+    → length sizes₀ ≡ 16384 → length long₀ ≡ 16384
+    → (length long ≡ 16384 → (ts : List Token) → TokensIn ts kinds starts n → WordsIn text ts sizes n → C.Holds ts kinds long n
+    → FrontAs (parsed (length text) ts (answer ts)) text r after)
+    → FrontAs (verdict text) text r after
+front-lexed text kinds₀ kinds starts₀ starts sizes₀ sizes long₀ long n r after e lx m lk ls lz ll f =
+    front-tokens text n r after (l .answer)
     (λ ts t.
     f (ap length m ∙ (marked-size text kinds starts sizes long₀ n ∙ ll)) ts (tokens-held text kinds₀ kinds starts₀ starts sizes₀ sizes n ts l t lk ls)
     (words-held text kinds₀ kinds starts₀ starts sizes₀ sizes n ts l t lz)

@@ -1,6 +1,6 @@
 pub mod Ruled
 pub mod RuleChain
-pub mod Declared
+mod Spelling
 pub mod Laying
 pub mod Fronting
 pub mod StageFacts

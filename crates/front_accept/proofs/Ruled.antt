@@ -10,9 +10,9 @@ use Rattle.spec_language.specs.Rules as Rules
 use Rattle.spec_language.specs.Rules.{Stage, by}
 use Rattle.spec_language.specs.Verdict.{refused, lowestOffence, judged, ruled}
 use Rattle.spec_language.proofs.Offences.{by-some, by-none}
-use Rattle.front_syntax.specs.declared.Finding.{Finding}
-use Rattle.front_syntax.specs.declared.Finding.the-variants.{Nothing, Offence}
-use Rattle.front_syntax.specs.Lowest.{findingAt, findingOf}
+use Rattle.front_offences.specs.declared.Finding.{Finding}
+use Rattle.front_offences.specs.declared.Finding.the-variants.{Nothing, Offence}
+use Rattle.front_offences.specs.Lowest.{findingAt, findingOf}
 
 -- an answer is one of the two
 not-both : {A : Type 0} (p : ℕ) → Nothing ≡ Offence p → A

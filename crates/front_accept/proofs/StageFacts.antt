@@ -1,50 +1,31 @@
--- What the stages answer for a tree that the arrays hold. Assumes nothing.
+-- What each stage asks of the arrays, from what is known of the tree that they hold. Assumes nothing.
 use mathlib.Core.Path.{_≡_}
-use mathlib.Core.List.{List, [], _∷_}
-use Prim.Native.Nat.{ℕ, _<_}
-use lib.ListN.{length}
-use Rattle.spec_grammar.specs.Token.{Token}
-use Rattle.spec_grammar.specs.Tree.{Group, Text}
-use Rattle.spec_grammar.specs.Limits.{Each, WithinLimits}
-use Rattle.spec_grammar.proofs.Each.{each-join}
-use Rattle.spec_language.specs.Declarations.{groups}
+use mathlib.Core.List.{List, []}
+use Prim.Native.Nat.{ℕ}
+use Rattle.spec_grammar.specs.Tree.{Text}
 use Rattle.spec_language.specs.Names.{names}
-use Rattle.front_parser.specs.declared.Parsed.{Parsed}
-use Rattle.front_syntax.specs.declared.Finding.{Finding}
-use Rattle.front_syntax.specs.Lowest.{findingOf}
-use Rattle.front_syntax.specs.Kinded.{KindedGroup, Kinded}
-use Rattle.front_offences.specs.Laid.{Laid}
-use Rattle.front_scope.specs.declared.Heads.{Heads}
-use Rattle.front_limits.specs.Words.{WordsIn}
-use Rattle.front_scope.specs.Judges.{HeadsIn, Finds}
-use Rattle.front_typing.specs.Expressions.{sources}
-use Rattle.front_typing.specs.Statements as T
-use Rattle.front_accept.specs.Stages.{headsOf}
+use Rattle.front_offences.specs.declared.Shape.{Shape}
+use Rattle.front_typing.specs.Judges as T
+use Rattle.front_values.specs.Judges as W
+use Rattle.front_clock.specs.Judges as K
+use Rattle.front_classes.specs.Judges as C
+use Rattle.front_accept.specs.Stages.{Read, Named}
 
-some-names : (gs : List Group) → Each KindedGroup gs → Each (λ (g : Group). 0 < length (g .names)) gs
-some-names [] h = tt
-some-names (g ∷ gs) h = (h .0 .some, some-names gs (h .1))
+module _ {starts codes indices rows decls owners : List ℕ} {p : Shape} (t : Text) where
+  -- no name is wrong
+  pub named : {text sizes : List ℕ} → Read text starts sizes p codes indices rows decls owners t → names t ≡ []
+      → Named starts p codes indices rows decls owners t
+  named h e = record { tokens = h .held .tokens; kinds = h .held .kinds; laid = h .held .laid; process = h .process; within = h .within; named = e }
 
-named : (t : Text) → Kinded t → Each (λ (g : Group). 0 < length (g .names)) (groups t)
-unfolding groups
-named t k = each-join (λ (g : Group). 0 < length (g .names)) (t .ports) (t .vars) (some-names (t .ports) (k .ports)) (some-names (t .vars) (k .vars))
+  module _ (h : Named starts p codes indices rows decls owners t) where
+    pub of-types : T.Held starts p codes indices rows decls owners t
+    of-types = record { tokens = h .tokens; kinds = h .kinds; laid = h .laid; limited = h .within .items }
 
--- stage 5
-pub fact-5 : {text starts sizes rows codes indices decls owners : List ℕ} {n : ℕ} {a : Finding} {h : Heads} (p : Parsed) → Finds text starts sizes n h rows (p .statements) codes indices (p .items) decls (p .names) owners a → h ≡ headsOf p
-    → (ts : List Token) (t : Text) (kinds : List ℕ) → Laid ts t kinds starts n codes indices (p .items) rows (p .statements) decls (p .names) owners → WordsIn text ts sizes n → HeadsIn ts t (headsOf p) → a ≡ findingOf (names t)
-fact-5 p j e ts t kinds L W H = j .lowest ts t kinds L W (rw e H)
+    pub of-values : W.Held starts p decls t
+    of-values = record { tokens = h .tokens; kinds = h .kinds; of-tokens = h .laid .of-tokens; of-decls = h .laid .of-decls }
 
--- what stage 6 asks
-pub laid-6 : {starts rows codes indices decls owners : List ℕ} {n : ℕ} (p : Parsed) (ts : List Token) (t : Text) (kinds : List ℕ) → Laid ts t kinds starts n codes indices (p .items) rows (p .statements) decls (p .names) owners → WithinLimits t
-    → T.Laid ts kinds t (sources codes indices starts owners decls n (p .names)) (p .items) rows (p .statements)
-laid-6 p ts t kinds L w =
-    record {
-      tokens = L .of-tokens;
-      names = L .of-owners;
-      items = L .of-items;
-      statements = L .of-rows;
-      headed = L .of-decls;
-      kinded = L .kinded;
-      named = named t (L .kinded);
-      limited = w .items;
-    }
+    pub of-clock : K.Held starts p codes indices rows decls owners t
+    of-clock = record { tokens = h .tokens; kinds = h .kinds; laid = h .laid; named = h .named }
+
+    pub of-classes : C.Held starts p rows t
+    of-classes = record { tokens = h .tokens; kinds = h .kinds; of-tokens = h .laid .of-tokens; of-rows = h .laid .of-rows; process = h .process }

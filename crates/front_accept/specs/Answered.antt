@@ -3,7 +3,7 @@ use mathlib.Core.List.{List}
 use Prim.Native.Nat.{ℕ}
 use lib.Dec.{ltb}
 use Rattle.spec_grammar.specs.Reader.{choose}
-use Rattle.front_syntax.specs.Arrays.{numberIn}
+use Rattle.front_layout.specs.Arrays.{numberIn}
 
 -- the place of token i of n, or the text's length
 abbrev pub placeIn : List ℕ → ℕ → ℕ → ℕ → ℕ

@@ -2,85 +2,97 @@
 use mathlib.Core.Path.{_≡_}
 use mathlib.Core.List.{List}
 use Prim.Native.Nat.{ℕ}
-use lib.ListN.{length}
-use lib.IntN.{ℤ}
+use lib.ListN.{length, replicate}
+use lib.IntN.{ℤ, pos}
+use Rattle.base_codes.specs.Limit.{TEXT, VARIABLES}
+use Rattle.base_answers.specs.declared.Refusal.{Refusal}
 use Rattle.spec_grammar.specs.Token.{Token}
 use Rattle.spec_grammar.specs.Tree.{Text}
 use Rattle.spec_grammar.specs.Limits.{WithinLimits}
-use Rattle.spec_design.specs.Process.{Process, sourceTypes, slotTypes}
-use Rattle.spec_language.specs.Verdict.{Verdict, onAccepted}
+use Rattle.spec_grammar.specs.Reader.{answer}
+use Rattle.spec_language.specs.Verdict.{Verdict, onAccepted, parsed, verdict}
 use Rattle.spec_language.proofs.Modes.{Moded}
-use Rattle.front_cursor.specs.Tokens.{tokenAt}
-use Rattle.front_statements.specs.Entries.{bodyEntries, entryItems}
+use Rattle.front_layout.specs.Tokens as C
 use Rattle.front_parser.specs.declared.Parsed.{Parsed}
-use Rattle.front_syntax.specs.Arrays.{TokensIn, ItemsIn, RowsIn}
-use Rattle.front_syntax.specs.Headings.{headings, DeclsIn}
-use Rattle.front_syntax.specs.Kinded.{Kinded}
 use Rattle.front_limits.specs.Words.{WordsIn}
 use Rattle.front_scope.specs.Judges.{HeadsIn}
-use Rattle.base_ir.specs.Entries.{entries, entryOps}
+use Rattle.base_ir.specs.declared.Names.{Names}
+use Rattle.base_ir.specs.declared.Declared.{Declared}
 use Rattle.front_accept.specs.declared.Front.{Front}
-use Rattle.front_accept.specs.declared.Front.the-variants.{Accepted, Refused}
-use Rattle.front_accept.specs.declared.layout.Counts.{Counts}
+use Rattle.front_accept.specs.declared.Acceptance.{Acceptance}
+use Rattle.front_accept.specs.declared.Acceptance.the-variants.{Accepted, Refused}
 use Rattle.base_answers.specs.Answers.{Told, done, refusal, refusedBy}
-use Rattle.front_accept.specs.Stages.{headsOf}
-use Rattle.front_accept.specs.Designs.{Holds}
+use Rattle.front_accept.specs.Stages.{shapeOf}
+use Rattle.front_accept.specs.Designs.{Sized, Border}
+use Rattle.front_layout.specs.Tokens.{tokenAt}
+use Rattle.front_layout.specs.Entries.{bodyEntries, entryItems}
+use Rattle.front_layout.specs.Arrays.{TokensIn, ItemsIn, RowsIn}
+use Rattle.front_layout.specs.Headings.{headings, DeclsIn}
+use Rattle.front_offences.specs.Kinded.{Kinded}
 
 -- the arrays hold the tokens ts of the text and all parts of the tree t, which is within the limits
-pub record TreeIn (text : List ℕ) (ts : List Token) (t : Text) (kinds starts sizes : List ℕ) (n : ℕ) (p : Parsed) (codes indices rows decls : List ℕ) : Type 0 where
+pub record TreeIn (text : List ℕ) (ts : List Token) (t : Text) (kinds starts sizes : List ℕ) (n : ℕ) (p : Parsed)
+    (codes indices rows decls : List ℕ) : Type 0 where
   pub tokens : TokensIn ts kinds starts n
   pub words : WordsIn text ts sizes n
   pub items : ItemsIn ts (entryItems (bodyEntries (t .body))) codes indices (p .items)
   pub lines : RowsIn ts (bodyEntries (t .body)) rows (p .statements)
   pub names : DeclsIn ts (headings t) decls (p .names)
-  pub heads : HeadsIn ts t (headsOf p)
+  pub heads : HeadsIn ts t (shapeOf n p)
   pub process : tokenAt ts (p .process) ≡ t .process
   pub kinded : Kinded t
   pub moded : Moded t
   pub limits : WithinLimits t
+  pub room : length codes ≡ TEXT
 
--- how many statements, operations, data inputs, outputs and variables a process has
-abbrev pub countsOf : Process → Counts
-countsOf p =
-    record {
-      statements = length (entries (p .body));
-      operations = length (entryOps (entries (p .body)));
-      inputs = length (sourceTypes (p .inputs));
-      outputs = length (slotTypes (p .outputs));
-      variables = length (slotTypes (p .variables));
-    }
+-- nothing declared: what a refused text has in place of its declarations
+abbrev pub noNames : Names
+noNames = record {
+  count = 0;
+  types = replicate VARIABLES 0;
+  values = replicate VARIABLES (pos 0);
+  starts = replicate VARIABLES 0;
+  sizes = replicate VARIABLES 0;
+}
 
--- what the front end tells
-abbrev pub frontTold : Front → Told Counts
-frontTold (Accepted c) = done c
+abbrev pub nothing : Declared
+nothing = record { statements = 0; operations = 0; inputs = noNames; outputs = noNames; variables = noNames }
+
+abbrev pub refusedFront : Refusal → Front
+refusedFront r = record { declared = nothing; answer = Refused r }
+
+-- what the front end tells, and what is told of a verdict: number and place of a refusal
+abbrev pub frontTold : Acceptance → Told (Unit {0})
+frontTold Accepted = done tt
 frontTold (Refused r) = refusedBy r
 
--- what is told of a verdict: the counts of an accepted text's process; or number and place
-abbrev pub frontAnswer : Verdict → Told Counts
-frontAnswer v = onAccepted (λ p. done (countsOf p)) refusal v
+abbrev pub frontAnswer : Verdict → Told (Unit {0})
+frontAnswer v = onAccepted (λ p. done tt) refusal v
 
 -- the arrays that are lent
 pub record DesignArrays : Type 0 where
   pub ops : List ℕ
   pub args : List ℤ
   pub lines : List ℕ
-  pub inputTypes : List ℕ
-  pub outputTypes : List ℕ
-  pub variableTypes : List ℕ
-  pub outputValues : List ℤ
-  pub variableValues : List ℤ
 
-abbrev pub designArrays : List ℕ → List ℤ → List ℕ → List ℕ → List ℕ → List ℕ → List ℤ → List ℤ → DesignArrays
-designArrays ops args lines is os vs ps qs =
-    record { ops = ops; args = args; lines = lines; inputTypes = is; outputTypes = os; variableTypes = vs; outputValues = ps; variableValues = qs }
+abbrev pub designArrays : List ℕ → List ℤ → List ℕ → DesignArrays
+designArrays ops args lines = record { ops = ops; args = args; lines = lines }
 
--- what is left in them: an accepted text's process; where it is refused, what stood there
-abbrev pub LeftAs : Verdict → DesignArrays → DesignArrays → Type 0
-LeftAs v a b =
-    onAccepted
-    (λ p. Holds p (b .ops) (b .args) (b .lines) (b .inputTypes) (b .outputTypes) (b .variableTypes) (b .outputValues) (b .variableValues) (countsOf p))
-    (λ n k. b ≡ a) v
+-- what is handed out of a text: an accepted one's process; of a refused one nothing, and what is left in the arrays has no meaning
+abbrev pub LeftAs : Verdict → List ℕ → Declared → DesignArrays → Type 0
+LeftAs v text d b = onAccepted (λ p. Border text p d (b .ops) (b .args) (b .lines)) (λ n k. d ≡ nothing) v
 
--- both
-abbrev pub FrontAs : Verdict → Front → DesignArrays → DesignArrays → Type 0
-FrontAs v r a b = (frontTold r ≡ frontAnswer v) × LeftAs v a b
+-- the front end's answer and what it hands out
+abbrev pub FrontAs : Verdict → List ℕ → Front → DesignArrays → Type 0
+FrontAs v text r b = (frontTold (r .answer) ≡ frontAnswer v) × LeftAs v text (r .declared) b
+
+-- the front end on a text, where the arrays a that are lent have their sizes; b is what is left in them
+abbrev pub TextFront : List ℕ → Front → DesignArrays → DesignArrays → Type 0
+TextFront text r a b = Sized (a .ops) (a .args) (a .lines) → FrontAs (verdict text) text r b
+
+-- the same on its tokens, which the arrays hold with their flags
+abbrev pub TokensFront : List ℕ → List ℕ → List ℕ → List ℕ → ℕ → List ℕ → Front → DesignArrays → DesignArrays → Type 0
+TokensFront text kinds starts sizes n long r a b =
+    Sized (a .ops) (a .args) (a .lines) → length long ≡ TEXT → (ts : List Token) → TokensIn ts kinds starts n → WordsIn text ts sizes n
+    → C.Holds ts kinds long n
+    → FrontAs (parsed (length text) ts (answer ts)) text r b

@@ -1,24 +1,11 @@
 // All stages of the front end in table order: a text to the arrays of its design, or its refusal.
 ghost use mathlib.Core.Path.{_≡_};
-ghost use mathlib.Core.List.{List};
-ghost use lib.ListN.{length};
-ghost use Rattle.base_codes.specs.Limit.{TEXT};
 ghost use Rattle.base_codes.specs.Refusal.{NO-SENTENCE, LIMIT-PASSED};
-ghost use Rattle.spec_grammar.specs.Token.{Token};
-ghost use Rattle.spec_grammar.specs.Tree.{Text};
-ghost use Rattle.spec_grammar.specs.Reader.{answer};
-ghost use Rattle.spec_language.specs.Rules.{table};
-ghost use Rattle.spec_language.specs.Verdict.{ruled, verdict};
-ghost use Rattle.spec_language.specs.Verdict.{parsed as parsedAs};
-ghost use Rattle.front_cursor.specs.Tokens.{Holds};
-ghost use Rattle.front_syntax.specs.Arrays.{TokensIn};
-ghost use Rattle.front_limits.specs.Words.{WordsIn};
 ghost use Rattle.base_answers.specs.declared.Refusal.the-variants.{NoSentence, LimitPassed};
 ghost use Rattle.front_accept.specs.Answered.{placeIn};
-ghost use Rattle.front_accept.specs.Designs.{Sized};
-ghost use Rattle.front_accept.specs.Fronts.{TreeIn, designArrays, frontTold, frontAnswer, LeftAs, FrontAs};
+ghost use Rattle.front_accept.specs.Fronts.{noNames, refusedFront, designArrays, TextFront, TokensFront};
 
-pub mod layout;
+mod layout;
 mod rules;
 
 use base_answers::Refusal;
@@ -26,16 +13,56 @@ use base_codes::declaration;
 use base_codes::limit;
 use base_codes::refusal;
 use base_codes::statement;
+use base_ir::Declared;
+use base_ir::Names;
+use front_elaborator::items;
 use front_lexer::Lexed;
-use front_parser::Parsed;
 use front_parser::Parsing;
-use layout::Counts;
 use rules::Ruling;
 
-// A text that is accepted, with the counts of its design; or its refusal.
-pub enum Front {
-    Accepted(Counts),
+// A text is accepted, or refused.
+pub enum Acceptance {
+    Accepted,
     Refused(Refusal),
+}
+
+// The front end's answer on a text, and what its design declares; where the text is refused, nothing is declared: every count and every place is 0.
+pub struct Front {
+    pub declared: Declared,
+    pub answer: Acceptance,
+}
+
+// No names.
+fn none() -> Names
+    ensures { λ r. ⌜ r ≡ noNames ⌝ }
+{
+    Names {
+        count: 0,
+        types: [0u8; limit::VARIABLES],
+        values: [0i32; limit::VARIABLES],
+        starts: [0u16; limit::VARIABLES],
+        sizes: [0u16; limit::VARIABLES],
+    }
+}
+
+// The answer on a refused text.
+fn refused(r: Refusal) -> Front
+    ensures { λ f. ⌜ f ≡ refusedFront r ⌝ }
+{
+    let inputs = none();
+    let outputs = none();
+    let variables = none();
+    let declared = Declared {
+        statements: 0,
+        operations: 0,
+        inputs,
+        outputs,
+        variables,
+    };
+    Front {
+        declared,
+        answer: Acceptance::Refused(r),
+    }
 }
 
 // The place of a token, or the text's length where there is no such token.
@@ -43,7 +70,7 @@ fn place_of(starts: &[u16; limit::TEXT], n: usize, length: usize, i: usize) -> u
     ensures { λ r. ⌜ r ≡ placeIn (now (starts .entry)) n length i ⌝ }
 {
     if i < n {
-        return front_syntax::place_at(starts, n, i) as usize;
+        return front_offences::place_at(starts, n, i) as usize;
     }
     length
 }
@@ -58,75 +85,8 @@ fn unread(number: u8, place: usize) -> Refusal
     Refusal::LimitPassed(place)
 }
 
-// The rules 5 to 9 on a parsed text, then its design. The owners of names are written into a lent array, whatever it holds.
-fn ruled_text(
-    text: &[u8],
-    kinds: &[u8; limit::TEXT],
-    starts: &[u16; limit::TEXT],
-    sizes: &[u16; limit::TEXT],
-    n: usize,
-    p: Parsed,
-    codes: &[u8; limit::TEXT],
-    indices: &[u16; limit::TEXT],
-    rows: &[u16; statement::ROWS],
-    decls: &[u16; declaration::ROWS],
-    owners: &mut [u8; limit::TEXT],
-    ops: &mut [u8; limit::TEXT],
-    args: &mut [i32; limit::TEXT],
-    lines: &mut [u16; statement::ROWS],
-    input_types: &mut [u8; limit::VARIABLES],
-    output_types: &mut [u8; limit::VARIABLES],
-    variable_types: &mut [u8; limit::VARIABLES],
-    output_values: &mut [i32; limit::VARIABLES],
-    variable_values: &mut [i32; limit::VARIABLES],
-) -> Front
-    ensures { λ r. ⌜ (Sized (now (ops .entry)) (now (args .entry)) (now (lines .entry)) (now («input_types» .entry)) (now («output_types» .entry)) (now («variable_types» .entry)) (now («output_values» .entry)) (now («variable_values» .entry))
-        → length (now (owners .entry)) ≡ TEXT → (ts : List Token) (t : Text) → TreeIn (now (text .entry)) ts t (now (kinds .entry)) (now (starts .entry)) (now (sizes .entry)) n p (now (codes .entry)) (now (indices .entry)) (now (rows .entry)) (now (decls .entry))
-        → FrontAs (ruled table t)
-        r (designArrays (now (ops .entry)) (now (args .entry)) (now (lines .entry)) (now («input_types» .entry)) (now («output_types» .entry)) (now («variable_types» .entry)) (now («output_values» .entry)) (now («variable_values» .entry)))
-        (designArrays (now (ops .exit)) (now (args .exit)) (now (lines .exit)) (now («input_types» .exit)) (now («output_types» .exit)) (now («variable_types» .exit)) (now («output_values» .exit)) (now («variable_values» .exit)))) ⌝ }
-{
-    front_scope::resolve(text, kinds, starts, sizes, n, decls, p.names, owners);
-    let ruling = rules::judge(
-        text,
-        starts,
-        sizes,
-        n,
-        p,
-        codes,
-        indices,
-        rows,
-        decls,
-        owners,
-    );
-    match ruling {
-        Ruling::Free => Front::Accepted(layout::lay_out(
-            text,
-            kinds,
-            starts,
-            sizes,
-            n,
-            p,
-            codes,
-            indices,
-            rows,
-            decls,
-            owners,
-            ops,
-            args,
-            lines,
-            input_types,
-            output_types,
-            variable_types,
-            output_values,
-            variable_values,
-        )),
-        Ruling::Offended(r) => Front::Refused(r),
-    }
-}
-
-// Refusals 3 and 4 on a text of n tokens, then the rules. The flags of the tokens are not needed after the parser: their array is lent on for the owners of
-// names, since clearing arrays is what a short text's compile spends most of its time on.
+// Refusals 3 to 9 on a text of n tokens, then its design. The flags of the tokens are not needed after the parser: their array is lent on for the owners of
+// names; and the parser writes the codes of items where the codes of operations will stand: clearing arrays is what a short text's compile spends most of its time on.
 fn parsed_text(
     text: &[u8],
     kinds: &[u8; limit::TEXT],
@@ -137,55 +97,65 @@ fn parsed_text(
     ops: &mut [u8; limit::TEXT],
     args: &mut [i32; limit::TEXT],
     lines: &mut [u16; statement::ROWS],
-    input_types: &mut [u8; limit::VARIABLES],
-    output_types: &mut [u8; limit::VARIABLES],
-    variable_types: &mut [u8; limit::VARIABLES],
-    output_values: &mut [i32; limit::VARIABLES],
-    variable_values: &mut [i32; limit::VARIABLES],
 ) -> Front
-    ensures { λ r. ⌜ (Sized (now (ops .entry)) (now (args .entry)) (now (lines .entry)) (now («input_types» .entry)) (now («output_types» .entry)) (now («variable_types» .entry)) (now («output_values» .entry)) (now («variable_values» .entry))
-        → length (now (long .entry)) ≡ TEXT → (ts : List Token) → TokensIn ts (now (kinds .entry)) (now (starts .entry)) n → WordsIn (now (text .entry)) ts (now (sizes .entry)) n → Holds ts (now (kinds .entry)) (now (long .entry)) n
-        → FrontAs (parsedAs (length (now (text .entry))) ts (answer ts))
-        r (designArrays (now (ops .entry)) (now (args .entry)) (now (lines .entry)) (now («input_types» .entry)) (now («output_types» .entry)) (now («variable_types» .entry)) (now («output_values» .entry)) (now («variable_values» .entry)))
-        (designArrays (now (ops .exit)) (now (args .exit)) (now (lines .exit)) (now («input_types» .exit)) (now («output_types» .exit)) (now («variable_types» .exit)) (now («output_values» .exit)) (now («variable_values» .exit)))) ⌝ }
+    ensures { λ r. ⌜ TokensFront (now (text .entry)) (now (kinds .entry)) (now (starts .entry)) (now (sizes .entry)) n (now (long .entry)) r
+        (designArrays (now (ops .entry)) (now (args .entry)) (now (lines .entry))) (designArrays (now (ops .exit)) (now (args .exit)) (now (lines .exit))) ⌝ }
 {
-    let mut codes = [0u8; limit::TEXT];
     let mut indices = [0u16; limit::TEXT];
     let mut rows = [0u16; statement::ROWS];
     let mut decls = [0u16; declaration::ROWS];
-    let parsing = front_parser::parse(
-        kinds,
-        long,
-        n,
-        &mut codes,
-        &mut indices,
-        &mut rows,
-        &mut decls,
-    );
+    let parsing = front_parser::parse(kinds, long, n, ops, &mut indices, &mut rows, &mut decls);
     match parsing {
-        Parsing::Tree(p) => ruled_text(
-            text,
-            kinds,
-            starts,
-            sizes,
-            n,
-            p,
-            &codes,
-            &indices,
-            &rows,
-            &decls,
-            long,
-            ops,
-            args,
-            lines,
-            input_types,
-            output_types,
-            variable_types,
-            output_values,
-            variable_values,
-        ),
+        Parsing::Tree(p) => {
+            front_scope::resolve(text, kinds, starts, sizes, n, &decls, p.names, long);
+            let shape = rules::shape_of(n, p);
+            let ruling = rules::judge(
+                text,
+                starts,
+                sizes,
+                shape,
+                ops,
+                &indices,
+                &rows,
+                &decls,
+                long,
+            );
+            match ruling {
+                Ruling::Free => {
+                    items::resolve(
+                        text,
+                        starts,
+                        sizes,
+                        kinds,
+                        long,
+                        ops,
+                        &indices,
+                        p.items,
+                        args,
+                    );
+                    let clock = front_clock::clock_owner(&rows, p.statements, long, n);
+                    let declared = layout::declared(text, kinds, starts, sizes, p, &decls, clock);
+                    layout::lay_out(
+                        p.names,
+                        clock,
+                        &decls,
+                        long,
+                        &rows,
+                        declared,
+                        ops,
+                        args,
+                        lines,
+                    );
+                    Front {
+                        declared,
+                        answer: Acceptance::Accepted,
+                    }
+                }
+                Ruling::Offended(r) => refused(r),
+            }
+        }
         Parsing::NotParsed(number, i) => {
-            Front::Refused(unread(number, place_of(starts, n, text.len(), i)))
+            refused(unread(number, place_of(starts, n, text.len(), i)))
         }
     }
 }
@@ -196,16 +166,8 @@ pub fn accept(
     ops: &mut [u8; limit::TEXT],
     args: &mut [i32; limit::TEXT],
     lines: &mut [u16; statement::ROWS],
-    input_types: &mut [u8; limit::VARIABLES],
-    output_types: &mut [u8; limit::VARIABLES],
-    variable_types: &mut [u8; limit::VARIABLES],
-    output_values: &mut [i32; limit::VARIABLES],
-    variable_values: &mut [i32; limit::VARIABLES],
 ) -> Front
-    ensures { λ r. ⌜ (Sized (now (ops .entry)) (now (args .entry)) (now (lines .entry)) (now («input_types» .entry)) (now («output_types» .entry)) (now («variable_types» .entry)) (now («output_values» .entry)) (now («variable_values» .entry))
-        → (frontTold r ≡ frontAnswer (verdict (now (text .entry))))
-        × LeftAs (verdict (now (text .entry))) (designArrays (now (ops .entry)) (now (args .entry)) (now (lines .entry)) (now («input_types» .entry)) (now («output_types» .entry)) (now («variable_types» .entry)) (now («output_values» .entry)) (now («variable_values» .entry)))
-        (designArrays (now (ops .exit)) (now (args .exit)) (now (lines .exit)) (now («input_types» .exit)) (now («output_types» .exit)) (now («variable_types» .exit)) (now («output_values» .exit)) (now («variable_values» .exit)))) ⌝ }
+    ensures { λ r. ⌜ TextFront (now (text .entry)) r (designArrays (now (ops .entry)) (now (args .entry)) (now (lines .entry))) (designArrays (now (ops .exit)) (now (args .exit)) (now (lines .exit))) ⌝ }
 {
     let mut kinds = [0u8; limit::TEXT];
     let mut starts = [0u16; limit::TEXT];
@@ -225,13 +187,8 @@ pub fn accept(
                 ops,
                 args,
                 lines,
-                input_types,
-                output_types,
-                variable_types,
-                output_values,
-                variable_values,
             )
         }
-        Lexed::NotLexed(r) => Front::Refused(r),
+        Lexed::NotLexed(r) => refused(r),
     }
 }

@@ -1,17 +1,15 @@
-// Refusals 5 to 9 of a text that was parsed and whose names are resolved, in table order.
+// Refusals 5 to 9 of a text that was parsed and whose names are resolved, in table order: each stage, where it finds no offence, hands on to the next.
 ghost use mathlib.Core.Path.{_≡_};
-ghost use mathlib.Core.List.{List};
-ghost use Prim.Native.Nat.{ℕ};
-ghost use Rattle.spec_grammar.specs.Token.{Token};
-ghost use Rattle.spec_grammar.specs.Tree.{Text};
-ghost use Rattle.front_accept.specs.Stages.{headsOf, Ruled, RuledBy, RuledLast, from6, from7, from8};
+ghost use Rattle.spec_language.specs.Rules.{table};
+ghost use Rattle.front_classes.specs.Judges.{Held};
+ghost use Rattle.front_accept.specs.Stages.{shapeOf, Ruled, Read, Named, from6, from7, from8, from9};
 use base_answers::Refusal;
 use base_codes::declaration;
 use base_codes::limit;
 use base_codes::statement;
+use front_offences::Finding;
+use front_offences::Shape;
 use front_parser::Parsed;
-use front_scope::Heads;
-use front_syntax::Finding;
 
 // No rule is offended; or the refusal of the first that is.
 pub(crate) enum Ruling {
@@ -19,62 +17,50 @@ pub(crate) enum Ruling {
     Offended(Refusal),
 }
 
-// The names that must be the same as others.
-fn heads_of(p: Parsed) -> Heads
-    ensures { λ r. ⌜ r ≡ headsOf p ⌝ }
+// The shape of a text of n tokens from what the parser knows of it.
+pub(crate) fn shape_of(n: usize, p: Parsed) -> Shape
+    ensures { λ r. ⌜ r ≡ shapeOf n p ⌝ }
 {
-    Heads {
+    Shape {
+        tokens: n,
+        statements: p.statements,
+        items: p.items,
+        names: p.names,
         entity: p.entity,
         entity_end: p.entity_end,
         arch: p.arch,
         arch_of: p.arch_of,
+        process: p.process,
         arch_end: p.arch_end,
     }
 }
 
 // Rule 9.
-fn classed(
-    starts: &[u16; limit::TEXT],
-    n: usize,
-    p: Parsed,
-    rows: &[u16; statement::ROWS],
-) -> Ruling
-    ensures { λ r. ⌜ RuledLast (now (starts .entry)) n p (now (rows .entry)) r ⌝ }
+fn classed(starts: &[u16; limit::TEXT], shape: Shape, rows: &[u16; statement::ROWS]) -> Ruling
+    ensures { λ r. ⌜ Ruled from9 (Held (now (starts .entry)) shape (now (rows .entry))) r ⌝ }
 {
-    let found = front_classes::judge(rows, starts, n, p.statements, p.process);
+    let found = front_classes::judge(starts, shape, rows);
     match found {
         Finding::Nothing => Ruling::Free,
         Finding::Offence(place) => Ruling::Offended(Refusal::WrongClass(place)),
     }
 }
 
-// Rule 8, then 9.
+// Rule 8, then those behind it.
 fn clocked(
     starts: &[u16; limit::TEXT],
-    n: usize,
-    p: Parsed,
+    shape: Shape,
     codes: &[u8; limit::TEXT],
     indices: &[u16; limit::TEXT],
     rows: &[u16; statement::ROWS],
     decls: &[u16; declaration::ROWS],
     owners: &[u8; limit::TEXT],
 ) -> Ruling
-    ensures { λ r. ⌜ RuledBy from8 (now (starts .entry)) n p (now (codes .entry)) (now (indices .entry)) (now (rows .entry)) (now (decls .entry)) (now (owners .entry)) r ⌝ }
+    ensures { λ r. ⌜ Ruled from8 (Named (now (starts .entry)) shape (now (codes .entry)) (now (indices .entry)) (now (rows .entry)) (now (decls .entry)) (now (owners .entry))) r ⌝ }
 {
-    let found = front_clock::judge(
-        rows,
-        p.statements,
-        codes,
-        indices,
-        p.items,
-        starts,
-        owners,
-        n,
-        decls,
-        p.names,
-    );
+    let found = front_clock::judge(starts, shape, codes, indices, rows, decls, owners);
     match found {
-        Finding::Nothing => classed(starts, n, p, rows),
+        Finding::Nothing => classed(starts, shape, rows),
         Finding::Offence(place) => Ruling::Offended(Refusal::WrongClock(place)),
     }
 }
@@ -82,19 +68,18 @@ fn clocked(
 // Rule 7, then those behind it.
 fn valued(
     starts: &[u16; limit::TEXT],
-    n: usize,
-    p: Parsed,
+    shape: Shape,
     codes: &[u8; limit::TEXT],
     indices: &[u16; limit::TEXT],
     rows: &[u16; statement::ROWS],
     decls: &[u16; declaration::ROWS],
     owners: &[u8; limit::TEXT],
 ) -> Ruling
-    ensures { λ r. ⌜ RuledBy from7 (now (starts .entry)) n p (now (codes .entry)) (now (indices .entry)) (now (rows .entry)) (now (decls .entry)) (now (owners .entry)) r ⌝ }
+    ensures { λ r. ⌜ Ruled from7 (Named (now (starts .entry)) shape (now (codes .entry)) (now (indices .entry)) (now (rows .entry)) (now (decls .entry)) (now (owners .entry))) r ⌝ }
 {
-    let found = front_typing::values(decls, starts, n, p.names);
+    let found = front_values::judge(starts, shape, decls);
     match found {
-        Finding::Nothing => clocked(starts, n, p, codes, indices, rows, decls, owners),
+        Finding::Nothing => clocked(starts, shape, codes, indices, rows, decls, owners),
         Finding::Offence(place) => Ruling::Offended(Refusal::NoValue(place)),
     }
 }
@@ -102,65 +87,49 @@ fn valued(
 // Rule 6, then those behind it.
 fn typed(
     starts: &[u16; limit::TEXT],
-    n: usize,
-    p: Parsed,
+    shape: Shape,
     codes: &[u8; limit::TEXT],
     indices: &[u16; limit::TEXT],
     rows: &[u16; statement::ROWS],
     decls: &[u16; declaration::ROWS],
     owners: &[u8; limit::TEXT],
 ) -> Ruling
-    ensures { λ r. ⌜ RuledBy from6 (now (starts .entry)) n p (now (codes .entry)) (now (indices .entry)) (now (rows .entry)) (now (decls .entry)) (now (owners .entry)) r ⌝ }
+    ensures { λ r. ⌜ Ruled from6 (Named (now (starts .entry)) shape (now (codes .entry)) (now (indices .entry)) (now (rows .entry)) (now (decls .entry)) (now (owners .entry))) r ⌝ }
 {
-    let found = front_typing::types(
-        codes,
-        indices,
-        starts,
-        owners,
-        decls,
-        n,
-        p.names,
-        rows,
-        p.statements,
-    );
+    let found = front_typing::judge(starts, shape, codes, indices, rows, decls, owners);
     match found {
-        Finding::Nothing => valued(starts, n, p, codes, indices, rows, decls, owners),
+        Finding::Nothing => valued(starts, shape, codes, indices, rows, decls, owners),
         Finding::Offence(place) => Ruling::Offended(Refusal::WrongType(place)),
     }
 }
 
-// The rules one after the other.
+// Rule 5, then those behind it: the rules one after the other.
 pub(crate) fn judge(
     text: &[u8],
     starts: &[u16; limit::TEXT],
     sizes: &[u16; limit::TEXT],
-    n: usize,
-    p: Parsed,
+    shape: Shape,
     codes: &[u8; limit::TEXT],
     indices: &[u16; limit::TEXT],
     rows: &[u16; statement::ROWS],
     decls: &[u16; declaration::ROWS],
     owners: &[u8; limit::TEXT],
 ) -> Ruling
-    ensures { λ r. ⌜ Ruled (now (text .entry)) (now (starts .entry)) (now (sizes .entry)) n p (now (codes .entry)) (now (indices .entry)) (now (rows .entry)) (now (decls .entry)) (now (owners .entry)) r ⌝ }
+    ensures { λ r. ⌜ Ruled table (Read (now (text .entry)) (now (starts .entry)) (now (sizes .entry)) shape (now (codes .entry)) (now (indices .entry)) (now (rows .entry)) (now (decls .entry)) (now (owners .entry))) r ⌝ }
 {
-    let found = front_scope::names(
+    let found = front_scope::judge(
         text,
         starts,
         sizes,
-        n,
-        heads_of(p),
-        rows,
-        p.statements,
+        shape,
         codes,
         indices,
-        p.items,
+        rows,
         decls,
-        p.names,
         owners,
     );
     match found {
-        Finding::Nothing => typed(starts, n, p, codes, indices, rows, decls, owners),
+        Finding::Nothing => typed(starts, shape, codes, indices, rows, decls, owners),
         Finding::Offence(place) => Ruling::Offended(Refusal::WrongName(place)),
     }
 }

@@ -1,7 +1,7 @@
-pub mod Flat
 pub mod Codes
 pub mod Members
 pub mod Rows
 pub mod Found
 pub mod Rest
-pub mod Whole
+pub mod Steps
+pub mod Exact

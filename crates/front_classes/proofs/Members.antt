@@ -7,7 +7,7 @@ use Rattle.spec_design.specs.Statement.{seqClass}
 use Rattle.spec_language.specs.Lists.{each}
 use Rattle.spec_language.specs.Declarations.{within, statements}
 use Rattle.spec_language.specs.Classes.{pair, class, classes, loopsOf}
-use Rattle.front_statements.specs.Entries.{Entry, stmtEntries, bodyEntries}
+use Rattle.front_layout.specs.Entries.{Entry, stmtEntries, bodyEntries}
 use Rattle.front_classes.specs.Lists.{members, listEntries, listClass, listOffences}
 use Rattle.front_classes.proofs.Codes.{sequence-last}
 

@@ -1,23 +1,19 @@
 -- The rows of statements: those of the first of two lists and those of the second, and where a statement ends. Assumes nothing.
-use mathlib.Core.Path.{_≡_, refl, sym, ap}
-use mathlib.Core.Bool.{Bool, true, false}
+use mathlib.Core.Path.{_≡_, ap}
 use mathlib.Core.List.{List, [], _∷_, _++_, map}
-use Prim.Native.Nat.{ℕ, zero, suc, _+_, _*_, _≤_, _<_}
+use Prim.Native.Nat.{ℕ, zero, suc, _+_, _*_, _<_}
 use native.Mathlib.Omega.{arith}
 use native.Mathlib.Nat.{add-zero}
-use borrow.Author.Tests.{lt-ltb, ltb-true, ltb-false}
-use lib.Dec.{ltb}
-use lib.ListN.{length, length-append, getD, List·getD-eq-default}
+use lib.ListN.{length, length-append}
 use Rattle.spec_grammar.specs.Token.{Token}
 use Rattle.spec_grammar.specs.Tree.{Stmt, output, assign, null, wait, if-then, if-else, while}
-use Rattle.spec_grammar.specs.Reader.{choose}
-use Rattle.front_cursor.specs.Tokens.{tokenAt, noToken}
-use Rattle.front_statements.specs.Entries.{Entry, stmtEntries, bodyEntries}
-use Rattle.front_statements.specs.Rows.{Line, seen, linesFrom}
-use Rattle.front_syntax.specs.Arrays.{TokensIn, RowsIn, rowIn, rowsFrom, numberIn}
+use Rattle.front_layout.specs.Entries.{Entry, stmtEntries, bodyEntries}
+use Rattle.front_layout.specs.Rows.{Line, seen, linesFrom}
+use Rattle.front_layout.specs.Arrays.{RowsIn, rowIn, rowsFrom}
 use Rattle.front_classes.specs.Held.{numberOf, RowIs, RowsAre}
 
-pub rows-append : (ts : List Token) (rows : List ℕ) (j : ℕ) (xs ys : List Entry) → RowsAre ts rows j (xs ++ ys) → RowsAre ts rows j xs × RowsAre ts rows (j + length xs) ys
+pub rows-append : (ts : List Token) (rows : List ℕ) (j : ℕ) (xs ys : List Entry) → RowsAre ts rows j (xs ++ ys)
+    → RowsAre ts rows j xs × RowsAre ts rows (j + length xs) ys
 rows-append ts rows j [] ys h = (tt, rw add-zero h)
 rows-append ts rows j (x ∷ xs) ys h =
     let r = rows-append ts rows (j + 1) xs ys (h .1) in
@@ -25,7 +21,8 @@ rows-append ts rows j (x ∷ xs) ys h =
     ((h .0, r .0), rw e at (r .1))
 
 -- the rows of the parsed text
-row-is : {ts : List Token} {rows : List ℕ} {j m : ℕ} {e : Entry} → seen ts (rowIn rows j) ≡ record { kind = e .kind; token = e .token; from = m; to = m + length (e .items); other = j + 1 + e .part; end = j + 1 + e .inside } → RowIs ts rows j e
+row-is : {ts : List Token} {rows : List ℕ} {j m : ℕ} {e : Entry} → seen ts (rowIn rows j)
+    ≡ record { kind = e .kind; token = e .token; from = m; to = m + length (e .items); other = j + 1 + e .part; end = j + 1 + e .inside } → RowIs ts rows j e
 row-is {ts} {rows} {j} {m} {e} h =
     let z : 6 * j + 0 ≡ 6 * j = omega arith in
     record {
@@ -35,12 +32,14 @@ row-is {ts} {rows} {j} {m} {e} h =
       end = ap (λ (l : Line). l .end) h;
     }
 
-rows-from : (ts : List Token) (rows : List ℕ) (j m c : ℕ) (es : List Entry) → length es ≡ c → map (seen ts) (rowsFrom rows j c) ≡ linesFrom j m es → RowsAre ts rows j es
+rows-from : (ts : List Token) (rows : List ℕ) (j m c : ℕ) (es : List Entry) → length es ≡ c → map (seen ts) (rowsFrom rows j c) ≡ linesFrom j m es
+    → RowsAre ts rows j es
 unfolding rowsFrom linesFrom
 rows-from ts rows j m c [] n h = tt
 rows-from ts rows j m zero (e ∷ es) n h = absurd (omega arith)
 rows-from ts rows j m (suc c) (e ∷ es) n h =
-    let p : seen ts (rowIn rows j) ≡ record { kind = e .kind; token = e .token; from = m; to = m + length (e .items); other = j + 1 + e .part; end = j + 1 + e .inside } = cc in
+    let p : seen ts (rowIn rows j)
+    ≡ record { kind = e .kind; token = e .token; from = m; to = m + length (e .items); other = j + 1 + e .part; end = j + 1 + e .inside } = cc in
     let q : map (seen ts) (rowsFrom rows (j + 1) c) ≡ linesFrom (j + 1) (m + length (e .items)) es = cc in
     (row-is p, rows-from ts rows (j + 1) (m + length (e .items)) c es (omega arith) q)
 
@@ -67,13 +66,3 @@ statement-some (wait x) = omega arith
 statement-some (if-then i e a) = omega arith
 statement-some (if-else i e a b) = omega arith
 statement-some (while w e a) = omega arith
-
--- past the last token both are 0
-pub place-is : {ts : List Token} {kinds places : List ℕ} {n : ℕ} → TokensIn ts kinds places n → (i : ℕ) → numberIn places n i ≡ tokenAt ts i .place
-place-is {ts} {kinds} {places} {n} h i = go (ltb i n) refl
-  where
-    go : (b : Bool) → ltb i n ≡ b → choose b (choose (ltb i 16384) (getD places i 0) 0) 0 ≡ tokenAt ts i .place
-    go true e = let k = ltb-true i n e in let s = h .short in rw (lt-ltb i 16384 (omega arith)) (h .place i k)
-    go false e =
-        let c = h .count in let k = ltb-false i n e in let l : length ts ≤ i = omega arith in
-        sym (ap (λ (x : Token). x .place) (List·getD-eq-default ts noToken l))

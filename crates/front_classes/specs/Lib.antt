@@ -1,4 +1,5 @@
 pub mod Codes
 pub mod Lists
 pub mod Held
-pub mod Judged
+pub mod Positions
+pub mod Judges

@@ -7,8 +7,8 @@ use Rattle.spec_design.specs.Statement.{Class, A, seqClass}
 use Rattle.spec_language.specs.Lists.{each}
 use Rattle.spec_language.specs.Declarations.{within}
 use Rattle.spec_language.specs.Classes.{pair, class, loopsOf}
-use Rattle.front_statements.specs.Entries.{Entry, stmtEntries}
-use Rattle.front_syntax.specs.Lowest.{lowestOf}
+use Rattle.front_layout.specs.Entries.{Entry, stmtEntries}
+use Rattle.front_offences.specs.Lowest.{lowestOf}
 use Rattle.front_classes.specs.declared.Summary.{Summary}
 use Rattle.front_classes.specs.Codes.{classCode}
 

@@ -15,12 +15,11 @@ use Rattle.spec_language.specs.Lists.{each}
 use Rattle.spec_language.specs.Declarations.{Decl, find, isA, statements, orElse, waitName, firstWait}
 use Rattle.spec_language.specs.Names.{namesOf}
 use Rattle.spec_language.proofs.Facts.{both-nil, unless-nil, clash}
-use Rattle.front_cursor.specs.Tokens.{tokenAt}
-use Rattle.front_statements.specs.Entries.{Entry, bodyEntries}
-use Rattle.front_statements.specs.Rows.{Line, seen, linesFrom}
-use Rattle.front_syntax.specs.Arrays.{rowIn, rowsFrom, RowsIn}
-use Rattle.front_syntax.specs.Entries.{stmtEntry}
-use Rattle.front_syntax.specs.Kinded.{KindedStmt, KindedBody}
+use Rattle.front_layout.specs.Tokens.{tokenAt}
+use Rattle.front_layout.specs.Entries.{Entry, bodyEntries, stmtEntry}
+use Rattle.front_layout.specs.Rows.{Line, seen, linesFrom}
+use Rattle.front_layout.specs.Arrays.{rowIn, rowsFrom, RowsIn}
+use Rattle.front_offences.specs.Kinded.{KindedStmt, KindedBody}
 use Rattle.front_offences.proofs.Bodies.{entries-are, kinded-statements}
 use Rattle.front_clock.specs.Positions.{waitFrom}
 
@@ -53,7 +52,8 @@ module _ (ts : List Token) (rows : List ℕ) (j c : ℕ) where
 abbrev lineOf : ℕ → ℕ → Entry → Line
 lineOf s m e = record { kind = e .kind; token = e .token; from = m; to = m + length (e .items); other = s + 1 + e .part; end = s + 1 + e .inside }
 
-list-first : (ts : List Token) (rows : List ℕ) (l : List Stmt) (j c m : ℕ) → Each KindedStmt l → map (seen ts) (rowsFrom rows j c) ≡ linesFrom j m (map stmtEntry l)
+list-first : (ts : List Token) (rows : List ℕ) (l : List Stmt) (j c m : ℕ) → Each KindedStmt l → map (seen ts) (rowsFrom rows j c)
+    ≡ linesFrom j m (map stmtEntry l)
     → First ts (waitFrom rows j c) (firstWait l)
 unfolding rowsFrom linesFrom waitFrom firstWait
 list-first ts rows [] j zero m k e = nowhere refl
@@ -61,14 +61,17 @@ list-first ts rows [] j (suc c) m k e = absurd (let z : _≡_ {A = ℕ} 0 1 = cc
 list-first ts rows (s ∷ l) j zero m k e = absurd (let z : _≡_ {A = ℕ} 0 1 = cc in omega arith)
 list-first ts rows (s ∷ l) j (suc c) m k e =
     let z : seen ts (rowIn rows j) ≡ lineOf j m (stmtEntry s) = cc in
-    row-first ts rows j c l s (k .0) (ap (λ (r : Line). r .kind) z) (ap (λ (r : Line). r .token) z) (list-first ts rows l (j + 1) c (m + length (stmtEntry s .items)) (k .1) (cc))
+    row-first ts rows j c l s (k .0) (ap (λ (r : Line). r .kind) z) (ap (λ (r : Line). r .token) z)
+    (list-first ts rows l (j + 1) c (m + length (stmtEntry s .items)) (k .1) (cc))
 
 -- the rows have the first wait of the tree
-pub rows-first : (ts : List Token) (b : Body) (rows : List ℕ) (s : ℕ) → RowsIn ts (bodyEntries b) rows s → KindedBody b → First ts (waitFrom rows 0 s) (firstWait (statements b))
+pub rows-first : (ts : List Token) (b : Body) (rows : List ℕ) (s : ℕ) → RowsIn ts (bodyEntries b) rows s → KindedBody b
+    → First ts (waitFrom rows 0 s) (firstWait (statements b))
 rows-first ts b rows s r k = list-first ts rows (statements b) 0 s 0 (kinded-statements b k) (r .are ∙ ap (linesFrom 0 0) (entries-are b))
 
 -- the first wait's name is declared
-stmt-declared : (Δ : List Decl) (s : Stmt) (w : Token) (o : Option Token) → namesOf Δ s ≡ [] → orElse (waitName s) o ≡ some w → (o ≡ some w → isA (λ d. true) (find Δ (w .value)) ≡ true)
+stmt-declared : (Δ : List Decl) (s : Stmt) (w : Token) (o : Option Token) → namesOf Δ s ≡ [] → orElse (waitName s) o ≡ some w
+    → (o ≡ some w → isA (λ d. true) (find Δ (w .value)) ≡ true)
     → isA (λ d. true) (find Δ (w .value)) ≡ true
 unfolding namesOf waitName orElse
 stmt-declared Δ (output x e) w o n f ih = ih f

@@ -1,5 +1,4 @@
-pub mod Waits
+pub mod Waiting
 pub mod Steps
 pub mod First
-pub mod Law
-pub mod Whole
+pub mod Exact

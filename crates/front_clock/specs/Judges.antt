@@ -10,27 +10,30 @@ use Rattle.spec_language.specs.Declarations.{Decl, declared, clockOf}
 use Rattle.spec_language.specs.Elaboration.{position}
 use Rattle.spec_language.specs.Names.{names}
 use Rattle.spec_language.specs.Clock.{clock}
-use Rattle.front_syntax.specs.declared.Finding.{Finding}
-use Rattle.front_syntax.specs.Lowest.{lowestOf, findingOf, findingFrom}
+use Rattle.front_offences.specs.declared.Finding.{Finding}
+use Rattle.front_offences.specs.declared.Shape.{Shape}
 use Rattle.front_offences.specs.Laid.{Laid}
-use Rattle.front_clock.specs.Positions.{ownerIn, judgeIn}
+use Rattle.front_offences.specs.Judged.{LaidIn, Judged}
+use Rattle.front_clock.specs.Positions.{ownerIn, lowestIn}
 
--- the answer by position; and for a tree that the arrays hold, with no offence of refusal 5, the lowest offence of refusal 8
-pub record Judges (rows : List ℕ) (s : ℕ) (codes indices : List ℕ) (k : ℕ) (places owners : List ℕ) (n : ℕ) (decls : List ℕ) (d r : ℕ) : Type 0 where
-  pub answer : r ≡ judgeIn rows s codes indices k places owners n decls d
-  pub lowest : (ts : List Token) (t : Text) (kinds : List ℕ) → Laid ts t kinds places n codes indices k rows s decls d owners → names t ≡ [] → r ≡ lowestOf (clock t)
+-- the arrays hold a tree with no offence of refusal 5
+pub record Held (starts : List ℕ) (p : Shape) (codes indices rows decls owners : List ℕ) (t : Text) : Type 0 where
+  pub tokens : List Token
+  pub kinds : List ℕ
+  pub laid : LaidIn tokens t kinds starts p codes indices rows decls owners
+  pub named : names t ≡ []
 
--- the stage's answer, by position; and for such a tree the lowest offence of refusal 8
-pub record Finds (rows : List ℕ) (s : ℕ) (codes indices : List ℕ) (k : ℕ) (places owners : List ℕ) (n : ℕ) (decls : List ℕ) (d : ℕ) (r : Finding) : Type 0 where
-  pub answer : r ≡ findingFrom (judgeIn rows s codes indices k places owners n decls d)
-  pub lowest : (ts : List Token) (t : Text) (kinds : List ℕ) → Laid ts t kinds places n codes indices k rows s decls d owners → names t ≡ [] → r ≡ findingOf (clock t)
+-- the stage's answer: the lowest place by position; and for such a tree the lowest offence of refusal 8
+abbrev pub Judges : List ℕ → Shape → List ℕ → List ℕ → List ℕ → List ℕ → List ℕ → Finding → Type 0
+Judges starts p codes indices rows decls owners r = Judged (lowestIn starts p codes indices rows decls owners)
+    (Held starts p codes indices rows decls owners) clock r
 
 -- the number of the declaration of the clock's name; 65 without a wait
 unfoldable pub ownerOf : List Decl → Option Token → ℕ
 ownerOf Δ none = L.NAMES
 ownerOf Δ (some w) = position Δ (w .value)
 
--- the same for the clock's number
+-- the clock's number, by position; and for a tree that the arrays hold
 pub record Owns (rows : List ℕ) (s : ℕ) (owners : List ℕ) (n r : ℕ) : Type 0 where
   pub answer : r ≡ ownerIn rows s owners n
   pub clocks : (ts : List Token) (t : Text) (kinds places codes indices : List ℕ) (k : ℕ) (decls : List ℕ) (d : ℕ)

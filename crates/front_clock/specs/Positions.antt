@@ -12,8 +12,9 @@ use Rattle.base_codes.specs.Item as I
 use Rattle.spec_design.specs.Types.{std-logic, typeByte}
 use Rattle.spec_grammar.specs.Reader.{choose}
 use Rattle.spec_language.specs.Lists.{unless}
-use Rattle.front_syntax.specs.Lowest.{lowestOf, lower, lowestFrom}
-use Rattle.front_syntax.specs.Arrays.{numberIn}
+use Rattle.front_offences.specs.Lowest.{lowestOf, lower, lowestFrom}
+use Rattle.front_layout.specs.Arrays.{numberIn}
+use Rattle.front_offences.specs.declared.Shape.{Shape}
 use Rattle.front_offences.specs.Positions.{modeIn, typeIn}
 
 -- the index of the first wait's name, from row j on, c rows; 16384 for none
@@ -54,9 +55,13 @@ abbrev pub readsIn : List ℕ → List ℕ → ℕ → List ℕ → List ℕ →
 readsIn codes indices k places owners n o = lowestFrom (readAt codes indices places owners n o) 0 (min k L.TEXT)
 
 -- the lowest of all; "(if that input exists)": else no read is judged, and the first wait's name is refused; without a wait nothing is
-unfoldable pub judgeIn : List ℕ → ℕ → List ℕ → List ℕ → ℕ → List ℕ → List ℕ → ℕ → List ℕ → ℕ → ℕ
-judgeIn rows s codes indices k places owners n decls d =
+unfoldable pub lowestOver : List ℕ → ℕ → List ℕ → List ℕ → ℕ → List ℕ → ℕ → List ℕ → ℕ → List ℕ → ℕ
+lowestOver places n codes indices k rows s decls d owners =
     let w = waitIn rows s in
     let o = numberIn owners n w in
     let strays = straysIn rows s places owners n o in
     choose (ltb w n) (choose (isClockIn decls d o) (lower strays (readsIn codes indices k places owners n o)) (lower (numberIn places n w + 1) strays)) 0
+
+-- the same of a text's arrays
+abbrev pub lowestIn : List ℕ → Shape → List ℕ → List ℕ → List ℕ → List ℕ → List ℕ → ℕ
+lowestIn starts p codes indices rows decls owners = lowestOver starts (p .tokens) codes indices (p .items) rows (p .statements) decls (p .names) owners

@@ -1,13 +1,12 @@
 -- The arms of the cursor's steps, each from the tests that lead to it. Assumes nothing.
-use mathlib.Core.Path.{_≡_, refl, sym}
+use mathlib.Core.Path.{_≡_}
 use mathlib.Core.Bool.{Bool, true, false}
-use Prim.Native.Nat.{ℕ, _+_, _≤_, _<_}
+use Prim.Native.Nat.{_≤_, _<_}
 use borrow.Author.Tests.{le-leb, lt-leb, eq-eqb, ne-eqb}
-use lib.Dec.{eqb, leb}
-use Rattle.front_cursor.specs.declared.Pos.{Pos}
+use Rattle.front_cursor.specs.declared.Cursor.{Cursor}
 use Rattle.front_cursor.specs.Reading.{refuse, step, stepItem, itemAt, expectAt}
 
-module _ (q : Pos) where
+module _ (q : Cursor) where
   pub item-stays : (b : Bool) → (q .fault ≡ 0 → ⊥) → q ≡ itemAt b q
   unfolding itemAt
   item-stays b f = rw (ne-eqb (q .fault) 0 f)
@@ -28,9 +27,9 @@ module _ (q : Pos) where
   unfolding expectAt
   expect-stays a b f = rw (ne-eqb (q .fault) 0 f)
 
-  pub expect-not : (a b : Bool) → q .fault ≡ 0 → a ≡ false → refuse 3 q ≡ expectAt a b q
+  pub expect-writtenot : (a b : Bool) → q .fault ≡ 0 → a ≡ false → refuse 3 q ≡ expectAt a b q
   unfolding expectAt
-  expect-not a b z e = rw (eq-eqb (q .fault) 0 z, e)
+  expect-writtenot a b z e = rw (eq-eqb (q .fault) 0 z, e)
 
   pub expect-long : (a b : Bool) → q .fault ≡ 0 → a ≡ true → b ≡ true → refuse 4 q ≡ expectAt a b q
   unfolding expectAt

@@ -1,25 +1,24 @@
 -- The beginning and the end of a text: where the cursor starts, and what the grammar's answer is where it has come to an end. Assumes nothing.
 use mathlib.Core.Path.{_≡_, refl, sym, _∙_, ap}
-use mathlib.Core.Bool.{Bool, true, false}
-use mathlib.Core.List.{List, [], _∷_}
-use Prim.Native.Nat.{ℕ, zero, suc, _+_, _-_, _≤_, _<_}
+use mathlib.Core.Bool.{false}
+use mathlib.Core.List.{List, []}
+use Prim.Native.Nat.{ℕ, _-_, _≤_, _<_}
 use native.Mathlib.Omega.{arith}
-use lib.Dec.{eqb}
 use lib.ListN.{length, drop, length-drop, drop-of-length-le}
 use lib.Seq.{drop-cons}
 use Rattle.spec_grammar.specs.Token.{Token}
 use Rattle.spec_grammar.specs.Tree.{Text}
-use Rattle.spec_grammar.specs.Grammar.{NonTerminal, text, Says, Sym, Fun, textProduction}
-use Rattle.spec_grammar.specs.Meter.{InHeading, Meter, over}
-use Rattle.spec_grammar.specs.Acceptance.{Answer, accepted, no-sentence, past-limit}
-use Rattle.spec_grammar.specs.Reader.{choose, Outcome, read, refused, limited, run, atEnd, after, advance, readText, placed, answer}
-use Rattle.front_cursor.specs.declared.Pos.{Pos}
-use Rattle.front_cursor.specs.Tokens.{tokenAt, noToken}
-use Rattle.front_cursor.specs.Reading.{meter, ending, from}
+use Rattle.spec_grammar.specs.Grammar.{text, textProduction}
+use Rattle.spec_grammar.specs.Meter.{InHeading}
+use Rattle.spec_grammar.specs.Acceptance.{accepted, no-sentence, past-limit}
+use Rattle.spec_grammar.specs.Reader.{run, atEnd, after, advance, readText, placed, answer}
+use Rattle.front_cursor.specs.declared.Cursor.{Cursor}
+use Rattle.front_layout.specs.Tokens.{noToken}
+use Rattle.front_cursor.specs.Reading.{ending, from}
 
 -- before the first token
-abbrev pub start : Pos
-start = record { fault = 0; at = 0; items = 0; n = 0 }
+abbrev pub start : Cursor
+start = record { fault = 0; at = 0; items = 0; written = 0 }
 
 abbrev pub noHeading : InHeading
 noHeading = record { waiting = 0; inputs = 0; outputs = 0; vars = 0; are-vars = false }
@@ -30,7 +29,7 @@ unfolding answer readText from ending
 text-starts ts = refl
 
 -- nothing is still to come
-module _ (ts : List Token) (v : Text) (s l : ℕ) (h : InHeading) (r : Pos) (d : ℕ) (inside : r .at ≤ length ts) where
+module _ (ts : List Token) (v : Text) (s l : ℕ) (h : InHeading) (r : Cursor) (d : ℕ) (inside : r .at ≤ length ts) where
   back : length ts - length (drop (r .at) ts) ≡ r .at
   back = let e = length-drop (r .at) ts in omega arith
 
@@ -40,7 +39,8 @@ module _ (ts : List Token) (v : Text) (s l : ℕ) (h : InHeading) (r : Pos) (d :
 
   pub text-goes-on : r .fault ≡ 0 → r .at < length ts → placed ts (from ts text s l h r d [] v) ≡ no-sentence (r .at)
   unfolding placed from ending run after advance
-  text-goes-on z e = rw (z, drop-cons ts (r .at) noToken e) (ap no-sentence (ap (λ (us : List Token). length ts - length us) (sym (drop-cons ts (r .at) noToken e)) ∙ back))
+  text-goes-on z e = rw (z, drop-cons ts (r .at) noToken e)
+      (ap no-sentence (ap (λ (us : List Token). length ts - length us) (sym (drop-cons ts (r .at) noToken e)) ∙ back))
 
   pub text-refused : r .fault ≡ 3 → placed ts (from ts text s l h r d [] v) ≡ no-sentence (r .at)
   unfolding placed from ending

@@ -1,2 +1,1 @@
-pub mod Tokens
 pub mod Reading

@@ -40,7 +40,8 @@ abbrev pub nextPortRule : Production morePorts
 nextPortRule = tok SEMI ∷ nt port ∷ nt morePorts ∷ [] ↠ λ _ g gs. g ∷ gs
 
 abbrev pub variableRule : Production vars
-variableRule = tk variables VARIABLE ∷ nt names ∷ tok COLON ∷ nt type ∷ nt init ∷ tok SEMI ∷ nt vars ∷ [] ↠ λ _ ns _ t i _ vs. record { names = ns; mode = variable-mode; type = t; init = i } ∷ vs
+variableRule = tk variables VARIABLE ∷ nt names ∷ tok COLON ∷ nt type ∷ nt init ∷ tok SEMI ∷ nt vars ∷ [] ↠ λ _ ns _ t i _ vs. record
+    { names = ns; mode = variable-mode; type = t; init = i } ∷ vs
 
 -- At a token of kind j, M goes on by its production that begins with a token of kind k; or no such token is there, and M cannot begin.
 abbrev pub Begins : (M : NonTerminal) (m : Mark) (k : ℕ) (δ : List Sym) → Fun (tk m k ∷ δ) (Says M) → ℕ → Type 0

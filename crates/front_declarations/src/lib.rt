@@ -1,29 +1,31 @@
 // The readers of the heading: groups of ports and of variables, to rows in a lent array, one for each declared name in text order.
 // The counts go by the mode word and the limits of document 01.
 ghost use mathlib.Core.Path.{_≡_};
-ghost use Prim.Native.Nat.{ℕ, _+_, _-_, _<_, _≤_};
+ghost use Prim.Native.Nat.{_+_, _-_, _<_, _≤_};
 ghost use Rattle.base_codes.specs.Token.{COMMA, VARIABLE};
 ghost use Rattle.spec_grammar.specs.Grammar.{port as portPart, ports as portsPart};
-ghost use Rattle.front_cursor.specs.Tokens.{kindIn};
-ghost use Rattle.front_declarations.specs.Heads.{cursorOf, headAt, refuseHead, declareAt, takeAt, takeName, followsAt, variableAt, inputsAt, outputsAt, modeAt, typeKind, literalKind, valueAt, initAt, tailAt, AsksHead};
-ghost use Rattle.front_declarations.specs.Rows.{rowOf, rowsOf, setRow, storeRows, declaredBy, modeOf, typeOf, initOf, valueIndex, shapeAt};
-ghost use Rattle.front_declarations.specs.Rows.{groupDeclarations, declarations as declarationsOf};
+ghost use Rattle.front_layout.specs.Tokens.{kindIn};
+ghost use Rattle.front_cursor.specs.Reading.{Asks, step};
+ghost use Rattle.front_layout.specs.Headings.{setDecl, storeDecls, groupHeadings, groupsNames};
+ghost use Rattle.front_declarations.specs.Headers.{headerAt, declareAt, takeAt, takeName, variableAt, inputsAt, outputsAt, modeAt, typeKind, literalKind, valueAt, initAt, tailAt, AsksHeader};
+ghost use Rattle.front_declarations.specs.Rows.{rowOf, rowsOf, declaredBy, modeOf, typeOf, initOf, valueFrom, shapeAt};
 ghost use Rattle.front_declarations.specs.Readers.{NamesOver, AsksGroup, PortsOver, VariableOver, VariablesOver};
 use base_codes::declaration;
 use base_codes::limit;
 use base_codes::refusal;
 use base_codes::token;
-use front_cursor::Pos;
+use front_cursor::Cursor;
 use front_cursor::expect;
+use front_cursor::follows;
 use front_cursor::kind_at;
+use front_cursor::refused;
 
 // "names with commas": every second token is a name.
 const NEXT_NAME: usize = 2;
 
-// Where a reader of the heading stands: a refusal's number or 0; the token; names whose mode is still to come; inputs, outputs and variables so far.
-pub struct Head {
-    pub fault: u8,
-    pub at: usize,
+// Where a reader of the heading stands: a cursor; names whose mode is still to come; inputs, outputs and variables so far.
+pub struct Header {
+    pub cursor: Cursor,
     pub waiting: usize,
     pub inputs: usize,
     pub outputs: usize,
@@ -39,82 +41,54 @@ pub struct Shape {
     pub first: u16,
 }
 
-// The cursor of a place in the heading.
-pub fn cursor_of(p: Head) -> Pos
-    ensures { λ r. ⌜ r ≡ cursorOf p ⌝ }
-{
-    Pos {
-        fault: p.fault,
-        at: p.at,
-        items: 0,
-        n: 0,
-    }
-}
-
 // The same counts, where the cursor is.
-pub fn head_at(q: Pos, p: Head) -> Head
-    ensures { λ r. ⌜ r ≡ headAt q p ⌝ }
+pub fn moved(p: Header, q: Cursor) -> Header
+    ensures { λ r. ⌜ r ≡ headerAt q p ⌝ }
 {
-    Head {
+    Header {
+        cursor: q,
+        waiting: p.waiting,
+        inputs: p.inputs,
+        outputs: p.outputs,
+        vars: p.vars,
+    }
+}
+
+// One token on.
+fn next(q: Cursor) -> Cursor
+    requires { ⌜ q .at < 16384 ⌝ }
+    ensures { λ r. ⌜ r ≡ step q ⌝ }
+{
+    Cursor {
         fault: q.fault,
-        at: q.at,
-        waiting: p.waiting,
-        inputs: p.inputs,
-        outputs: p.outputs,
-        vars: p.vars,
+        at: q.at + 1,
+        items: q.items,
+        written: q.written,
     }
-}
-
-// The same place, refused by a number.
-fn refuse(p: Head, number: u8) -> Head
-    ensures { λ r. ⌜ r ≡ refuseHead number p ⌝ }
-{
-    Head {
-        fault: number,
-        at: p.at,
-        waiting: p.waiting,
-        inputs: p.inputs,
-        outputs: p.outputs,
-        vars: p.vars,
-    }
-}
-
-// Takes the token if it has the kind; refuses it otherwise, or by a limit.
-pub fn take(
-    kinds: &[u8; limit::TEXT],
-    long: &[u8; limit::TEXT],
-    n: usize,
-    p: Head,
-    kind: u8,
-) -> Head
-    requires { ⌜ (0 < kind) × AsksHead n p ⌝ }
-    ensures { λ r. ⌜ r ≡ takeAt (now (kinds .entry)) (now (long .entry)) n kind p ⌝ }
-{
-    let q = expect(kinds, long, n, cursor_of(p), kind);
-    head_at(q, p)
 }
 
 // One name more.
-fn declared(p: Head, variables: bool) -> Head
-    requires { ⌜ (p .at < 16384) × (p .waiting ≤ p .at) × (p .vars ≤ 32) ⌝ }
+fn declared(p: Header, variables: bool) -> Header
+    requires { ⌜ (p .cursor .at < 16384) × (p .waiting ≤ p .cursor .at) × (p .vars ≤ 32) ⌝ }
     ensures { λ r. ⌜ r ≡ declareAt variables p ⌝ }
 {
+    let q = p.cursor;
     if variables {
         if p.vars >= limit::VARIABLES {
-            return refuse(p, refusal::LIMIT_PASSED);
+            return moved(p, refused(q, refusal::LIMIT_PASSED));
         }
-        return Head {
-            fault: p.fault,
-            at: p.at + 1,
+        let c = next(q);
+        return Header {
+            cursor: c,
             waiting: p.waiting,
             inputs: p.inputs,
             outputs: p.outputs,
             vars: p.vars + 1,
         };
     }
-    Head {
-        fault: p.fault,
-        at: p.at + 1,
+    let c = next(q);
+    Header {
+        cursor: c,
         waiting: p.waiting + 1,
         inputs: p.inputs,
         outputs: p.outputs,
@@ -127,34 +101,24 @@ fn name(
     kinds: &[u8; limit::TEXT],
     long: &[u8; limit::TEXT],
     n: usize,
-    p: Head,
+    p: Header,
     variables: bool,
-) -> Head
-    requires { ⌜ AsksHead n p ⌝ }
+) -> Header
+    requires { ⌜ AsksHeader n p ⌝ }
     ensures { λ r. ⌜ r ≡ takeName (now (kinds .entry)) (now (long .entry)) n variables p ⌝ }
 {
-    if p.fault != 0 {
+    let q = p.cursor;
+    if q.fault != 0 {
         return p;
     }
-    let at = p.at;
+    let at = q.at;
     if kind_at(kinds, n, at) != token::NAME {
-        return refuse(p, refusal::NO_SENTENCE);
+        return moved(p, refused(q, refusal::NO_SENTENCE));
     }
     if long[at] == 1 {
-        return refuse(p, refusal::LIMIT_PASSED);
+        return moved(p, refused(q, refusal::LIMIT_PASSED));
     }
     declared(p, variables)
-}
-
-// Whether the reader has not refused and a token of this kind stands there.
-fn follows(kinds: &[u8; limit::TEXT], n: usize, p: Head, kind: u8) -> bool
-    requires { ⌜ n ≤ 16384 ⌝ }
-    ensures { λ r. ⌜ r ≡ followsAt (p .fault) (kindIn (now (kinds .entry)) n (p .at)) kind ⌝ }
-{
-    if p.fault != 0 {
-        return false;
-    }
-    kind_at(kinds, n, p.at) == kind
 }
 
 // A comma, and a name that is declared.
@@ -162,13 +126,15 @@ fn next_name(
     kinds: &[u8; limit::TEXT],
     long: &[u8; limit::TEXT],
     n: usize,
-    p: Head,
+    p: Header,
     variables: bool,
-) -> Head
-    requires { ⌜ AsksHead n p ⌝ }
+) -> Header
+    requires { ⌜ AsksHeader n p ⌝ }
     ensures { λ r. ⌜ r ≡ takeName (now (kinds .entry)) (now (long .entry)) n variables (takeAt (now (kinds .entry)) (now (long .entry)) n COMMA p) ⌝ }
 {
-    let a = take(kinds, long, n, p, token::COMMA);
+    let q = p.cursor;
+    let c = expect(kinds, long, n, q, token::COMMA);
+    let a = moved(p, c);
     name(kinds, long, n, a, variables)
 }
 
@@ -177,30 +143,31 @@ pub fn names(
     kinds: &[u8; limit::TEXT],
     long: &[u8; limit::TEXT],
     n: usize,
-    p: Head,
+    p: Header,
     variables: bool,
-) -> Head
-    requires { ⌜ AsksHead n p ⌝ }
+) -> Header
+    requires { ⌜ AsksHeader n p ⌝ }
     ensures { λ r. ⌜ NamesOver (now (kinds .entry)) (now (long .entry)) n p variables r ⌝ }
 {
     let mut a = name(kinds, long, n, p, variables);
-    while follows(kinds, n, a, token::COMMA) {
+    while follows(kinds, n, a.cursor, token::COMMA) {
         a = next_name(kinds, long, n, a, variables);
     }
     a
 }
 
 // `in`: the names that waited for their mode are inputs.
-fn inputs(p: Head) -> Head
-    requires { ⌜ (p .at < 16384) × (p .waiting ≤ p .at) × (p .inputs ≤ 17) ⌝ }
+fn inputs(p: Header) -> Header
+    requires { ⌜ (p .cursor .at < 16384) × (p .waiting ≤ p .cursor .at) × (p .inputs ≤ 17) ⌝ }
     ensures { λ r. ⌜ r ≡ inputsAt p ⌝ }
 {
+    let q = p.cursor;
     if p.inputs + p.waiting > limit::IN_PORTS {
-        return refuse(p, refusal::LIMIT_PASSED);
+        return moved(p, refused(q, refusal::LIMIT_PASSED));
     }
-    Head {
-        fault: p.fault,
-        at: p.at + 1,
+    let c = next(q);
+    Header {
+        cursor: c,
         waiting: 0,
         inputs: p.inputs + p.waiting,
         outputs: p.outputs,
@@ -209,16 +176,17 @@ fn inputs(p: Head) -> Head
 }
 
 // `out`: they are outputs.
-fn outputs(p: Head) -> Head
-    requires { ⌜ (p .at < 16384) × (p .waiting ≤ p .at) × (p .outputs ≤ 16) ⌝ }
+fn outputs(p: Header) -> Header
+    requires { ⌜ (p .cursor .at < 16384) × (p .waiting ≤ p .cursor .at) × (p .outputs ≤ 16) ⌝ }
     ensures { λ r. ⌜ r ≡ outputsAt p ⌝ }
 {
+    let q = p.cursor;
     if p.outputs + p.waiting > limit::OUTPUTS {
-        return refuse(p, refusal::LIMIT_PASSED);
+        return moved(p, refused(q, refusal::LIMIT_PASSED));
     }
-    Head {
-        fault: p.fault,
-        at: p.at + 1,
+    let c = next(q);
+    Header {
+        cursor: c,
         waiting: 0,
         inputs: p.inputs,
         outputs: p.outputs + p.waiting,
@@ -227,21 +195,22 @@ fn outputs(p: Head) -> Head
 }
 
 // The mode of the names that wait for it.
-fn mode(kinds: &[u8; limit::TEXT], n: usize, p: Head) -> Head
-    requires { ⌜ AsksHead n p ⌝ }
-    ensures { λ r. ⌜ r ≡ modeAt (kindIn (now (kinds .entry)) n (p .at)) p ⌝ }
+fn mode(kinds: &[u8; limit::TEXT], n: usize, p: Header) -> Header
+    requires { ⌜ AsksHeader n p ⌝ }
+    ensures { λ r. ⌜ r ≡ modeAt (kindIn (now (kinds .entry)) n (p .cursor .at)) p ⌝ }
 {
-    if p.fault != 0 {
+    let q = p.cursor;
+    if q.fault != 0 {
         return p;
     }
-    let kind = kind_at(kinds, n, p.at);
+    let kind = kind_at(kinds, n, q.at);
     if kind == token::IN {
         return inputs(p);
     }
     if kind == token::OUT {
         return outputs(p);
     }
-    refuse(p, refusal::NO_SENTENCE)
+    moved(p, refused(q, refusal::NO_SENTENCE))
 }
 
 // The kind that a type word must have, where a token of this kind stands.
@@ -268,43 +237,43 @@ fn literal_kind(kind: u8) -> u8
 }
 
 // An initial value.
-fn value(kinds: &[u8; limit::TEXT], long: &[u8; limit::TEXT], n: usize, p: Head) -> Head
-    requires { ⌜ AsksHead n p ⌝ }
-    ensures { λ r. ⌜ r ≡ valueAt (now (kinds .entry)) (now (long .entry)) n p ⌝ }
+fn value(kinds: &[u8; limit::TEXT], long: &[u8; limit::TEXT], n: usize, q: Cursor) -> Cursor
+    requires { ⌜ Asks n q ⌝ }
+    ensures { λ r. ⌜ r ≡ valueAt (now (kinds .entry)) (now (long .entry)) n q ⌝ }
 {
-    let kind = kind_at(kinds, n, p.at);
+    let kind = kind_at(kinds, n, q.at);
     if kind == token::MINUS {
-        let a = take(kinds, long, n, p, token::MINUS);
-        return take(kinds, long, n, a, token::NUMBER);
+        let a = expect(kinds, long, n, q, token::MINUS);
+        return expect(kinds, long, n, a, token::NUMBER);
     }
-    take(kinds, long, n, p, literal_kind(kind))
+    expect(kinds, long, n, q, literal_kind(kind))
 }
 
 // `:=` and an initial value, or nothing.
-fn init(kinds: &[u8; limit::TEXT], long: &[u8; limit::TEXT], n: usize, p: Head) -> Head
-    requires { ⌜ AsksHead n p ⌝ }
-    ensures { λ r. ⌜ r ≡ initAt (now (kinds .entry)) (now (long .entry)) n p ⌝ }
+fn init(kinds: &[u8; limit::TEXT], long: &[u8; limit::TEXT], n: usize, q: Cursor) -> Cursor
+    requires { ⌜ Asks n q ⌝ }
+    ensures { λ r. ⌜ r ≡ initAt (now (kinds .entry)) (now (long .entry)) n q ⌝ }
 {
-    let given = follows(kinds, n, p, token::BECOMES);
+    let given = follows(kinds, n, q, token::BECOMES);
     if given {
-        let a = take(kinds, long, n, p, token::BECOMES);
+        let a = expect(kinds, long, n, q, token::BECOMES);
         return value(kinds, long, n, a);
     }
-    p
+    q
 }
 
 // A type, and perhaps an initial value.
-fn tail(kinds: &[u8; limit::TEXT], long: &[u8; limit::TEXT], n: usize, p: Head) -> Head
-    requires { ⌜ AsksHead n p ⌝ }
-    ensures { λ r. ⌜ r ≡ tailAt (now (kinds .entry)) (now (long .entry)) n p ⌝ }
+fn tail(kinds: &[u8; limit::TEXT], long: &[u8; limit::TEXT], n: usize, q: Cursor) -> Cursor
+    requires { ⌜ Asks n q ⌝ }
+    ensures { λ r. ⌜ r ≡ tailAt (now (kinds .entry)) (now (long .entry)) n q ⌝ }
 {
-    let kind = type_kind(kind_at(kinds, n, p.at));
-    let a = take(kinds, long, n, p, kind);
+    let kind = type_kind(kind_at(kinds, n, q.at));
+    let a = expect(kinds, long, n, q, kind);
     init(kinds, long, n, a)
 }
 
 // The number of names declared so far.
-pub fn declared_by(p: Head) -> usize
+pub fn declared_by(p: Header) -> usize
     requires { ⌜ (p .inputs ≤ 17) × (p .outputs ≤ 16) × (p .vars ≤ 32) ⌝ }
     ensures { λ r. ⌜ r ≡ declaredBy p ⌝ }
 {
@@ -353,7 +322,7 @@ fn init_of(after: u8, kind: u8) -> u16
 // The index of the initial value's first token, behind := at an index, or 16384.
 fn value_index(after: u8, at: usize) -> u16
     requires { ⌜ at < 65535 ⌝ }
-    ensures { λ r. ⌜ r ≡ valueIndex after at ⌝ }
+    ensures { λ r. ⌜ r ≡ valueFrom after at ⌝ }
 {
     if after == token::BECOMES {
         return (at + 1) as u16;
@@ -383,7 +352,7 @@ fn shape_at(kinds: &[u8; limit::TEXT], n: usize, first: usize, mode: u16, at: us
 // Stores the row of a declared name.
 fn put_row(decls: &mut [u16; declaration::ROWS], i: usize, name: usize, g: Shape)
     requires { ⌜ (i < 65) × (name < 65536) ⌝ }
-    ensures { λ _. ⌜ now (decls .exit) ≡ setRow i (rowOf g name) (now (decls .entry)) ⌝ }
+    ensures { λ _. ⌜ now (decls .exit) ≡ setDecl i (rowOf g name) (now (decls .entry)) ⌝ }
 {
     decls[declaration::ROW * i] = name as u16;
     decls[declaration::ROW * i + declaration::MODE] = g.mode;
@@ -396,7 +365,7 @@ fn put_row(decls: &mut [u16; declaration::ROWS], i: usize, name: usize, g: Shape
 // Stores the rows from number i up to number j, the names being every second token from an index on.
 fn put_rows(decls: &mut [u16; declaration::ROWS], i: usize, j: usize, at: usize, g: Shape)
     requires { ⌜ (j ≤ 65) × (at ≤ 16384) ⌝ }
-    ensures { λ _. ⌜ now (decls .exit) ≡ storeRows i (rowsOf g at (j - i)) (now (decls .entry)) ⌝ }
+    ensures { λ _. ⌜ now (decls .exit) ≡ storeDecls i (rowsOf g at (j - i)) (now (decls .entry)) ⌝ }
 {
     let mut k = i;
     let mut name = at;
@@ -412,34 +381,39 @@ fn port_group(
     kinds: &[u8; limit::TEXT],
     long: &[u8; limit::TEXT],
     n: usize,
-    p: Head,
+    p: Header,
     decls: &mut [u16; declaration::ROWS],
-) -> Head
+) -> Header
     requires { ⌜ AsksGroup n p ⌝ }
-    ensures { λ r. ⌜ PortsOver portPart groupDeclarations (now (kinds .entry)) (now (long .entry)) n p (now (decls .entry)) r (now (decls .exit)) ⌝ }
+    ensures { λ r. ⌜ PortsOver portPart groupHeadings (now (kinds .entry)) (now (long .entry)) n p (now (decls .entry)) r (now (decls .exit)) ⌝ }
 {
     let a = names(kinds, long, n, p, false);
-    let b = take(kinds, long, n, a, token::COLON);
+    let u = expect(kinds, long, n, a.cursor, token::COLON);
+    let b = moved(a, u);
     let c = mode(kinds, n, b);
-    let e = tail(kinds, long, n, c);
-    if e.fault != 0 {
+    let v = c.cursor;
+    let w = tail(kinds, long, n, v);
+    let e = moved(c, w);
+    let x = e.cursor;
+    if x.fault != 0 {
         return e;
     }
-    let m = mode_of(kind_at(kinds, n, b.at));
-    let g = shape_at(kinds, n, p.at, m, c.at);
-    put_rows(decls, declared_by(p), declared_by(e), p.at, g);
+    let first = p.cursor.at;
+    let y = b.cursor;
+    let m = mode_of(kind_at(kinds, n, y.at));
+    let g = shape_at(kinds, n, first, m, v.at);
+    put_rows(decls, declared_by(p), declared_by(e), first, g);
     e
 }
 
 // The word variable: none of the names that come now waits for a mode.
-fn variable_word(kinds: &[u8; limit::TEXT], long: &[u8; limit::TEXT], n: usize, p: Head) -> Head
-    requires { ⌜ AsksHead n p ⌝ }
+fn variable_word(kinds: &[u8; limit::TEXT], long: &[u8; limit::TEXT], n: usize, p: Header) -> Header
+    requires { ⌜ AsksHeader n p ⌝ }
     ensures { λ r. ⌜ r ≡ variableAt (now (kinds .entry)) (now (long .entry)) n p ⌝ }
 {
-    let a = take(kinds, long, n, p, token::VARIABLE);
-    Head {
-        fault: a.fault,
-        at: a.at,
+    let c = expect(kinds, long, n, p.cursor, token::VARIABLE);
+    Header {
+        cursor: c,
         waiting: 0,
         inputs: p.inputs,
         outputs: p.outputs,
@@ -452,22 +426,25 @@ fn variable_group(
     kinds: &[u8; limit::TEXT],
     long: &[u8; limit::TEXT],
     n: usize,
-    p: Head,
+    p: Header,
     decls: &mut [u16; declaration::ROWS],
-) -> Head
-    requires { ⌜ AsksHead n p × (p .fault ≡ 0) × (kindIn (now kinds) n (p .at) ≡ VARIABLE) ⌝ }
+) -> Header
+    requires { ⌜ AsksHeader n p × (p .cursor .fault ≡ 0) × (kindIn (now kinds) n (p .cursor .at) ≡ VARIABLE) ⌝ }
     ensures { λ r. ⌜ VariableOver (now (kinds .entry)) (now (long .entry)) n p (now (decls .entry)) r (now (decls .exit)) ⌝ }
 {
     let a = variable_word(kinds, long, n, p);
     let b = names(kinds, long, n, a, true);
-    let c = take(kinds, long, n, b, token::COLON);
-    let d = tail(kinds, long, n, c);
-    let e = take(kinds, long, n, d, token::SEMI);
-    if e.fault != 0 {
+    let u = expect(kinds, long, n, b.cursor, token::COLON);
+    let v = tail(kinds, long, n, u);
+    let w = expect(kinds, long, n, v, token::SEMI);
+    let e = moved(b, w);
+    let x = e.cursor;
+    if x.fault != 0 {
         return e;
     }
-    let g = shape_at(kinds, n, a.at, declaration::VARIABLE, c.at);
-    put_rows(decls, declared_by(p), declared_by(e), a.at, g);
+    let first = a.cursor.at;
+    let g = shape_at(kinds, n, first, declaration::VARIABLE, u.at);
+    put_rows(decls, declared_by(p), declared_by(e), first, g);
     e
 }
 
@@ -476,15 +453,16 @@ pub fn ports(
     kinds: &[u8; limit::TEXT],
     long: &[u8; limit::TEXT],
     n: usize,
-    p: Head,
+    p: Header,
     decls: &mut [u16; declaration::ROWS],
-) -> Head
+) -> Header
     requires { ⌜ AsksGroup n p ⌝ }
-    ensures { λ r. ⌜ PortsOver portsPart declarationsOf (now (kinds .entry)) (now (long .entry)) n p (now (decls .entry)) r (now (decls .exit)) ⌝ }
+    ensures { λ r. ⌜ PortsOver portsPart groupsNames (now (kinds .entry)) (now (long .entry)) n p (now (decls .entry)) r (now (decls .exit)) ⌝ }
 {
     let mut a = port_group(kinds, long, n, p, decls);
-    while follows(kinds, n, a, token::SEMI) {
-        let b = take(kinds, long, n, a, token::SEMI);
+    while follows(kinds, n, a.cursor, token::SEMI) {
+        let c = expect(kinds, long, n, a.cursor, token::SEMI);
+        let b = moved(a, c);
         a = port_group(kinds, long, n, b, decls);
     }
     a
@@ -495,14 +473,14 @@ pub fn variables(
     kinds: &[u8; limit::TEXT],
     long: &[u8; limit::TEXT],
     n: usize,
-    p: Head,
+    p: Header,
     decls: &mut [u16; declaration::ROWS],
-) -> Head
-    requires { ⌜ AsksHead n p ⌝ }
+) -> Header
+    requires { ⌜ AsksHeader n p ⌝ }
     ensures { λ r. ⌜ VariablesOver (now (kinds .entry)) (now (long .entry)) n p (now (decls .entry)) r (now (decls .exit)) ⌝ }
 {
     let mut a = p;
-    while follows(kinds, n, a, token::VARIABLE) {
+    while follows(kinds, n, a.cursor, token::VARIABLE) {
         a = variable_group(kinds, long, n, a, decls);
     }
     a

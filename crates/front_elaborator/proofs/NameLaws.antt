@@ -97,24 +97,34 @@ module _ {A : Type 0} (p : ℕ → Bool) (f : ℕ → A) (before : List A) (last
       one : end - k ≡ suc (end - (k + 1))
       one = omega arith
 
-      whole : sets out n (take (32 - n) (choose (p k) (f k ∷ picked p f (k + 1) (end - (k + 1))) (picked p f (k + 1) (end - (k + 1))))) ≡ sets before 0 (take 32 (picked p f 0 last))
+      whole : sets out n (take (32 - n) (choose (p k) (f k ∷ picked p f (k + 1) (end - (k + 1))) (picked p f (k + 1) (end - (k + 1))))) ≡ sets before 0
+          (take 32 (picked p f 0 last))
       whole = rw one at (c .contents)
 
-      size : min (n + length (choose (p k) (f k ∷ picked p f (k + 1) (end - (k + 1))) (picked p f (k + 1) (end - (k + 1))))) 32 ≡ min (length (picked p f 0 last)) 32
+      size : min (n + length (choose (p k) (f k ∷ picked p f (k + 1) (end - (k + 1))) (picked p f (k + 1) (end - (k + 1))))) 32 ≡ min
+          (length (picked p f 0 last)) 32
       size = rw one at (c .count)
 
       go : (a : Bool) → p k ≡ a → r ≡ n + choose a 1 0 → next ≡ choose a (set out n x) out → Picks end next r (k + 1)
       go true i l m =
           let y : 32 - n ≡ suc (32 - (n + 1)) = omega arith in
           let t : min (n + suc (length (picked p f (k + 1) (end - (k + 1))))) 32 ≡ min (length (picked p f 0 last)) 32 = rw i at size in
-          record { within = omega arith; room = omega arith; short = c .short; contents = rw (l, m, q, add-one n) (rw (i, y, add-one n) at whole); count = rw l (omega arith) }
+          record {
+            within = omega arith;
+            room = omega arith;
+            short = c .short;
+            contents = rw (l, m, q, add-one n) (rw (i, y, add-one n) at whole);
+            count = rw l
+                (omega arith);
+          }
       go false i l m =
           let y : n + 0 ≡ n = omega arith in
           record { within = omega arith; room = omega arith; short = c .short; contents = rw (l, m, y) (rw i at whole); count = rw (l, y) (rw i at size) }
 
   -- no room is left
   pub pick-full : {end n k : ℕ} {out : List A} → Picks end out n k → 32 ≤ n → Filled (picked p f 0 last) before out n
-  pick-full {end} {n} {k} {out} c h = let z : 32 - n ≡ 0 = omega arith in let r = c .room in let t = c .count in record { count = omega arith; contents = rw z at (c .contents) }
+  pick-full {end} {n} {k} {out} c h = let z : 32 - n ≡ 0 = omega arith in let r = c .room in let t = c .count in
+      record { count = omega arith; contents = rw z at (c .contents) }
 
   pub pick-end : {end n k : ℕ} {out : List A} → Picks end out n k → end ≤ k → Filled (picked p f 0 last) before out n
   unfolding picked

@@ -18,7 +18,7 @@ use Rattle.spec_language.specs.Declarations.{Decl, declared, find, isClock, clo
 use Rattle.spec_language.specs.Names.{again, doubled}
 use Rattle.spec_language.specs.Elaboration.{position}
 use Rattle.spec_language.proofs.Facts.{both-nil, unless-nil, not-true, eqb-eq}
-use Rattle.front_syntax.specs.Headings.{modeCode, headings, DeclsIn}
+use Rattle.front_layout.specs.Headings.{modeCode, headings, DeclsIn}
 use Rattle.front_elaborator.specs.Positions.{slotAt}
 use Rattle.front_elaborator.specs.Names.{ofMode, countFrom, slotOf, eachFrom, slotsAfter, inMode, Along, ClockIs}
 use Rattle.front_elaborator.proofs.NameLawsLaid.{RowOf, declared-count, laid, of-input, of-output, of-variable, count-is, found-at, position-inside, along-both, along-one}
@@ -26,7 +26,8 @@ use Rattle.front_elaborator.proofs.NameLawsLaid.{RowOf, declared-count,
 -- THE CLOCK
 
 -- a name that does not come again is no later declaration's
-later : (w : Token) (clock : ℕ) (Δ : List Decl) (k : ℕ) → clock < k → again (w .value) Δ ≡ [] → Along (λ (i : ℕ) (d : Decl). eqb i clock ≡ isClock (some w) (d .name .value)) k Δ
+later : (w : Token) (clock : ℕ) (Δ : List Decl) (k : ℕ) → clock < k → again (w .value) Δ ≡ []
+    → Along (λ (i : ℕ) (d : Decl). eqb i clock ≡ isClock (some w) (d .name .value)) k Δ
 unfolding again each isClock
 later w clock [] k h a = tt
 later w clock (d ∷ Δ) k h a =
@@ -38,7 +39,8 @@ clock-from : (w : Token) (clock : ℕ) (Δ : List Decl) (k : ℕ) → clock ≡ 
     → Along (λ (i : ℕ) (d : Decl). eqb i clock ≡ isClock (some w) (d .name .value)) k Δ
 unfolding position doubled isClock
 clock-from w clock [] k e a = tt
-clock-from w clock (d ∷ Δ) k e a = let s = both-nil (again (d .name .value) Δ) (doubled Δ) a in go (eqb (d .name .value) (w .value)) refl (s .0) (s .1) (clock-from w clock Δ (k + 1))
+clock-from w clock (d ∷ Δ) k e a = let s = both-nil (again (d .name .value) Δ) (doubled Δ) a in
+    go (eqb (d .name .value) (w .value)) refl (s .0) (s .1) (clock-from w clock Δ (k + 1))
   where
     go : (b : Bool) → eqb (d .name .value) (w .value) ≡ b → again (d .name .value) Δ ≡ [] → doubled Δ ≡ []
         → (clock ≡ k + 1 + position Δ (w .value) → doubled Δ ≡ [] → Along (λ (i : ℕ) (c : Decl). eqb i clock ≡ eqb (c .name .value) (w .value)) (k + 1) Δ)
@@ -76,7 +78,8 @@ each-at f k (suc c) zero h = ap f (omega arith)
 each-at f k (suc c) (suc i) h = each-at f (k + 1) c i (omega arith) ∙ ap f (omega arith)
 
 -- the array of indices, read back
-pub slots-at : (decls : List ℕ) (d clock : ℕ) (before : List ℕ) (j : ℕ) → length before ≡ 65 → d ≤ 65 → j < d → slotAt (slotsAfter decls d clock before) j ≡ slotOf decls clock j
+pub slots-at : (decls : List ℕ) (d clock : ℕ) (before : List ℕ) (j : ℕ) → length before ≡ 65 → d ≤ 65 → j < d
+    → slotAt (slotsAfter decls d clock before) j ≡ slotOf decls clock j
 unfolding slotsAfter
 slots-at decls d clock before j h s l =
     let m : min d 65 ≡ d = omega arith in
@@ -87,7 +90,7 @@ slots-at decls d clock before j h s l =
     ∙ (each-at (slotOf decls clock) 0 d j l ∙ ap (slotOf decls clock) (omega arith)))
 
 -- the tests of a mode along the declarations
-tests-along : (c : Option Token) (ts : List Token) (decls : List ℕ) (clock : ℕ) (m : Mode) (Δ : List Decl) → Along (RowOf ts decls) 0 Δ → ClockIs c clock Δ
+pub tests-along : (c : Option Token) (ts : List Token) (decls : List ℕ) (clock : ℕ) (m : Mode) (Δ : List Decl) → Along (RowOf ts decls) 0 Δ → ClockIs c clock Δ
     → Along (λ (k : ℕ) (d : Decl). ofMode decls clock (modeCode m) k ≡ inMode c m d) 0 Δ
 unfolding modeCode
 tests-along c ts decls clock input Δ a b = along-both (RowOf ts decls) _ _ Δ 0 (λ k d r e. of-input c decls clock k d (r .mode) e) a b
@@ -95,7 +98,8 @@ tests-along c ts decls clock output-port Δ a b = along-one (RowOf ts decls) _ �
 tests-along c ts decls clock variable-mode Δ a b = along-one (RowOf ts decls) _ Δ 0 (λ k d r. of-variable c decls clock k d (r .mode)) a
 
 -- THE LAW OF INDICES: a declared name that is not the clock has its position among the names of its mode
-pub slots-held : (ts : List Token) (t : Text) (decls : List ℕ) (d clock : ℕ) (before : List ℕ) → DeclsIn ts (headings t) decls d → ClockIs (clockOf t) clock (declared t)
+pub slots-held : (ts : List Token) (t : Text) (decls : List ℕ) (d clock : ℕ) (before : List ℕ) → DeclsIn ts (headings t) decls d
+    → ClockIs (clockOf t) clock (declared t)
     → length before ≡ 65 → (v : ℕ) (e : Decl) → find (declared t) v ≡ some e → inMode (clockOf t) (e .mode) e ≡ true
     → slotAt (slotsAfter decls d clock before) (position (declared t) v) ≡ position (filter (inMode (clockOf t) (e .mode)) (declared t)) v
 unfolding slotOf
@@ -109,4 +113,5 @@ slots-held ts t decls d clock before h b l v e f p =
     let m : min (position (declared t) v) 65 ≡ position (declared t) v = omega arith in
     slots-at decls d clock before (position (declared t) v) l s (omega arith)
     ∙ (ap (λ (q : ℕ). countFrom (ofMode decls clock q) 0 (min (position (declared t) v) 65)) (r .mode)
-    ∙ (rw m (count-is (ofMode decls clock (modeCode (e .mode))) (inMode (clockOf t) (e .mode)) (declared t) 0 v e (tests-along (clockOf t) ts decls clock (e .mode) (declared t) a b) f p)))
+    ∙ (rw m (count-is (ofMode decls clock (modeCode (e .mode))) (inMode (clockOf t) (e .mode)) (declared t) 0 v e
+    (tests-along (clockOf t) ts decls clock (e .mode) (declared t) a b) f p)))

@@ -3,7 +3,7 @@ use mathlib.Core.Path.{_≡_, refl, sym, _∙_, ap, subst}
 use mathlib.Core.Bool.{Bool, true, false, cond, not, _&&_}
 use mathlib.Core.Option.{Option, some}
 use mathlib.Core.List.{List, [], _∷_, map, map-append}
-use Prim.Native.Nat.{ℕ, suc, _+_, _≤_, _<_}
+use Prim.Native.Nat.{ℕ, suc, _+_, _*_, _≤_, _<_}
 use native.Mathlib.Omega.{arith}
 use lib.Dec.{eqb}
 use lib.ListN.{length, length-map}
@@ -15,8 +15,8 @@ use Rattle.spec_language.specs.Lists.{filter}
 use Rattle.spec_language.specs.Declarations.{Decl, typeNamed, declare, spread, groups, declared, isInput, isOutput, isVariable, find, isClock, isData}
 use Rattle.spec_language.specs.Elaboration.{position}
 use Rattle.spec_language.proofs.Facts.{no-some}
-use Rattle.front_cursor.specs.Tokens.{noToken, tokenAt}
-use Rattle.front_syntax.specs.Headings.{modeCode, initCode, initToken, valueToken, Heading, namesOf, groupNames, groupsNames, headings, DeclRow, declIn, declsFrom, valueIndex, headingSeen, DeclsIn}
+use Rattle.front_layout.specs.Tokens.{noToken, tokenAt}
+use Rattle.front_layout.specs.Headings.{modeCode, initCode, initToken, valueToken, Heading, namesOf, groupNames, groupsNames, headings, DeclRow, declIn, declsFrom, valueIndex, headingSeen, DeclsIn}
 use Rattle.spec_design.specs.Types.{typeByte}
 use Rattle.front_elaborator.specs.Positions.{fieldAt}
 use Rattle.front_elaborator.specs.Names.{ofMode, countFrom, picked, inMode, Along}
@@ -26,12 +26,22 @@ abbrev clear : Heading → Heading
 clear h = record { name = h .name; mode = h .mode; type = h .type; init = h .init; sign = h .sign; value = h .value; first = noToken }
 
 abbrev headingOf : Decl → Heading
-headingOf d = record { name = d .name; mode = modeCode (d .mode); type = typeByte (d .type); init = initCode (d .init); sign = initToken (d .init); value = valueToken (d .init); first = noToken }
+headingOf d = record {
+  name = d .name;
+  mode = modeCode (d .mode);
+  type = typeByte (d .type);
+  init = initCode (d .init);
+  sign = initToken
+      (d .init);
+  value = valueToken (d .init);
+  first = noToken;
+}
 
 names-are : (g : Group) (f : Token) (xs : List Token) → map clear (namesOf g f xs) ≡ map headingOf (declare g xs)
 unfolding namesOf declare
 names-are g f [] = refl
-names-are g f (x ∷ xs) = ap (λ (l : List Heading). headingOf (record { name = x; mode = g .mode; type = typeNamed (g .type); init = g .init }) ∷ l) (names-are g f xs)
+names-are g f (x ∷ xs) = ap (λ (l : List Heading). headingOf (record { name = x; mode = g .mode; type = typeNamed (g .type); init = g .init }) ∷ l)
+    (names-are g f xs)
 
 group-are : (g : Group) (xs : List Token) → map clear (groupNames g xs) ≡ map headingOf (declare g xs)
 unfolding groupNames declare
@@ -41,7 +51,13 @@ group-are g (x ∷ xs) = names-are g x (x ∷ xs)
 groups-are : (gs : List Group) → map clear (groupsNames gs) ≡ map headingOf (spread gs)
 unfolding groupsNames spread
 groups-are [] = refl
-groups-are (g ∷ gs) = rw (map-append clear (groupNames g (g .names)) (groupsNames gs), map-append headingOf (declare g (g .names)) (spread gs), group-are g (g .names), groups-are gs)
+groups-are (g ∷ gs) = rw (
+  map-append clear (groupNames g (g .names)) (groupsNames gs),
+  map-append headingOf (declare g (g .names)) (spread gs),
+  group-are g
+      (g .names),
+  groups-are gs,
+)
 
 headings-are : (t : Text) → map clear (headings t) ≡ map headingOf (declared t)
 unfolding headings declared
@@ -50,6 +66,7 @@ headings-are t = groups-are (groups t)
 -- what the array has of a declaration
 pub record RowOf (ts : List Token) (decls : List ℕ) (k : ℕ) (d : Decl) : Type 0 where
   pub inside : k < 65
+  pub name : tokenAt ts (fieldAt decls k 0) ≡ d .name
   pub mode : fieldAt decls k 1 ≡ modeCode (d .mode)
   pub type : fieldAt decls k 2 ≡ typeByte (d .type)
   pub init : fieldAt decls k 3 ≡ initCode (d .init)
@@ -59,8 +76,10 @@ pub record RowOf (ts : List Token) (decls : List ℕ) (k : ℕ) (d : Decl) : Typ
 row-of : (ts : List Token) (decls : List ℕ) (k : ℕ) (d : Decl) → k < 65 → clear (headingSeen ts (declIn decls k)) ≡ headingOf d → RowOf ts decls k d
 row-of ts decls k d h e =
     let q = lt-ltb k 65 h in
+    let z : 6 * k + 0 ≡ 6 * k = omega arith in
     record {
       inside = h;
+      name = rw (q, z) (ap (λ (x : Heading). x .name) e);
       mode = rw q (ap (λ (x : Heading). x .mode) e);
       type = rw q (ap (λ (x : Heading). x .type) e);
       init = rw q (ap (λ (x : Heading). x .init) e);
@@ -98,7 +117,8 @@ pub laid : (ts : List Token) (t : Text) (decls : List ℕ) (d : ℕ) → DeclsIn
 laid ts t decls d h =
     let n = declared-count ts t decls d h in
     let s = h .short in
-    rows-along ts decls (declared t) 0 (omega arith) (rw n (sym (map-twice clear (headingSeen ts) (declsFrom decls 0 d)) ∙ (ap (map clear) (h .are) ∙ headings-are t)))
+    rows-along ts decls (declared t) 0 (omega arith)
+    (rw n (sym (map-twice clear (headingSeen ts) (declsFrom decls 0 d)) ∙ (ap (map clear) (h .are) ∙ headings-are t)))
 
 -- TESTS
 
@@ -113,7 +133,8 @@ of-input c decls clock k d e f = rw (e, f) (go (d .mode) (not (isClock c (d .nam
     go output-port b = refl
     go variable-mode b = refl
 
-pub of-output : (c : Option Token) (decls : List ℕ) (clock k : ℕ) (d : Decl) → fieldAt decls k 1 ≡ modeCode (d .mode) → ofMode decls clock 1 k ≡ inMode c output-port d
+pub of-output : (c : Option Token) (decls : List ℕ) (clock k : ℕ) (d : Decl) → fieldAt decls k 1 ≡ modeCode (d .mode)
+    → ofMode decls clock 1 k ≡ inMode c output-port d
 unfolding ofMode modeCode isOutput
 of-output c decls clock k d e = rw e (go (d .mode))
   where
@@ -122,7 +143,8 @@ of-output c decls clock k d e = rw e (go (d .mode))
     go output-port = refl
     go variable-mode = refl
 
-pub of-variable : (c : Option Token) (decls : List ℕ) (clock k : ℕ) (d : Decl) → fieldAt decls k 1 ≡ modeCode (d .mode) → ofMode decls clock 2 k ≡ inMode c variable-mode d
+pub of-variable : (c : Option Token) (decls : List ℕ) (clock k : ℕ) (d : Decl) → fieldAt decls k 1 ≡ modeCode (d .mode)
+    → ofMode decls clock 2 k ≡ inMode c variable-mode d
 unfolding ofMode modeCode isVariable
 of-variable c decls clock k d e = rw e (go (d .mode))
   where

@@ -20,13 +20,13 @@ use Rattle.spec_language.specs.Declarations.{Decl, scopeFor, find, isA, isOutpu
 use Rattle.spec_language.specs.Names.{namesIn, namesOf}
 use Rattle.spec_language.specs.Elaboration.{position}
 use Rattle.spec_language.proofs.Facts.{both-nil, each-nil, unless-nil}
-use Rattle.front_cursor.specs.Tokens.{tokenAt}
-use Rattle.front_statements.specs.Entries.{stmtEntries, bodyEntries}
-use Rattle.front_statements.specs.Entries as S
-use Rattle.front_statements.specs.Rows as R
-use Rattle.front_syntax.specs.Arrays as A
-use Rattle.front_syntax.specs.Arrays.{TokensIn, OwnersIn}
-use Rattle.front_syntax.specs.Kinded.{KindedStmt, KindedBody}
+use Rattle.front_layout.specs.Tokens.{tokenAt}
+use Rattle.front_layout.specs.Entries.{stmtEntries, bodyEntries}
+use Rattle.front_layout.specs.Entries as S
+use Rattle.front_layout.specs.Rows as R
+use Rattle.front_layout.specs.Arrays as A
+use Rattle.front_layout.specs.Arrays.{TokensIn, OwnersIn}
+use Rattle.front_offences.specs.Kinded.{KindedStmt, KindedBody}
 use Rattle.front_offences.proofs.Tokens.{kind-inside}
 use Rattle.base_ir.specs.Entries.{Entry}
 use Rattle.base_ir.specs.Arrays.{Row, rowIn, rowsFrom, rowsOf}
@@ -63,14 +63,16 @@ cons-head e = cc
 cons-tail : {X : Type 0} {x y : X} {xs ys : List X} → x ∷ xs ≡ y ∷ ys → xs ≡ ys
 cons-tail e = cc
 
-module _ (ts : List Token) (kinds places owners slots : List ℕ) (n : ℕ) (Δ : List Decl) (c : Option Token) (T : TokensIn ts kinds places n) (O : OwnersIn ts Δ owners n) (L : SlotsIn Δ (scopeFor Δ c) c slots) where
+module _ (ts : List Token) (kinds places owners slots : List ℕ) (n : ℕ) (Δ : List Decl) (c : Option Token) (T : TokensIn ts kinds places n)
+    (O : OwnersIn ts Δ owners n) (L : SlotsIn Δ (scopeFor Δ c) c slots) where
   owner : (i : ℕ) → tokenAt ts i .kind ≡ NAME → numberAt owners i ≡ position Δ (tokenAt ts i .value)
   owner i k =
       let l : i < n = kind-inside T i NAME k (omega arith) in
       let s = T .short in
       rw (lt-ltb i 16384 (omega arith)) (O .owner i l k)
 
-  target-is : (i k : ℕ) (x : Token) → tokenAt ts i ≡ x → (k ≡ 1 → Aimed Δ (λ (d : Decl). isOutput (d .mode)) x) → (k ≡ 2 → Aimed Δ (λ (d : Decl). isVariable (d .mode)) x)
+  target-is : (i k : ℕ) (x : Token) → tokenAt ts i ≡ x → (k ≡ 1 → Aimed Δ (λ (d : Decl). isOutput (d .mode)) x)
+      → (k ≡ 2 → Aimed Δ (λ (d : Decl). isVariable (d .mode)) x)
       → targetAt owners slots k i ≡ targetOf (scopeFor Δ c) k (x .value)
   unfolding targetOf
   target-is i k x e f g = go (eqb k 1) refl (eqb k 2) refl
@@ -79,7 +81,8 @@ module _ (ts : List Token) (kinds places owners slots : List ℕ) (n : ℕ) (Δ 
       held h = owner i (ap (λ (y : Token). y .kind) e ∙ h) ∙ ap (λ (y : Token). position Δ (y .value)) e
 
       go : (a : Bool) → eqb k 1 ≡ a → (b : Bool) → eqb k 2 ≡ b
-          → choose a (slotAt slots (numberAt owners i)) (choose b (slotAt slots (numberAt owners i)) 0) ≡ choose a (position (scopeFor Δ c .outputs) (x .value)) (choose b (position (scopeFor Δ c .variables) (x .value)) 0)
+          → choose a (slotAt slots (numberAt owners i)) (choose b (slotAt slots (numberAt owners i)) 0) ≡ choose a (position (scopeFor Δ c .outputs) (x .value))
+          (choose b (position (scopeFor Δ c .variables) (x .value)) 0)
       go true p b q = let m = f (eqb-true k 1 p) in rw (held (m .named)) (L .output (x .value) (m .decl) (m .found) (m .fits))
       go false p true q = let m = g (eqb-true k 2 q) in rw (held (m .named)) (L .variable (x .value) (m .decl) (m .found) (m .fits))
       go false p false q = refl
@@ -135,8 +138,11 @@ module _ (Δ : List Decl) where
         (none-aimed _ _ _ _ _ (λ q. omega arith) (λ q. omega arith), body-targets a (k .2) (v .1))
     stmt-targets (T.if-else i e a b) k u =
         let v = both-nil (namesOf Δ (T.if-else i e a b)) (each (namesOf Δ) (statements a ++ statements b)) u in
-        let w = each-nil (namesOf Δ) (statements a) (statements b) (v .1) in
-        (none-aimed _ _ _ _ _ (λ q. omega arith) (λ q. omega arith), each-join (Targets Δ) (bodyEntries a) (bodyEntries b) (body-targets a (k .2) (w .0)) (body-targets b (k .3) (w .1)))
+        let w = each-nil (namesOf Δ) (statements a) (statements b) (v .1) in (
+          none-aimed _ _ _ _ _ (λ q. omega arith) (λ q. omega arith),
+          each-join (Targets Δ) (bodyEntries a) (bodyEntries b) (body-targets a (k .2) (w .0))
+              (body-targets b (k .3) (w .1)),
+        )
     stmt-targets (T.while w e a) k u =
         let v = both-nil (namesOf Δ (T.while w e a)) (each (namesOf Δ) (statements a)) u in
         (none-aimed _ _ _ _ _ (λ q. omega arith) (λ q. omega arith), body-targets a (k .2) (v .1))

@@ -18,11 +18,11 @@ use Rattle.spec_language.proofs.Facts.{both-nil, each-nil, unless-nil, not-true
 use Rattle.spec_language.proofs.Expressions.{Unread}
 use Rattle.base_codes.specs.Operation.{SIGN, NOT, operationOf}
 use Rattle.base_codes.proofs.OperationLaws.{operation-none}
-use Rattle.front_expressions.specs.Postfix.{Item, itemOf, postfix}
-use Rattle.front_expressions.proofs.Folds.{Steps, postfix-whole}
-use Rattle.front_statements.specs.Entries.{Entry, stmtEntries, bodyEntries, entryItems}
-use Rattle.front_statements.proofs.Lines.{entry-items-append}
-use Rattle.front_syntax.specs.Kinded.{KindedExpr, KindedStmt, KindedBody}
+use Rattle.front_layout.specs.Postfix.{Item, itemOf, postfix}
+use Rattle.front_layout.proofs.Folds.{Steps, postfix-whole}
+use Rattle.front_layout.specs.Entries.{Entry, stmtEntries, bodyEntries, entryItems}
+use Rattle.front_layout.proofs.Lines.{entry-items-append}
+use Rattle.front_offences.specs.Kinded.{KindedExpr, KindedStmt, KindedBody}
 use Rattle.front_elaborator.specs.Sources.{Fine}
 
 abbrev pub UnreadAll : Option Token → List T.Stmt → Type 0
@@ -62,7 +62,8 @@ unread-append none a b h = (tt, tt)
 unread-append (some w) a b h = each-nil (readsOf (w .value)) a b h
 
 -- a statement with the expression e, and those behind it
-unread-own : (c : Option Token) (s : T.Stmt) (e : T.Expr) (l : List T.Stmt) → ((w : ℕ) → readsOf w s ≡ readsIn w e) → UnreadAll c (s ∷ l) → Unread c e × UnreadAll c l
+unread-own : (c : Option Token) (s : T.Stmt) (e : T.Expr) (l : List T.Stmt) → ((w : ℕ) → readsOf w s ≡ readsIn w e) → UnreadAll c (s ∷ l)
+    → Unread c e × UnreadAll c l
 unfolding each
 unread-own none s e l q h = (tt, tt)
 unread-own (some w) s e l q h = let r = both-nil (readsOf (w .value) s) (each (readsOf (w .value)) l) h in (sym (q (w .value)) ∙ r .0, r .1)
@@ -91,16 +92,38 @@ module _ (c : Option Token) where
       }
 
   number-fine : (x : Token) → KindedExpr (T.number x) → x .value ≤ 2147483647 → Fine c (itemOf 2 x)
-  number-fine x k s = record { name = λ e. absurd (omega arith); unclocked = λ e. absurd (omega arith); number = λ e. k; small = λ e. s; bit = λ e. absurd (omega arith) }
+  number-fine x k s = record {
+    name = λ e. absurd (omega arith);
+    unclocked = λ e. absurd (omega arith);
+    number = λ e. k;
+    small = λ e. s;
+    bit = λ e. absurd
+        (omega arith);
+  }
 
   bit-fine : (x : Token) → KindedExpr (T.bit x) → Fine c (itemOf 3 x)
-  bit-fine x k = record { name = λ e. absurd (omega arith); unclocked = λ e. absurd (omega arith); number = λ e. absurd (omega arith); small = λ e. absurd (omega arith); bit = λ e. k }
+  bit-fine x k = record {
+    name = λ e. absurd (omega arith);
+    unclocked = λ e. absurd (omega arith);
+    number = λ e. absurd (omega arith);
+    small = λ e. absurd
+        (omega arith);
+    bit = λ e. k;
+  }
 
   name-fine : (x : Token) → KindedExpr (T.name x) → Unread c (T.name x) → Fine c (itemOf 1 x)
   name-fine x k u =
-      record { name = λ e. k; unclocked = λ e. unread-name c x u; number = λ e. absurd (omega arith); small = λ e. absurd (omega arith); bit = λ e. absurd (omega arith) }
+      record {
+        name = λ e. k;
+        unclocked = λ e. unread-name c x u;
+        number = λ e. absurd (omega arith);
+        small = λ e. absurd (omega arith);
+        bit = λ e. absurd
+            (omega arith);
+      }
 
-  fine-steps : Steps (λ (e : T.Expr) (w : Unit {0}). KindedExpr e × Unread c e × Small (exprNumbers e)) (λ (e : T.Expr) (w : Unit {0}). w) (λ (k : List Item) (w : Unit {0}). Each (Fine c) k)
+  fine-steps : Steps (λ (e : T.Expr) (w : Unit {0}). KindedExpr e × Unread c e × Small (exprNumbers e)) (λ (e : T.Expr) (w : Unit {0}). w)
+      (λ (k : List Item) (w : Unit {0}). Each (Fine c) k)
   unfolding exprNumbers
   fine-steps =
       record {
@@ -111,8 +134,12 @@ module _ (c : Option Token) where
         negate = λ x a w k f. ((f .0 .1, unread-not c x a (f .1), f .2), λ h. (operator-fine NOT x (λ c l m e. omega arith), h));
         binary = λ x a b w k f.
             let v = unread-two c x a b (f .1) in
-            let q = each-split (λ (x : Token). x .value ≤ 2147483647) (exprNumbers a) (exprNumbers b) (f .2) in
-            ((f .0 .1, v .0, q .0), (f .0 .2, v .1, q .1), λ h. (operator-fine (operationOf (x .kind)) x (λ c l m e. operation-none (x .kind) c l (omega arith) e), h));
+            let q = each-split (λ (x : Token). x .value ≤ 2147483647) (exprNumbers a) (exprNumbers b) (f .2) in (
+              (f .0 .1, v .0, q .0),
+              (f .0 .2, v .1, q .1),
+              λ h.
+                  (operator-fine (operationOf (x .kind)) x (λ c l m e. operation-none (x .kind) c l (omega arith) e), h),
+            );
         parens = λ a w k f. ((f .0, unread-parens c a (f .1), f .2), λ h. h);
       }
 
@@ -123,7 +150,8 @@ module _ (c : Option Token) where
   items-two a b h k = rw (entry-items-append a b) (each-join (Fine c) (entryItems a) (entryItems b) h k)
 
   -- a statement's own expression, and what holds of the statements inside it
-  parts : (r : T.Stmt) (e : T.Expr) (l : List T.Stmt) (m : List T.Expr) → ((w : ℕ) → readsOf w r ≡ readsIn w e) → KindedExpr e → UnreadAll c (r ∷ l) → Small (exprsNumbers (e ∷ m))
+  parts : (r : T.Stmt) (e : T.Expr) (l : List T.Stmt) (m : List T.Expr) → ((w : ℕ) → readsOf w r ≡ readsIn w e) → KindedExpr e → UnreadAll c (r ∷ l)
+      → Small (exprsNumbers (e ∷ m))
       → Each (Fine c) (postfix e) × (UnreadAll c l × Small (exprsNumbers m))
   parts r e l m f k u s = let v = unread-own c r e l f u in let q = exprs-first e m s in (expr-fine e k (v .0) (q .0), (v .1, q .1))
 

@@ -5,7 +5,7 @@ use mathlib.Core.List.{List, [], _∷_, _++_, map, map-append, append-assoc, app
 use Prim.Native.Nat.{ℕ, suc, _+_}
 use native.Mathlib.Omega.{arith}
 use lib.ListN.{length, length-append}
-use lib.IntN.{ℤ, pos}
+use lib.IntN.{ℤ}
 use Rattle.spec_grammar.specs.Token.{Token}
 use Rattle.spec_grammar.specs.Tree as T
 use Rattle.spec_grammar.specs.Tree.{Body, Mode}
@@ -14,11 +14,11 @@ use Rattle.spec_design.specs.Statement.{Stmt, size}
 use Rattle.spec_language.specs.Declarations.{Decl, Scope, find}
 use Rattle.spec_language.specs.Elaboration.{nameCode, named, orPlus, code, stmt, stmts}
 use Rattle.base_codes.proofs.OperationLaws.{operation-apart}
-use Rattle.front_expressions.specs.Postfix.{Item, itemOf, binaryItem, postfix}
-use Rattle.front_expressions.proofs.Folds.{Steps, postfix-whole}
-use Rattle.front_statements.specs.Entries.{stmtEntries, bodyEntries}
-use Rattle.front_syntax.specs.Kinded.{OperatorKind, IsOperator, KindedExpr, KindedStmt, KindedBody}
-use Rattle.front_syntax.proofs.Operators.{each-operator}
+use Rattle.front_layout.specs.Postfix.{Item, itemOf, binaryItem, postfix}
+use Rattle.front_layout.proofs.Folds.{Steps, postfix-whole}
+use Rattle.front_layout.specs.Entries.{stmtEntries, bodyEntries}
+use Rattle.front_offences.specs.Kinded.{OperatorKind, IsOperator, KindedExpr, KindedStmt, KindedBody}
+use Rattle.front_offences.proofs.Operators.{each-operator}
 use Rattle.base_ir.specs.Operations.{Op, op, ops, withType, bareOp}
 use Rattle.base_ir.proofs.Bare.{binary-with}
 use Rattle.base_codes.specs.Operation.{SIGN, NOT, binaryCode, operatorOf, codeOr, operationOf, countOr, operandsOf}
@@ -28,7 +28,8 @@ use Rattle.front_elaborator.specs.Elaborated.{modeOp, foundOp, opOf, tar
 -- the fifteen operators, by their kinds
 operator-code : (k : ℕ) → OperatorKind k → binaryCode (orPlus (operatorOf k)) ≡ operationOf k
 unfolding operatorOf orPlus codeOr operationOf
-operator-code = each-operator (λ (k : ℕ). binaryCode (orPlus (operatorOf k)) ≡ operationOf k) refl refl refl refl refl refl refl refl refl refl refl refl refl refl refl
+operator-code = each-operator (λ (k : ℕ). binaryCode (orPlus (operatorOf k)) ≡ operationOf k) refl refl refl refl refl refl refl refl refl refl refl refl refl
+    refl refl
 
 -- EXPRESSIONS
 
@@ -47,11 +48,18 @@ named-op Γ v (some d) = go (d .mode)
     go T.variable-mode = refl
 
 -- an operator's item
-binary-op : (Δ : List Decl) (Γ : Scope) (x : Token) (z : ℤ) → IsOperator x → bareOp (op (binaryCode (orPlus (operatorOf (x .kind)))) z) ≡ opOf Δ Γ (binaryItem x)
+binary-op : (Δ : List Decl) (Γ : Scope) (x : Token) (z : ℤ) → IsOperator x
+    → bareOp (op (binaryCode (orPlus (operatorOf (x .kind)))) z) ≡ opOf Δ Γ (binaryItem x)
 unfolding opOf
 binary-op Δ Γ x z h =
     binary-with 0 (orPlus (operatorOf (x .kind))) z
-    ∙ rw (operator-code (x .kind) h, operation-apart (x .kind) 1 (omega arith) (omega arith), operation-apart (x .kind) 2 (omega arith) (omega arith), operation-apart (x .kind) 3 (omega arith) (omega arith))
+    ∙ rw (
+      operator-code (x .kind) h,
+      operation-apart (x .kind) 1 (omega arith) (omega arith),
+      operation-apart (x .kind) 2 (omega arith)
+          (omega arith),
+      operation-apart (x .kind) 3 (omega arith) (omega arith),
+    )
 
 -- one operation more behind an operand, and behind two
 behind : (w a : List Op) (o o′ : Op) (k : List Op) → bareOp o ≡ o′ → (w ++ map bareOp a) ++ (o′ ∷ k) ≡ (w ++ map bareOp (a ++ (o ∷ []))) ++ k
@@ -59,21 +67,25 @@ behind w a o o′ k e =
     sym (append-assoc (w ++ map bareOp a) (o′ ∷ []) k)
     ∙ ap (λ (l : List Op). l ++ k) (append-assoc w (map bareOp a) (o′ ∷ []) ∙ ap (λ (l : List Op). w ++ l) (rw (sym e) (sym (map-append bareOp a (o ∷ [])))))
 
-behind-two : (w a b : List Op) (o o′ : Op) (k : List Op) → bareOp o ≡ o′ → ((w ++ map bareOp a) ++ map bareOp b) ++ (o′ ∷ k) ≡ (w ++ map bareOp (a ++ (b ++ (o ∷ [])))) ++ k
+behind-two : (w a b : List Op) (o o′ : Op) (k : List Op) → bareOp o ≡ o′
+    → ((w ++ map bareOp a) ++ map bareOp b) ++ (o′ ∷ k) ≡ (w ++ map bareOp (a ++ (b ++ (o ∷ [])))) ++ k
 behind-two w a b o o′ k e =
     behind (w ++ map bareOp a) b o o′ k e
-    ∙ ap (λ (l : List Op). l ++ k) (append-assoc w (map bareOp a) (map bareOp (b ++ (o ∷ []))) ∙ ap (λ (l : List Op). w ++ l) (sym (map-append bareOp a (b ++ (o ∷ [])))))
+    ∙ ap (λ (l : List Op). l ++ k) (append-assoc w (map bareOp a) (map bareOp (b ++ (o ∷ [])))
+    ∙ ap (λ (l : List Op). w ++ l) (sym (map-append bareOp a (b ++ (o ∷ [])))))
 
 -- the operations made so far, those of an expression, and those of the items behind it
 mapped-steps : (Δ : List Decl) (Γ : Scope) (q : List Op)
-    → Steps (λ (e : T.Expr) (w : List Op). KindedExpr e) (λ (e : T.Expr) (w : List Op). w ++ bare (code Δ Γ e)) (λ (k : List Item) (w : List Op). w ++ map (opOf Δ Γ) k ≡ q)
+    → Steps (λ (e : T.Expr) (w : List Op). KindedExpr e) (λ (e : T.Expr) (w : List Op). w ++ bare (code Δ Γ e))
+    (λ (k : List Item) (w : List Op). w ++ map (opOf Δ Γ) k ≡ q)
 unfolding ops code opOf withType operandsOf countOr
 mapped-steps Δ Γ q =
     record {
       number = λ x w k f c. sym (append-assoc w (opOf Δ Γ (itemOf 2 x) ∷ []) (map (opOf Δ Γ) k)) ∙ c;
       bit = λ x w k f c. sym (append-assoc w (opOf Δ Γ (itemOf 3 x) ∷ []) (map (opOf Δ Γ) k)) ∙ c;
       name = λ x w k f c.
-          sym (append-assoc w (opOf Δ Γ (itemOf 1 x) ∷ []) (map (opOf Δ Γ) k)) ∙ (ap (λ (l : List Op). (w ++ l) ++ map (opOf Δ Γ) k) (sym (named-op Γ (x .value) (find Δ (x .value)))) ∙ c);
+          sym (append-assoc w (opOf Δ Γ (itemOf 1 x) ∷ []) (map (opOf Δ Γ) k))
+          ∙ (ap (λ (l : List Op). (w ++ l) ++ map (opOf Δ Γ) k) (sym (named-op Γ (x .value) (find Δ (x .value)))) ∙ c);
       sign = λ x a w k f. (f .1, λ c. behind w (ops (code Δ Γ a)) _ (opOf Δ Γ (itemOf SIGN x)) (map (opOf Δ Γ) k) refl ∙ c);
       negate = λ x a w k f. (f .1, λ c. behind w (ops (code Δ Γ a)) _ (opOf Δ Γ (itemOf NOT x)) (map (opOf Δ Γ) k) refl ∙ c);
       binary = λ x a b w k f. (
@@ -116,14 +128,29 @@ mutual
   entries-stmt Δ Γ (T.wait x) h = refl
   entries-stmt Δ Γ (T.if-then i e a) h = rw (ops-mapped Δ Γ e (h .1), size-body Δ Γ a, entries-body Δ Γ a (h .2))
   entries-stmt Δ Γ (T.if-else i e a b) h =
-      rw (ops-mapped Δ Γ e (h .1), size-body Δ Γ a, size-body Δ Γ b, map-append bareEntry (entries (stmts Δ Γ a)) (entries (stmts Δ Γ b)), entries-body Δ Γ a (h .2), entries-body Δ Γ b (h .3), map-append (entryOf Δ Γ) (bodyEntries a) (bodyEntries b))
+      rw (
+        ops-mapped Δ Γ e (h .1),
+        size-body Δ Γ a,
+        size-body Δ Γ b,
+        map-append bareEntry (entries (stmts Δ Γ a)) (entries (stmts Δ Γ b)),
+        entries-body Δ Γ a
+            (h .2),
+        entries-body Δ Γ b (h .3),
+        map-append (entryOf Δ Γ) (bodyEntries a) (bodyEntries b),
+      )
   entries-stmt Δ Γ (T.while w e a) h = rw (ops-mapped Δ Γ e (h .1), size-body Δ Γ a, entries-body Δ Γ a (h .2))
 
   -- the entries of a body become those of its design, but for the types of operands
   pub entries-body : (Δ : List Decl) (Γ : Scope) (b : Body) → KindedBody b → map bareEntry (entries (stmts Δ Γ b)) ≡ map (entryOf Δ Γ) (bodyEntries b)
   entries-body Δ Γ (T.only s) h = entries-stmt Δ Γ s h
   entries-body Δ Γ (T.andThen s b) h =
-      rw (map-append bareEntry (entries (stmt Δ Γ s)) (entries (stmts Δ Γ b)), entries-stmt Δ Γ s (h .0), entries-body Δ Γ b (h .1), map-append (entryOf Δ Γ) (stmtEntries s) (bodyEntries b))
+      rw (
+        map-append bareEntry (entries (stmt Δ Γ s)) (entries (stmts Δ Γ b)),
+        entries-stmt Δ Γ s (h .0),
+        entries-body Δ Γ b (h .1),
+        map-append (entryOf Δ Γ)
+            (stmtEntries s) (bodyEntries b),
+      )
 
 mutual
   unfolding stmt

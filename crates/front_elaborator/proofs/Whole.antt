@@ -16,14 +16,14 @@ use Rattle.spec_language.specs.Names.{names, namesOf, differs, doubled}
 use Rattle.spec_language.specs.Clock.{clock, clockFor, readsOf, strays}
 use Rattle.spec_language.specs.Elaboration.{processFor, elaborate}
 use Rattle.spec_language.proofs.Facts.{both-nil, unless-nil}
-use Rattle.front_statements.specs.Entries.{bodyEntries, entryItems}
-use Rattle.front_statements.specs.Entries as S
-use Rattle.front_statements.specs.Rows.{Row, storeRows}
-use Rattle.front_syntax.specs.Arrays.{TokensIn, OwnersIn, ItemsIn}
-use Rattle.front_syntax.specs.Arrays as A
-use Rattle.front_syntax.specs.Headings.{headings, DeclsIn}
-use Rattle.front_syntax.specs.Kinded.{KindedBody}
-use Rattle.front_syntax.proofs.Stored.{rows-read}
+use Rattle.front_layout.specs.Entries.{bodyEntries, entryItems}
+use Rattle.front_layout.specs.Entries as S
+use Rattle.front_layout.specs.Rows.{Row, storeRows}
+use Rattle.front_layout.specs.Arrays.{TokensIn, OwnersIn, ItemsIn}
+use Rattle.front_layout.specs.Arrays as A
+use Rattle.front_layout.specs.Headings.{headings, DeclsIn}
+use Rattle.front_offences.specs.Kinded.{KindedBody}
+use Rattle.front_layout.proofs.Stored.{rows-read}
 use Rattle.base_ir.specs.Operations.{Op, bareOp}
 use Rattle.base_ir.specs.Entries.{entries, entryOps, bareEntry}
 use Rattle.base_ir.specs.Arrays.{opsFrom, rowsFrom, rowsOf, RowsIn, BareIn}
@@ -49,14 +49,17 @@ sets-before : {X : Type 0} (l : List X) (j : ℕ) (xs : List X) (i : ℕ) (d : X
 sets-before l j [] i d h = refl
 sets-before l j (x ∷ xs) i d h = sets-before (set l j x) (suc j) xs i d (omega arith) ∙ getD-set-other l j i x d (λ q. omega arith)
 
-ops-read : (os : List Op) (l : List ℕ) (a : List ℤ) (j : ℕ) → j + length os ≤ length l → j + length os ≤ length a → opsFrom (sets l j (codesOf os)) (sets a j (argsOf os)) j (length os) ≡ os
+ops-read : (os : List Op) (l : List ℕ) (a : List ℤ) (j : ℕ) → j + length os ≤ length l → j + length os ≤ length a
+    → opsFrom (sets l j (codesOf os)) (sets a j (argsOf os)) j (length os) ≡ os
 unfolding opsFrom
 ops-read [] l a j h k = refl
 ops-read (o ∷ os) l a j h k =
     let m = length-set l j (o .code) in
     let n = length-set a j (o .arg) in
-    let c : getD (sets (set l j (o .code)) (suc j) (codesOf os)) j 0 ≡ o .code = sets-before (set l j (o .code)) (suc j) (codesOf os) j 0 (omega arith) ∙ getD-set-same l j (o .code) 0 (omega arith) in
-    let g : getD (sets (set a j (o .arg)) (suc j) (argsOf os)) j (pos 0) ≡ o .arg = sets-before (set a j (o .arg)) (suc j) (argsOf os) j (pos 0) (omega arith) ∙ getD-set-same a j (o .arg) (pos 0) (omega arith) in
+    let c : getD (sets (set l j (o .code)) (suc j) (codesOf os)) j 0 ≡ o .code = sets-before (set l j (o .code)) (suc j) (codesOf os) j 0 (omega arith)
+    ∙ getD-set-same l j (o .code) 0 (omega arith) in
+    let g : getD (sets (set a j (o .arg)) (suc j) (argsOf os)) j (pos 0) ≡ o .arg = sets-before (set a j (o .arg)) (suc j) (argsOf os) j (pos 0) (omega arith)
+    ∙ getD-set-same a j (o .arg) (pos 0) (omega arith) in
     let y : j + 1 ≡ suc j = omega arith in
     rw (c, g, y, ops-read os (set l j (o .code)) (set a j (o .arg)) (suc j) (omega arith) (omega arith))
 
@@ -105,18 +108,22 @@ named t h =
 module _ (text : List ℕ) (ts : List Token) (t : Text) (kinds starts sizes owners decls slots codes indices rows : List ℕ) (n d k s : ℕ)
     (T : TokensIn ts kinds starts n) (Z : WordsIn text ts sizes n) (O : OwnersIn ts (declared t) owners n) (D : DeclsIn ts (headings t) decls d)
     (L : SlotsIn (declared t) (scopeOf t) (clockOf t) slots) (I : ItemsIn ts (entryItems (bodyEntries (t .body))) codes indices k)
-    (R : A.RowsIn ts (bodyEntries (t .body)) rows s) (K : KindedBody (t .body)) (small : Small (exprsNumbers (bodyExprs (t .body)))) (five : names t ≡ []) (eight : clock t ≡ []) where
+    (R : A.RowsIn ts (bodyEntries (t .body)) rows s) (K : KindedBody (t .body)) (small : Small (exprsNumbers (bodyExprs (t .body)))) (five : names t ≡ [])
+    (eight : clock t ≡ []) where
   -- the design's statements
   bare-body : map bareEntry (entries (elaborate t .body)) ≡ map (entryOf (declared t) (scopeFor (declared t) (clockOf t))) (bodyEntries (t .body))
   unfolding scopeOf elaborate processFor
   bare-body = entries-body (declared t) (scopeFor (declared t) (clockOf t)) (t .body) K
 
   -- its operations are those of the items
-  bare-items : map bareOp (entryOps (entries (elaborate t .body))) ≡ map (opOf (declared t) (scopeFor (declared t) (clockOf t))) (entryItems (bodyEntries (t .body)))
-  bare-items = sym (bare-ops (entries (elaborate t .body))) ∙ (ap entryOps bare-body ∙ entry-ops-map (declared t) (scopeFor (declared t) (clockOf t)) (bodyEntries (t .body)))
+  bare-items : map bareOp (entryOps (entries (elaborate t .body))) ≡ map (opOf (declared t) (scopeFor (declared t) (clockOf t)))
+      (entryItems (bodyEntries (t .body)))
+  bare-items = sym (bare-ops (entries (elaborate t .body)))
+      ∙ (ap entryOps bare-body ∙ entry-ops-map (declared t) (scopeFor (declared t) (clockOf t)) (bodyEntries (t .body)))
 
   -- the operations that the items become
-  ops-design : opsAt (codeAt owners decls d) (argAt text starts sizes kinds owners decls d slots) codes indices 0 k ≡ map bareOp (entryOps (entries (elaborate t .body)))
+  ops-design : opsAt (codeAt owners decls d) (argAt text starts sizes kinds owners decls d slots) codes indices 0 k ≡ map bareOp
+      (entryOps (entries (elaborate t .body)))
   unfolding scopeOf
   ops-design =
       ops-are text ts kinds starts sizes owners decls slots n d t (clockOf t) T Z O D L codes indices 0 k (entryItems (bodyEntries (t .body))) (I .are)
@@ -127,7 +134,8 @@ module _ (text : List ℕ) (ts : List Token) (t : Text) (kinds starts sizes owne
   rows-design : map irRow (rowsAt owners slots rows 0 s) ≡ rowsOf 0 0 (entries (elaborate t .body))
   unfolding scopeOf
   rows-design =
-      rows-are ts kinds starts owners slots n (declared t) (clockOf t) T O L rows 0 0 s (bodyEntries (t .body)) (R .are) (body-targets (declared t) (t .body) K (named t five))
+      rows-are ts kinds starts owners slots n (declared t) (clockOf t) T O L rows 0 0 s (bodyEntries (t .body)) (R .are)
+      (body-targets (declared t) (t .body) K (named t five))
       ∙ (ap (rowsOf 0 0) (sym bare-body) ∙ bare-rows 0 0 (entries (elaborate t .body)))
 
   items-count : length (map bareOp (entryOps (entries (elaborate t .body)))) ≡ k
@@ -153,8 +161,19 @@ module _ (text : List ℕ) (ts : List Token) (t : Text) (kinds starts sizes owne
       let c = items-count in
       record {
         block = block (declared t) (scopeOf t) (t .body);
-        code = record { count = c; short = ks; are = held c (e .ops ∙ ap (λ (l : List Op). sets ops₀ 0 (codesOf l)) od) (e .args ∙ ap (λ (l : List Op). sets args₀ 0 (argsOf l)) od) (ops-read os ops₀ args₀ 0 (omega arith) (omega arith)) };
-        lines = record { count = rows-count; short = ss; are = same-rows out₁ 0 s ∙ (ap (map irRow) (rows-back (rowsAt owners slots rows 0 s) out₀ out₁ s (rows-at-length owners slots rows 0 s) (omega arith) (r ∙ ap (λ (q : ℕ). storeRows 0 (rowsAt owners slots rows 0 q) out₀) sm)) ∙ rows-design) };
+        code = record {
+          count = c;
+          short = ks;
+          are = held c (e .ops ∙ ap (λ (l : List Op). sets ops₀ 0 (codesOf l)) od)
+              (e .args ∙ ap (λ (l : List Op). sets args₀ 0 (argsOf l)) od) (ops-read os ops₀ args₀ 0 (omega arith) (omega arith));
+        };
+        lines = record {
+          count = rows-count;
+          short = ss;
+          are = same-rows out₁ 0 s
+              ∙ (ap (map irRow) (rows-back (rowsAt owners slots rows 0 s) out₀ out₁ s (rows-at-length owners slots rows 0 s) (omega arith)
+              (r ∙ ap (λ (q : ℕ). storeRows 0 (rowsAt owners slots rows 0 q) out₀) sm)) ∙ rows-design);
+        };
       }
     where
       held : {os : List Op} {q : ℕ} {x x′ : List ℕ} {y y′ : List ℤ} → length os ≡ q → x ≡ x′ → y ≡ y′ → opsFrom x′ y′ 0 (length os) ≡ os → opsFrom x y 0 q ≡ os

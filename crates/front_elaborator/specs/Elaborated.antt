@@ -1,10 +1,9 @@
 -- What an item, a statement's entry and a declared name become in the design: by the declarations and by what names stand for. Assumes nothing.
-use mathlib.Core.Bool.{Bool, true, false}
 use mathlib.Core.Option.{Option, none, some}
 use mathlib.Core.List.{List, map}
 use Prim.Native.Nat.{ℕ}
 use lib.Dec.{eqb}
-use lib.IntN.{ℤ, pos}
+use lib.IntN.{pos}
 use Rattle.base_codes.specs.Item.{NAME, NUMBER, BIT}
 use Rattle.base_codes.specs.Operation.{INTEGER, STD-LOGIC, INPUT, VARIABLE}
 use Rattle.base_codes.specs.Statement as K
@@ -12,8 +11,8 @@ use Rattle.spec_grammar.specs.Tree.{Mode, input, output-port, variable-mode}
 use Rattle.spec_grammar.specs.Reader.{choose}
 use Rattle.spec_language.specs.Declarations.{Decl, Scope, find}
 use Rattle.spec_language.specs.Elaboration.{position}
-use Rattle.front_expressions.specs.Postfix.{Item}
-use Rattle.front_statements.specs.Entries as S
+use Rattle.front_layout.specs.Postfix.{Item}
+use Rattle.front_layout.specs.Entries as S
 use Rattle.base_ir.specs.Operations.{Op, op, bitArg}
 use Rattle.base_ir.specs.Entries.{Entry, entry}
 

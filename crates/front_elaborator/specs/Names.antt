@@ -6,7 +6,7 @@ use mathlib.Core.Option.{Option}
 use mathlib.Core.List.{List, [], _∷_}
 use Prim.Native.Nat.{ℕ, zero, suc, _+_, min}
 use lib.Dec.{eqb}
-use lib.ListN.{length, take}
+use lib.ListN.{length, take, replicate}
 use lib.Seq.{sets}
 use lib.IntN.{ℤ, pos}
 use Rattle.spec_design.specs.Types.{std-logic, integer, typeByte}
@@ -17,7 +17,8 @@ use Rattle.spec_grammar.specs.Tree.{Mode, input, output-port, variable-mode}
 use Rattle.spec_grammar.specs.Reader.{choose}
 use Rattle.spec_language.specs.Declarations.{Decl, isOutput, isVariable, isClock, isData}
 use Rattle.spec_language.specs.Elaboration.{minus}
-use Rattle.front_elaborator.specs.Positions.{fieldAt, literalAt, bitAt}
+use Rattle.base_ir.specs.declared.Names.{Names}
+use Rattle.front_elaborator.specs.Positions.{numberAt, fieldAt, literalAt, bitAt}
 
 -- declaration k is of the mode m; "the data inputs (all but the clock)"
 unfoldable pub ofMode : List ℕ → ℕ → ℕ → ℕ → Bool
@@ -62,12 +63,37 @@ typesOf decls d clock m = picked (ofMode decls clock m) (typeAt decls) 0 (min d 
 -- a declaration's initial value, by its kind: a number, '0' or '1', a number after -; 0 where there is none
 unfoldable pub initialAt : List ℕ → List ℕ → List ℕ → List ℕ → List ℕ → ℕ → ℤ
 initialAt text starts sizes kinds decls k =
-    choose (eqb (fieldAt decls k D.INIT) D.NUMBER) (pos (literalAt text starts sizes (fieldAt decls k D.VALUE))) (choose (eqb (fieldAt decls k D.INIT) D.BIT) (pos (bitAt kinds (fieldAt decls k D.VALUE)))
+    choose (eqb (fieldAt decls k D.INIT) D.NUMBER) (pos (literalAt text starts sizes (fieldAt decls k D.VALUE)))
+    (choose (eqb (fieldAt decls k D.INIT) D.BIT) (pos (bitAt kinds (fieldAt decls k D.VALUE)))
     (choose (eqb (fieldAt decls k D.INIT) D.NEGATIVE) (minus (literalAt text starts sizes (fieldAt decls k D.VALUE + 1))) (pos 0)))
 
--- the initial values of the outputs or the variables, by their mode; none of them is the clock: the number in its place is no declaration's
-unfoldable pub valuesOf : List ℕ → List ℕ → List ℕ → List ℕ → List ℕ → ℕ → ℕ → List ℤ
-valuesOf text starts sizes kinds decls d m = picked (ofMode decls NAMES m) (initialAt text starts sizes kinds decls) 0 (min d NAMES)
+-- the initial values of the declarations of a mode; those of inputs are of no use to a design
+unfoldable pub valuesOf : List ℕ → List ℕ → List ℕ → List ℕ → List ℕ → ℕ → ℕ → ℕ → List ℤ
+valuesOf text starts sizes kinds decls d clock m = picked (ofMode decls clock m) (initialAt text starts sizes kinds decls) 0 (min d NAMES)
+
+-- the start or the size of a declared name in the text: the number of its token, the first number of its row
+abbrev pub placeAt : List ℕ → List ℕ → ℕ → ℕ
+placeAt tokens decls k = numberAt tokens (fieldAt decls k 0)
+
+-- those of the declarations of a mode
+unfoldable pub placesOf : List ℕ → List ℕ → ℕ → ℕ → ℕ → List ℕ
+placesOf tokens decls d clock m = picked (ofMode decls clock m) (placeAt tokens decls) 0 (min d NAMES)
+
+-- an array of zeros that got these items first, as many as it has room for
+abbrev pub filledWith : {A : Type 0} → A → List A → List A
+filledWith z items = sets (replicate VARIABLES z) 0 (take VARIABLES items)
+
+-- the declared names of a mode: how many there are, and of each its type, its start and its size; ..
+pub record Heads (starts sizes decls : List ℕ) (d clock m : ℕ) (r : Names) : Type 0 where
+  pub count : r .count ≡ min (length (typesOf decls d clock m)) VARIABLES
+  pub type : r .types ≡ filledWith 0 (typesOf decls d clock m)
+  pub start : r .starts ≡ filledWith 0 (placesOf starts decls d clock m)
+  pub size : r .sizes ≡ filledWith 0 (placesOf sizes decls d clock m)
+
+-- .. and its initial value
+pub record Gathers (text starts sizes kinds decls : List ℕ) (d clock m : ℕ) (r : Names) : Type 0 where
+  pub heads : Heads starts sizes decls d clock m r
+  pub value : r .values ≡ filledWith (pos 0) (valuesOf text starts sizes kinds decls d clock m)
 
 -- What the laws ask. The names of a mode: "the data inputs (all but the clock)", the outputs, the variables
 abbrev pub inMode : Option Token → Mode → Decl → Bool

@@ -10,8 +10,8 @@ use Rattle.spec_grammar.specs.Token.{Token}
 use Rattle.base_codes.specs.Token.{NAME, NUMBER}
 use Rattle.spec_language.specs.Declarations.{Decl, Scope, find, isOutput, isVariable, isClock, isData}
 use Rattle.spec_language.specs.Elaboration.{position}
-use Rattle.front_expressions.specs.Postfix.{Item}
-use Rattle.front_syntax.specs.Kinded.{IsBit}
+use Rattle.front_layout.specs.Postfix.{Item}
+use Rattle.front_offences.specs.Kinded.{IsBit}
 use Rattle.front_elaborator.specs.Positions.{slotAt}
 
 -- the array holds, for each declaration, its index among the data inputs, the outputs or the variables; c is the clock's name

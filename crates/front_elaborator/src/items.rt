@@ -1,10 +1,12 @@
 // The operations of all expressions, from the items.
 ghost use mathlib.Core.Path.{_≡_};
-ghost use Prim.Native.Nat.{min};
+ghost use Prim.Native.Nat.{min, _<_};
+ghost use lib.ListN.{getD, set};
 ghost use lib.IntN.{pos};
 ghost use Rattle.base_codes.specs.Limit.{TEXT};
 ghost use Rattle.front_offences.specs.Positions.{modeIn};
-ghost use Rattle.front_elaborator.specs.Positions.{numberAt, slotAt, within, literalAt, nameCode, nameArg, bitAt, codeAt, argAt, Elaborates};
+ghost use Rattle.front_elaborator.specs.Positions.{slotAt, within, literalAt, nameCode, nameArg, bitAt, valueAt, Resolves, codeOf, argOf, Places};
+ghost use Rattle.spec_semantics.specs.Twos.{unsigned32};
 use crate::arrays;
 use base_codes::declaration;
 use base_codes::item;
@@ -27,18 +29,12 @@ fn name_code(mode: u16) -> u8
     operation::STD_LOGIC
 }
 
-// The code of an item's operation; an operator keeps its own.
-fn code_at(
-    owners: &[u8; limit::TEXT],
-    decls: &[u16; declaration::ROWS],
-    d: usize,
-    c: u8,
-    i: usize,
-) -> u8
-    ensures { λ r. ⌜ r ≡ codeAt (now (owners .entry)) (now (decls .entry)) d c i ⌝ }
+// The code of an item's operation, where q is the number of the declaration that a name stands for; an operator keeps its own.
+fn code_of(decls: &[u16; declaration::ROWS], d: usize, c: u8, q: usize) -> u8
+    ensures { λ r. ⌜ r ≡ codeOf (now (decls .entry)) d c q ⌝ }
 {
     match c {
-        item::NAME => name_code(mode_at(decls, d, arrays::byte_at(owners, i) as usize)),
+        item::NAME => name_code(mode_at(decls, d, q)),
         item::NUMBER => operation::INTEGER,
         item::BIT => operation::STD_LOGIC,
         _ => c,
@@ -60,17 +56,10 @@ fn literal_at(text: &[u8], starts: &[u16; limit::TEXT], sizes: &[u16; limit::TEX
     0
 }
 
-// The index of a name that is read.
-fn name_arg(
-    owners: &[u8; limit::TEXT],
-    decls: &[u16; declaration::ROWS],
-    d: usize,
-    slots: &[u8; limit::NAMES],
-    i: usize,
-) -> u32
-    ensures { λ r. ⌜ r ≡ nameArg (modeIn (now (decls .entry)) d (numberAt (now (owners .entry)) i)) (slotAt (now (slots .entry)) (numberAt (now (owners .entry)) i)) ⌝ }
+// The index of a name that is read, among those of its kind.
+fn name_arg(decls: &[u16; declaration::ROWS], d: usize, slots: &[u8; limit::NAMES], q: usize) -> u32
+    ensures { λ r. ⌜ r ≡ nameArg (modeIn (now (decls .entry)) d q) (slotAt (now (slots .entry)) q) ⌝ }
 {
-    let q = arrays::byte_at(owners, i) as usize;
     let code = name_code(mode_at(decls, d, q));
     if code == operation::STD_LOGIC {
         return 0;
@@ -88,23 +77,20 @@ fn bit_at(kinds: &[u8; limit::TEXT], i: usize) -> u32
     0
 }
 
-// The argument of an item's operation; the type of an operator's operands is told later, by crate operands.
-fn arg_at(
+// The value of an item: the number of the declaration that a name stands for, a literal's value; 0 for an operator.
+fn value_at(
     text: &[u8],
     starts: &[u16; limit::TEXT],
     sizes: &[u16; limit::TEXT],
     kinds: &[u8; limit::TEXT],
     owners: &[u8; limit::TEXT],
-    decls: &[u16; declaration::ROWS],
-    d: usize,
-    slots: &[u8; limit::NAMES],
     c: u8,
     i: usize,
 ) -> u32
-    ensures { λ r. ⌜ r ≡ argAt (now (text .entry)) (now (starts .entry)) (now (sizes .entry)) (now (kinds .entry)) (now (owners .entry)) (now (decls .entry)) d (now (slots .entry)) c i ⌝ }
+    ensures { λ r. ⌜ r ≡ valueAt (now (text .entry)) (now (starts .entry)) (now (sizes .entry)) (now (kinds .entry)) (now (owners .entry)) c i ⌝ }
 {
     match c {
-        item::NAME => name_arg(owners, decls, d, slots, i),
+        item::NAME => arrays::byte_at(owners, i) as u32,
         item::NUMBER => literal_at(text, starts, sizes, i),
         item::BIT => bit_at(kinds, i),
         _ => 0,
@@ -138,35 +124,89 @@ fn at_most(k: usize) -> usize
     limit::TEXT
 }
 
-// The operations of all items, in their order. Both numbers of an operation are found before either is stored: what a name stands for is then read once.
-pub fn operations(
+// The values of all items, in their order: behind this pass no token is asked for.
+pub fn resolve(
     text: &[u8],
     starts: &[u16; limit::TEXT],
     sizes: &[u16; limit::TEXT],
     kinds: &[u8; limit::TEXT],
     owners: &[u8; limit::TEXT],
-    decls: &[u16; declaration::ROWS],
-    d: usize,
-    slots: &[u8; limit::NAMES],
     codes: &[u8; limit::TEXT],
     indices: &[u16; limit::TEXT],
     k: usize,
-    ops: &mut [u8; limit::TEXT],
     args: &mut [i32; limit::TEXT],
 )
-    ensures { λ _. ⌜ Elaborates (codeAt (now (owners .entry)) (now (decls .entry)) d)
-        (argAt (now (text .entry)) (now (starts .entry)) (now (sizes .entry)) (now (kinds .entry)) (now (owners .entry)) (now (decls .entry)) d (now (slots .entry)))
-        (now (codes .entry)) (now (indices .entry)) k (now (ops .entry)) (now (ops .exit)) (now (args .entry)) (now (args .exit)) ⌝ }
+    ensures { λ _. ⌜ Resolves (valueAt (now (text .entry)) (now (starts .entry)) (now (sizes .entry)) (now (kinds .entry)) (now (owners .entry)))
+        (now (codes .entry)) (now (indices .entry)) k (now (args .entry)) (now (args .exit)) ⌝ }
 {
     let n = at_most(k);
     let mut j = 0;
     while j < n {
         let c = codes[j];
         let i = wide(indices[j]);
-        let op = code_at(owners, decls, d, c, i);
-        let arg = arg_at(text, starts, sizes, kinds, owners, decls, d, slots, c, i);
-        ops[j] = op;
-        args[j] = whole(arg);
+        args[j] = whole(value_at(text, starts, sizes, kinds, owners, c, i));
+        j += 1;
+    }
+}
+
+// The number of a declaration, as wide as indices are.
+fn number_of(a: i32) -> usize
+    ensures { λ r. ⌜ r ≡ unsigned32 a ⌝ }
+{
+    base_signed::to_bits(a) as usize
+}
+
+// The argument of an item's operation, from its value; the type of an operator's operands is told later, by the crate front_operands.
+fn arg_of(
+    decls: &[u16; declaration::ROWS],
+    d: usize,
+    slots: &[u8; limit::NAMES],
+    c: u8,
+    a: i32,
+) -> i32
+    ensures { λ r. ⌜ r ≡ argOf (now (decls .entry)) d (now (slots .entry)) c a ⌝ }
+{
+    if c == item::NAME {
+        return whole(name_arg(decls, d, slots, number_of(a)));
+    }
+    a
+}
+
+// Item j becomes its operation.
+fn put(
+    decls: &[u16; declaration::ROWS],
+    d: usize,
+    slots: &[u8; limit::NAMES],
+    j: usize,
+    ops: &mut [u8; limit::TEXT],
+    args: &mut [i32; limit::TEXT],
+)
+    requires { ⌜ j < TEXT ⌝ }
+    ensures { λ _. ⌜ now (ops .exit) ≡ set (now (ops .entry)) j (codeOf (now (decls .entry)) d (getD (now (ops .entry)) j 0) (unsigned32 (getD (now (args .entry)) j (pos 0)))) ⌝ }
+    ensures { λ _. ⌜ now (args .exit) ≡ set (now (args .entry)) j (argOf (now (decls .entry)) d (now (slots .entry)) (getD (now (ops .entry)) j 0) (getD (now (args .entry)) j (pos 0))) ⌝ }
+{
+    let c = ops[j];
+    let a = args[j];
+    let arg = arg_of(decls, d, slots, c, a);
+    ops[j] = code_of(decls, d, c, number_of(a));
+    args[j] = arg;
+}
+
+// All items, in place.
+pub fn place(
+    decls: &[u16; declaration::ROWS],
+    d: usize,
+    slots: &[u8; limit::NAMES],
+    k: usize,
+    ops: &mut [u8; limit::TEXT],
+    args: &mut [i32; limit::TEXT],
+)
+    ensures { λ _. ⌜ Places (λ c z. codeOf (now (decls .entry)) d c (unsigned32 z)) (argOf (now (decls .entry)) d (now (slots .entry))) k (now (ops .entry)) (now (ops .exit)) (now (args .entry)) (now (args .exit)) ⌝ }
+{
+    let n = at_most(k);
+    let mut j = 0;
+    while j < n {
+        put(decls, d, slots, j, ops, args);
         j += 1;
     }
 }

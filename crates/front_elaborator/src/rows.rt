@@ -2,7 +2,7 @@
 ghost use mathlib.Core.Path.{_≡_};
 ghost use Prim.Native.Nat.{min, _<_};
 ghost use Rattle.base_codes.specs.Limit.{STATEMENTS};
-ghost use Rattle.front_statements.specs.Rows.{setRow, storeRows};
+ghost use Rattle.front_layout.specs.Rows.{setRow, storeRows};
 ghost use Rattle.front_elaborator.specs.Positions.{targetAt, rowAt, rowsAt};
 use crate::arrays;
 use base_codes::limit;

@@ -1,4 +1,3 @@
-pub mod Folds
 pub mod Items
 pub mod Behind
 pub mod Picks

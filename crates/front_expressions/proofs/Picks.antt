@@ -1,16 +1,15 @@
 -- Which production of an expression's parts the reader takes at a token, by the grammar's tables. Assumes nothing.
-use mathlib.Core.Path.{_≡_, refl, sym, _∙_, ap}
+use mathlib.Core.Path.{_≡_, refl}
 use mathlib.Core.Bool.{Bool, true, false, _||_}
 use mathlib.Core.Logic.{_⊎_, inl, inr}
-use mathlib.Core.List.{List, [], _∷_, _++_}
+use mathlib.Core.List.{[], _∷_}
 use Prim.Native.Nat.{ℕ}
 use native.Mathlib.Omega.{arith}
 use borrow.Author.Tests.{ne-eqb}
-use lib.Dec.{T, eqb}
+use lib.Dec.{eqb}
 use Rattle.spec_grammar.specs.Token.{Token}
 use Rattle.spec_grammar.specs.Tree.{Expr, number, bit, name, sign, negate, binary, parens}
-use Rattle.spec_grammar.specs.Grammar.{NonTerminal, expression, chain, ands, ors, xors, relation, compared, simple, terms, term, factors, factor, primary, Says, Sym, tk, nt, Fun, item, opens, closes, Production, productions, _↠_}
-use Rattle.spec_grammar.specs.Derivation.{_∈_, here, there}
+use Rattle.spec_grammar.specs.Grammar.{NonTerminal, expression, chain, ands, ors, xors, relation, compared, simple, terms, term, factors, factor, primary, tk, nt, item, opens, closes, Production, productions, _↠_}
 use Rattle.spec_grammar.specs.Reader.{choose, elem, first, firsts, follow, nullable, nullables, chosen, Pick, take, no-rule, pick}
 use Rattle.front_cursor.proofs.Steps.{Into}
 use Rattle.base_codes.specs.Token.{oneOf, operands, adding, multiplying, relational, NAME, NUMBER, ZERO, ONE, LP, RP, MINUS, AND, OR, XOR, NOT}
@@ -139,7 +138,8 @@ no-primary k l e =
     )
 
 -- The parts that begin with another part: where the other can begin, so can they.
-pub tests : {M A : NonTerminal} (r : Production M) (p : Pick A) (b : Bool) → (b ≡ false → p ≡ no-rule) → (choose b (take r) no-rule ≡ take r) ⊎ ((choose b (take r) no-rule ≡ no-rule) × (p ≡ no-rule))
+pub tests : {M A : NonTerminal} (r : Production M) (p : Pick A) (b : Bool) → (b ≡ false → p ≡ no-rule)
+    → (choose b (take r) no-rule ≡ take r) ⊎ ((choose b (take r) no-rule ≡ no-rule) × (p ≡ no-rule))
 tests r p true h = inl refl
 tests r p false h = inr (refl, h refl)
 

@@ -1,12 +1,11 @@
 -- The returns of the readers of factors, products, sums and relations: each follows the grammar's reader by its laws. Assumes nothing.
 use mathlib.Core.Path.{_≡_, refl, sym, _∙_, ap, subst}
-use mathlib.Core.Bool.{Bool, true, false, _||_, not}
-use mathlib.Core.Logic.{_⊎_, inl, inr}
+use mathlib.Core.Bool.{Bool, true, false, not}
 use mathlib.Core.List.{List, [], _∷_, _++_, append-assoc, append-nil}
-use Prim.Native.Nat.{ℕ, zero, suc, _+_, _-_, _≤_, _<_}
+use Prim.Native.Nat.{ℕ, _+_, _-_, _≤_, _<_}
 use native.Mathlib.Omega.{arith}
-use borrow.Author.Tests.{ne-eqb, eqb-true, eqb-false, lt-ltb, le-ltb, ltb-true, ltb-false}
-use lib.Dec.{T, eqb, ltb, lit<}
+use borrow.Author.Tests.{ne-eqb, eqb-true, eqb-false}
+use lib.Dec.{T, eqb, lit<}
 use lib.ListN.{length}
 use Rattle.base_codes.specs.Operation as O
 use Rattle.base_codes.specs.Operation.{operationOf}
@@ -14,32 +13,34 @@ use Rattle.spec_grammar.specs.Token.{Token}
 use Rattle.spec_grammar.specs.Tree.{Expr, sign, negate, binary}
 use Rattle.spec_grammar.specs.Grammar.{NonTerminal, expression, chain, ands, ors, xors, relation, compared, simple, terms, term, factors, factor, primary, Says, Sym, tk, nt, Fun, item, Production, productions, _↠_}
 use Rattle.spec_grammar.specs.Meter.{InHeading}
-use Rattle.spec_grammar.specs.Derivation.{_∈_, here, there}
+use Rattle.spec_grammar.specs.Derivation.{here}
 use Rattle.spec_grammar.specs.Reader.{choose, compose, elem, first, pick, take}
 use Rattle.spec_grammar.proofs.Steps.{Ok}
 use Rattle.spec_grammar.proofs.Tables.{pick-rule}
-use Rattle.front_cursor.specs.declared.Pos.{Pos}
-use Rattle.front_cursor.specs.Tokens.{tokenAt, kindIn, Holds}
-use Rattle.front_cursor.specs.Reading.{from, Fine, Asks, Moves}
+use Rattle.front_cursor.specs.declared.Cursor.{Cursor}
+use Rattle.front_layout.specs.Tokens.{tokenAt, kindIn, Holds}
+use Rattle.front_cursor.specs.Reading.{from, Fine, Asks, Moves, followsAt}
 use Rattle.front_cursor.proofs.Measures.{turn-falls}
-use Rattle.front_cursor.proofs.Steps.{kind-is, kind-inside, from-stays, rule-at, left-at, into-at}
-use Rattle.front_expressions.specs.Postfix.{Item, itemOf, binaryItem, postfix}
-use Rattle.front_expressions.specs.Written.{Arrays, Wrote}
-use Rattle.front_expressions.specs.Tests.{moreTerms, moreFactors, goesOn}
-use Rattle.base_codes.specs.Token.{oneOf, operands, adding, multiplying, relational, logical, PLUS, MINUS, EQ, GE, AND, OR, XOR, TIMES, DIVIDE, MOD, REM, NOT}
+use Rattle.front_cursor.proofs.Steps.{kind-is, kind-inside, from-stays, rule-at, left-at, into-at, follows-false}
+use Rattle.front_layout.specs.Postfix.{Item, itemOf, binaryItem, postfix}
+use Rattle.front_layout.specs.Items.{Arrays, Wrote}
+use Rattle.front_expressions.specs.Tests.{moreTerms, moreFactors}
+use Rattle.base_codes.specs.Token.{oneOf, operands, adding, multiplying, relational, logical, MINUS, AND, OR, XOR, NOT}
 use Rattle.base_codes.proofs.TokenLaws.{each, some-kind, not-one}
-use Rattle.front_expressions.specs.Readers.{Reads, ReadsOver, Tail, sum, product, and-chain, or-chain, xor-chain, tailOf, wholeOf, ofTail, ofWhole, operatorOf, Partly, PartlyOver, Turn, TurnOver, OneTurn}
-use Rattle.front_expressions.proofs.Items.{wrote-none, wrote-then}
-use Rattle.front_expressions.proofs.Behind.{Behind, BehindOver}
+use Rattle.front_expressions.specs.Readers.{ReadsOver, Tail, sum, product, and-chain, or-chain, xor-chain, tailOf, wholeOf, ofTail, ofWhole, operatorOf, PartlyOver, TurnOver, OneTurn}
+use Rattle.front_layout.proofs.ItemLists.{wrote-none, wrote-then}
+use Rattle.front_expressions.proofs.Behind.{BehindOver}
 use Rattle.front_expressions.proofs.Primaries.{ok-of, stay-moves}
 use Rattle.front_expressions.proofs.Picks.{andRule, orRule, xorRule, pick-not, pick-sign, pick-term, pick-factor, pick-and, pick-or, pick-xor, chain-and, chain-or, chain-xor, pick-compared, into-relation, into-simple, into-term, into-factor, into-primary}
 
-pub moves-then : {n : ℕ} {q a r : Pos} → Moves n q a → Moves n a r → Moves n q r
+pub moves-then : {n : ℕ} {q a r : Cursor} → Moves n q a → Moves n a r → Moves n q r
 moves-then u v = record { on = omega arith; inside = omega arith; room = omega arith; few = omega arith; began = λ z. u .began (v .began z) }
 
 -- an operator with its operand, by a production that begins with them
-taken : (M A : NonTerminal) (flat : Says A → List Item) (δ : List Sym) (says : Token → Says A → Fun δ (Says M)) {kinds long : List ℕ} {n : ℕ} {q r : Pos} {d k code : ℕ} {before after : Arrays}
-    → kindIn kinds n (q .at) ≡ k → pick (productions M) k ≡ take (tk item k ∷ nt A ∷ δ ↠ says) → (b : BehindOver A flat k code kinds long n q d before r after) (ts : List Token) (holds : Holds ts kinds long n)
+taken : (M A : NonTerminal) (flat : Says A → List Item) (δ : List Sym)
+    (says : Token → Says A → Fun δ (Says M)) {kinds long : List ℕ} {n : ℕ} {q r : Cursor} {d k code : ℕ} {before after : Arrays}
+    → kindIn kinds n (q .at) ≡ k → pick (productions M) k ≡ take (tk item k ∷ nt A ∷ δ ↠ says)
+    → (b : BehindOver A flat k code kinds long n q d before r after) (ts : List Token) (holds : Holds ts kinds long n)
     → (S : NonTerminal) (s l : ℕ) (h : InHeading) → Fine s h → (γ : List Sym) (κ : Says M → Fun γ (Says S)) → Ok (nt M ∷ γ)
     → from ts S s l h q d (nt M ∷ γ) κ ≡ from ts S s l h r d (δ ++ γ) (compose M S δ γ (says (tokenAt ts (q .at)) (b .reads ts holds .value)) κ)
 unfolding compose
@@ -49,9 +50,10 @@ taken M A flat δ says {n = n} {q} {d = d} {k} e p b ts holds S s l h fine γ κ
     rule-at ts S s l h q d M γ κ r w (let z = holds .count in let i = b .inside in omega arith)
     ∙ b .reads ts holds .goes S s l h fine (δ ++ γ) (λ x v. compose M S δ γ (says x v) κ) (ok-of γ (pick-rule r (tokenAt ts (q .at) .kind) w) o)
 
-module _ {kinds long : List ℕ} {n : ℕ} {q : Pos} {d : ℕ} where
+module _ {kinds long : List ℕ} {n : ℕ} {q : Cursor} {d : ℕ} where
   -- a factor
-  pub factor-plain : {before after : Arrays} {r : Pos} → (kindIn kinds n (q .at) ≡ 22 → ⊥) → ReadsOver primary postfix kinds long n q d before r after → ReadsOver factor postfix kinds long n q d before r after
+  pub factor-plain : {before after : Arrays} {r : Cursor} → (kindIn kinds n (q .at) ≡ 22 → ⊥) → ReadsOver primary postfix kinds long n q d before r after
+      → ReadsOver factor postfix kinds long n q d before r after
   unfolding compose productions
   factor-plain f p = record {
     moves = p .moves;
@@ -64,7 +66,8 @@ module _ {kinds long : List ℕ} {n : ℕ} {q : Pos} {d : ℕ} where
     };
   }
 
-  pub factor-not : {before after : Arrays} {r : Pos} → kindIn kinds n (q .at) ≡ 22 → BehindOver primary postfix NOT O.NOT kinds long n q d before r after → ReadsOver factor postfix kinds long n q d before r after
+  pub factor-not : {before after : Arrays} {r : Cursor} → kindIn kinds n (q .at) ≡ 22 → BehindOver primary postfix NOT O.NOT kinds long n q d before r after
+      → ReadsOver factor postfix kinds long n q d before r after
   unfolding compose postfix
   factor-not e b = record {
     moves = b .moves;
@@ -76,7 +79,8 @@ module _ {kinds long : List ℕ} {n : ℕ} {q : Pos} {d : ℕ} where
   }
 
   -- the first factor of a product
-  pub product-first : {before after : Arrays} {r : Pos} → ReadsOver factor postfix kinds long n q d before r after → PartlyOver product kinds long n q d before r after
+  pub product-first : {before after : Arrays} {r : Cursor} → ReadsOver factor postfix kinds long n q d before r after
+      → PartlyOver product kinds long n q d before r after
   unfolding compose productions
   product-first p = record {
     moves = p .moves;
@@ -90,7 +94,8 @@ module _ {kinds long : List ℕ} {n : ℕ} {q : Pos} {d : ℕ} where
   }
 
   -- the first term of a sum
-  pub signed-plain : {before after : Arrays} {r : Pos} → (kindIn kinds n (q .at) ≡ 12 → ⊥) → ReadsOver term postfix kinds long n q d before r after → PartlyOver sum kinds long n q d before r after
+  pub signed-plain : {before after : Arrays} {r : Cursor} → (kindIn kinds n (q .at) ≡ 12 → ⊥) → ReadsOver term postfix kinds long n q d before r after
+      → PartlyOver sum kinds long n q d before r after
   unfolding compose productions
   signed-plain f p = record {
     moves = p .moves;
@@ -103,7 +108,8 @@ module _ {kinds long : List ℕ} {n : ℕ} {q : Pos} {d : ℕ} where
     };
   }
 
-  pub signed-sign : {before after : Arrays} {r : Pos} → kindIn kinds n (q .at) ≡ 12 → BehindOver term postfix MINUS O.SIGN kinds long n q d before r after → PartlyOver sum kinds long n q d before r after
+  pub signed-sign : {before after : Arrays} {r : Cursor} → kindIn kinds n (q .at) ≡ 12 → BehindOver term postfix MINUS O.SIGN kinds long n q d before r after
+      → PartlyOver sum kinds long n q d before r after
   unfolding compose postfix
   signed-sign e b = record {
     moves = b .moves;
@@ -118,13 +124,15 @@ module _ {kinds long : List ℕ} {n : ℕ} {q : Pos} {d : ℕ} where
 logical-alone : (k : ℕ) → oneOf k logical ≡ true → (oneOf k adding ≡ true → ⊥) × (oneOf k multiplying ≡ true → ⊥)
 unfolding oneOf
 logical-alone =
-    each (λ (k : ℕ). (oneOf k adding ≡ true → ⊥) × (oneOf k multiplying ≡ true → ⊥)) logical ((no-clash, no-clash), ((no-clash, no-clash), ((no-clash, no-clash), tt)))
+    each (λ (k : ℕ). (oneOf k adding ≡ true → ⊥) × (oneOf k multiplying ≡ true → ⊥)) logical
+    ((no-clash, no-clash), ((no-clash, no-clash), ((no-clash, no-clash), tt)))
   where
     no-clash : false ≡ true → ⊥
     no-clash e = let z : _≡_ {A = ℕ} 0 1 = cc in omega arith
 
 -- an operator with two operands is written with the code of its kind
-binary-items : (q : Pos) {kinds long : List ℕ} {n : ℕ} {ts : List Token} {m p : ℕ} {before after : Arrays} → Holds ts kinds long n → (k : ℕ) → kindIn kinds n (q .at) ≡ k → {code : ℕ} → code ≡ operationOf k → (xs : List Item)
+binary-items : (q : Cursor) {kinds long : List ℕ} {n : ℕ} {ts : List Token} {m p : ℕ} {before after : Arrays} → Holds ts kinds long n → (k : ℕ)
+    → kindIn kinds n (q .at) ≡ k → {code : ℕ} → code ≡ operationOf k → (xs : List Item)
     → Wrote ts m p before after (xs ++ (itemOf code (tokenAt ts (q .at)) ∷ [])) → Wrote ts m p before after (xs ++ (binaryItem (tokenAt ts (q .at)) ∷ []))
 binary-items q {ts = ts} {m} {p} {before} {after} holds k e c xs w =
     subst (λ (j : ℕ). Wrote ts m p before after (xs ++ (itemOf j (tokenAt ts (q .at)) ∷ []))) (c ∙ ap operationOf (sym e ∙ kind-is holds (q .at))) w
@@ -145,10 +153,13 @@ treeOf and-chain v = v
 treeOf or-chain v = v
 treeOf xor-chain v = v
 
-module _ {kinds long : List ℕ} {n : ℕ} {q : Pos} {d : ℕ} (k : ℕ) (e : kindIn kinds n (q .at) ≡ k) {code : ℕ} (is-code : code ≡ operationOf k) where
-  one-turn : (t : Tail) {before after : Arrays} {r : Pos} (b : BehindOver (operandOf t) (λ (v : Says (operandOf t)). postfix (treeOf t v)) k code kinds long n q d before r after)
-      → ((ts : List Token) (holds : Holds ts kinds long n) → (a : Expr) (S : NonTerminal) (s l : ℕ) (h : InHeading) → Fine s h → (γ : List Sym) (κ : Expr → Fun γ (Says S)) → Ok (nt (tailOf t) ∷ γ)
-      → from ts S s l h q d (nt (tailOf t) ∷ γ) (ofTail t S γ κ a) ≡ from ts S s l h r d (nt (tailOf t) ∷ γ) (ofTail t S γ κ (binary (tokenAt ts (q .at)) a (treeOf t (b .reads ts holds .value)))))
+module _ {kinds long : List ℕ} {n : ℕ} {q : Cursor} {d : ℕ} (k : ℕ) (e : kindIn kinds n (q .at) ≡ k) {code : ℕ} (is-code : code ≡ operationOf k) where
+  one-turn : (t : Tail) {before after : Arrays} {r : Cursor}
+      (b : BehindOver (operandOf t) (λ (v : Says (operandOf t)). postfix (treeOf t v)) k code kinds long n q d before r after)
+      → ((ts : List Token) (holds : Holds ts kinds long n) → (a : Expr) (S : NonTerminal) (s l : ℕ) (h : InHeading) → Fine s h
+      → (γ : List Sym) (κ : Expr → Fun γ (Says S)) → Ok (nt (tailOf t) ∷ γ)
+      → from ts S s l h q d (nt (tailOf t) ∷ γ) (ofTail t S γ κ a) ≡ from ts S s l h r d (nt (tailOf t) ∷ γ)
+      (ofTail t S γ κ (binary (tokenAt ts (q .at)) a (treeOf t (b .reads ts holds .value)))))
       → OneTurn t kinds long n q d before r after
   unfolding postfix
   one-turn t b goes = record {
@@ -168,16 +179,28 @@ module _ {kinds long : List ℕ} {n : ℕ} {q : Pos} {d : ℕ} (k : ℕ) (e : ki
   }
 
   -- an operator of a list, and the operand behind it
-  pub list-turn : (t : Tail) {before after : Arrays} {r : Pos} → operatorOf t k → BehindOver (operandOf t) (λ (v : Says (operandOf t)). postfix (treeOf t v)) k code kinds long n q d before r after → OneTurn t kinds long n q d before r after
+  pub list-turn : (t : Tail) {before after : Arrays} {r : Cursor} → operatorOf t k
+      → BehindOver (operandOf t) (λ (v : Says (operandOf t)). postfix (treeOf t v)) k code kinds long n q d before r after
+      → OneTurn t kinds long n q d before r after
   unfolding compose
-  list-turn sum op b = one-turn sum b (λ ts holds a S s l h fine γ κ o. taken terms term postfix (nt terms ∷ []) (λ x v f a. f (binary x a v)) e (pick-term k op) b ts holds S s l h fine γ (λ f. κ (f a)) o)
-  list-turn product op b = one-turn product b (λ ts holds a S s l h fine γ κ o. taken factors factor postfix (nt factors ∷ []) (λ x v f a. f (binary x a v)) e (pick-factor k op) b ts holds S s l h fine γ (λ f. κ (f a)) o)
-  list-turn and-chain op b = one-turn and-chain b (λ ts holds a S s l h fine γ κ o. taken ands relation postfix (nt ands ∷ []) (λ x v f a. f (binary x a v)) e (pick-and k op) b ts holds S s l h fine γ (λ f. κ (f a)) o)
-  list-turn or-chain op b = one-turn or-chain b (λ ts holds a S s l h fine γ κ o. taken ors relation postfix (nt ors ∷ []) (λ x v f a. f (binary x a v)) e (pick-or k op) b ts holds S s l h fine γ (λ f. κ (f a)) o)
-  list-turn xor-chain op b = one-turn xor-chain b (λ ts holds a S s l h fine γ κ o. taken xors relation postfix (nt xors ∷ []) (λ x v f a. f (binary x a v)) e (pick-xor k op) b ts holds S s l h fine γ (λ f. κ (f a)) o)
+  list-turn sum op b = one-turn sum b (λ ts holds a S s l h fine γ κ o. taken terms term postfix (nt terms ∷ []) (λ x v f a. f (binary x a v)) e
+      (pick-term k op) b ts holds S s l h fine γ (λ f. κ (f a)) o)
+  list-turn product op b = one-turn product b
+      (λ ts holds a S s l h fine γ κ o. taken factors factor postfix (nt factors ∷ []) (λ x v f a. f (binary x a v)) e
+      (pick-factor k op) b ts holds S s l h fine γ (λ f. κ (f a)) o)
+  list-turn and-chain op b = one-turn and-chain b
+      (λ ts holds a S s l h fine γ κ o. taken ands relation postfix (nt ands ∷ []) (λ x v f a. f (binary x a v)) e (pick-and k op) b ts holds S s l h fine γ
+      (λ f. κ (f a)) o)
+  list-turn or-chain op b = one-turn or-chain b
+      (λ ts holds a S s l h fine γ κ o. taken ors relation postfix (nt ors ∷ []) (λ x v f a. f (binary x a v)) e (pick-or k op) b ts holds S s l h fine γ
+      (λ f. κ (f a)) o)
+  list-turn xor-chain op b = one-turn xor-chain b
+      (λ ts holds a S s l h fine γ κ o. taken xors relation postfix (nt xors ∷ []) (λ x v f a. f (binary x a v)) e (pick-xor k op) b ts holds S s l h fine γ
+      (λ f. κ (f a)) o)
 
   -- the same of whichever chain has this operator
-  pub joined-turn : {before after : Arrays} {r : Pos} → oneOf k logical ≡ true → (t : Tail) → operatorOf t k → BehindOver relation postfix k code kinds long n q d before r after → OneTurn t kinds long n q d before r after
+  pub joined-turn : {before after : Arrays} {r : Cursor} → oneOf k logical ≡ true → (t : Tail) → operatorOf t k
+      → BehindOver relation postfix k code kinds long n q d before r after → OneTurn t kinds long n q d before r after
   joined-turn w sum op b = absurd (logical-alone k w .0 op)
   joined-turn w product op b = absurd (logical-alone k w .1 op)
   joined-turn w and-chain op b = list-turn and-chain op b
@@ -185,13 +208,21 @@ module _ {kinds long : List ℕ} {n : ℕ} {q : Pos} {d : ℕ} (k : ℕ) (e : ki
   joined-turn w xor-chain op b = list-turn xor-chain op b
 
 -- no turn, and one turn after others
-pub turn-none : (t : Tail) {kinds long : List ℕ} {n : ℕ} {q : Pos} {d : ℕ} (b : Arrays) → Asks n q → TurnOver t kinds long n q d b q b
+pub turn-none : (t : Tail) {kinds long : List ℕ} {n : ℕ} {q : Cursor} {d : ℕ} (b : Arrays) → Asks n q → TurnOver t kinds long n q d b q b
 turn-none t {n = n} {q} b a = record {
   moves = stay-moves n q a;
-  reads = λ ts holds. record { grow = λ v. v; items = []; grows = λ v. sym (append-nil (postfix v)); goes = λ v S s l h fine γ κ o. refl; wrote = λ z. wrote-none ts (q .n) (q .n) b refl };
+  reads = λ ts holds. record {
+    grow = λ v. v;
+    items = [];
+    grows = λ v. sym
+        (append-nil (postfix v));
+    goes = λ v S s l h fine γ κ o. refl;
+    wrote = λ z. wrote-none ts (q .written) (q .written) b refl;
+  };
 }
 
-pub turn-then : {t : Tail} {kinds long : List ℕ} {n : ℕ} {q a r : Pos} {d : ℕ} {before middle after : Arrays} → TurnOver t kinds long n q d before a middle → TurnOver t kinds long n a d middle r after → TurnOver t kinds long n q d before r after
+pub turn-then : {t : Tail} {kinds long : List ℕ} {n : ℕ} {q a r : Cursor} {d : ℕ} {before middle after : Arrays} → TurnOver t kinds long n q d before a middle
+    → TurnOver t kinds long n a d middle r after → TurnOver t kinds long n q d before r after
 turn-then u v = record {
   moves = moves-then (u .moves) (v .moves);
   reads = λ ts holds.
@@ -207,7 +238,8 @@ turn-then u v = record {
 }
 
 -- the tree so far, and turns after it
-pub partly-then : {t : Tail} {kinds long : List ℕ} {n : ℕ} {q a r : Pos} {d : ℕ} {before middle after : Arrays} → ((γ : List Sym) → Ok (nt (wholeOf t) ∷ γ) → Ok (nt (tailOf t) ∷ γ))
+pub partly-then : {t : Tail} {kinds long : List ℕ} {n : ℕ} {q a r : Cursor} {d : ℕ} {before middle after : Arrays}
+    → ((γ : List Sym) → Ok (nt (wholeOf t) ∷ γ) → Ok (nt (tailOf t) ∷ γ))
     → PartlyOver t kinds long n q d before a middle → TurnOver t kinds long n a d middle r after → PartlyOver t kinds long n q d before r after
 partly-then {t} {kinds} {long} {n} {q} {a} {r} {d} {before} {middle} {after} ok u v = record {
   moves = moves-then (u .moves) (v .moves);
@@ -217,7 +249,8 @@ partly-then {t} {kinds} {long} {n} {q} {a} {r} {d} {before} {middle} {after} ok 
       record {
         value = y .grow (x .value);
         goes = λ S s l h fine γ κ o. x .goes S s l h fine γ κ o ∙ y .goes (x .value) S s l h fine γ κ (ok γ o);
-        wrote = λ z. subst (λ (l : List Item). Wrote ts (q .n) (r .n) before after l) (sym (y .grows (x .value))) (wrote-then (x .wrote (v .moves .began z)) (y .wrote z));
+        wrote = λ z. subst (λ (l : List Item). Wrote ts (q .written) (r .written) before after l) (sym (y .grows (x .value)))
+            (wrote-then (x .wrote (v .moves .began z)) (y .wrote z));
       };
 }
 
@@ -238,16 +271,21 @@ unfolding first elem oneOf
 no-factor k e t = subst T e t
 
 -- a list ends where its operator does not stand, or where the reader has refused
-tail-end : (t : Tail) (ts : List Token) (S : NonTerminal) (s l : ℕ) (h : InHeading) (r : Pos) (d : ℕ) → (operatorOf t (tokenAt ts (r .at) .kind) → ⊥) → (γ : List Sym) (κ : Expr → Fun γ (Says S)) (a : Expr) → Ok (nt (tailOf t) ∷ γ)
+tail-end : (t : Tail) (ts : List Token) (S : NonTerminal) (s l : ℕ) (h : InHeading) (r : Cursor) (d : ℕ) → (operatorOf t (tokenAt ts (r .at) .kind) → ⊥)
+    → (γ : List Sym) (κ : Expr → Fun γ (Says S)) (a : Expr) → Ok (nt (tailOf t) ∷ γ)
     → from ts S s l h r d (nt (tailOf t) ∷ γ) (ofTail t S γ κ a) ≡ from ts S s l h r d γ (κ a)
 unfolding productions first elem
 tail-end sum ts S s l h r d f γ κ a o = left-at ts S s l h r d terms γ (λ g. κ (g a)) o (λ b. b) here (no-term (tokenAt ts (r .at) .kind) (not-one _ _ f))
-tail-end product ts S s l h r d f γ κ a o = left-at ts S s l h r d factors γ (λ g. κ (g a)) o (λ b. b) here (no-factor (tokenAt ts (r .at) .kind) (not-one _ _ f))
-tail-end and-chain ts S s l h r d f γ κ a o = left-at ts S s l h r d ands γ (λ g. κ (g a)) o (λ b. b) here (λ z. rw (ne-eqb (tokenAt ts (r .at) .kind) AND f) at z)
+tail-end product ts S s l h r d f γ κ a o =
+    left-at ts S s l h r d factors γ (λ g. κ (g a)) o (λ b. b) here (no-factor (tokenAt ts (r .at) .kind) (not-one _ _ f))
+tail-end and-chain ts S s l h r d f γ κ a o =
+    left-at ts S s l h r d ands γ (λ g. κ (g a)) o (λ b. b) here (λ z. rw (ne-eqb (tokenAt ts (r .at) .kind) AND f) at z)
 tail-end or-chain ts S s l h r d f γ κ a o = left-at ts S s l h r d ors γ (λ g. κ (g a)) o (λ b. b) here (λ z. rw (ne-eqb (tokenAt ts (r .at) .kind) OR f) at z)
-tail-end xor-chain ts S s l h r d f γ κ a o = left-at ts S s l h r d xors γ (λ g. κ (g a)) o (λ b. b) here (λ z. rw (ne-eqb (tokenAt ts (r .at) .kind) XOR f) at z)
+tail-end xor-chain ts S s l h r d f γ κ a o =
+    left-at ts S s l h r d xors γ (λ g. κ (g a)) o (λ b. b) here (λ z. rw (ne-eqb (tokenAt ts (r .at) .kind) XOR f) at z)
 
-pub tail-over : (t : Tail) (ts : List Token) (S : NonTerminal) (s l : ℕ) (h : InHeading) (r : Pos) (d : ℕ) → (r .fault ≡ 0 → operatorOf t (tokenAt ts (r .at) .kind) → ⊥) → (γ : List Sym) (κ : Expr → Fun γ (Says S)) (a : Expr) → Ok (nt (tailOf t) ∷ γ)
+pub tail-over : (t : Tail) (ts : List Token) (S : NonTerminal) (s l : ℕ) (h : InHeading) (r : Cursor) (d : ℕ)
+    → (r .fault ≡ 0 → operatorOf t (tokenAt ts (r .at) .kind) → ⊥) → (γ : List Sym) (κ : Expr → Fun γ (Says S)) (a : Expr) → Ok (nt (tailOf t) ∷ γ)
     → from ts S s l h r d (nt (tailOf t) ∷ γ) (ofTail t S γ κ a) ≡ from ts S s l h r d γ (κ a)
 tail-over t ts S s l h r d f γ κ a o = go (eqb (r .fault) 0) refl
   where
@@ -282,21 +320,10 @@ pub more-factors-false : (f k : ℕ) → moreFactors f k ≡ false → f ≡ 0 �
 unfolding moreFactors
 more-factors-false f k e = more-false f (oneOf k multiplying) e
 
-pub goes-on-true : (f k o : ℕ) → goesOn f k o ≡ true → (f ≡ 0) × (k ≡ o)
-unfolding goesOn
-goes-on-true f k o e = go (eqb f 0) refl e
-  where
-    go : (a : Bool) → eqb f 0 ≡ a → choose a (eqb k o) false ≡ true → (f ≡ 0) × (k ≡ o)
-    go true u z = (eqb-true f 0 u, eqb-true k o z)
-    go false u z = absurd (let y : _≡_ {A = ℕ} 0 1 = cc in omega arith)
-
-pub goes-on-false : (f k o : ℕ) → goesOn f k o ≡ false → f ≡ 0 → k ≡ o → ⊥
-unfolding goesOn
-goes-on-false f k o e z w = eqb-false k o (rw z at e) w
-
 -- The whole list, where none of its operators follows.
-module _ (t : Tail) {kinds long : List ℕ} {n : ℕ} {q r : Pos} {d : ℕ} {before after : Arrays} where
-  list-goes : ((γ : List Sym) → Ok (nt (wholeOf t) ∷ γ) → Ok (nt (tailOf t) ∷ γ)) → (p : PartlyOver t kinds long n q d before r after) → (r .fault ≡ 0 → operatorOf t (kindIn kinds n (r .at)) → ⊥) → (ts : List Token) (holds : Holds ts kinds long n)
+module _ (t : Tail) {kinds long : List ℕ} {n : ℕ} {q r : Cursor} {d : ℕ} {before after : Arrays} where
+  list-goes : ((γ : List Sym) → Ok (nt (wholeOf t) ∷ γ) → Ok (nt (tailOf t) ∷ γ)) → (p : PartlyOver t kinds long n q d before r after)
+      → (r .fault ≡ 0 → operatorOf t (kindIn kinds n (r .at)) → ⊥) → (ts : List Token) (holds : Holds ts kinds long n)
       → (S : NonTerminal) (s l : ℕ) (h : InHeading) → Fine s h → (γ : List Sym) (κ : Expr → Fun γ (Says S)) → Ok (nt (wholeOf t) ∷ γ)
       → from ts S s l h q d (nt (wholeOf t) ∷ γ) (ofWhole t S γ κ) ≡ from ts S s l h r d γ (κ (p .reads ts holds .value))
   list-goes ok p stop ts holds S s l h fine γ κ o =
@@ -304,23 +331,35 @@ module _ (t : Tail) {kinds long : List ℕ} {n : ℕ} {q r : Pos} {d : ℕ} {bef
       ∙ tail-over t ts S s l h r d (λ z w. stop z (subst (operatorOf t) (sym (kind-is holds (r .at))) w)) γ κ (p .reads ts holds .value) (ok γ o)
 
 -- a sum
-pub sum-read : {kinds long : List ℕ} {n : ℕ} {q a r : Pos} {d : ℕ} {before middle after : Arrays} → PartlyOver sum kinds long n q d before a middle → TurnOver sum kinds long n a d middle r after
+pub sum-read : {kinds long : List ℕ} {n : ℕ} {q a r : Cursor} {d : ℕ} {before middle after : Arrays} → PartlyOver sum kinds long n q d before a middle
+    → TurnOver sum kinds long n a d middle r after
     → moreTerms (r .fault) (kindIn kinds n (r .at)) ≡ false → ReadsOver simple postfix kinds long n q d before r after
 sum-read {kinds} {n = n} {r = r} u v e =
     let p = partly-then ok-terms u v in
     record {
       moves = p .moves;
-      reads = λ ts holds. record { value = p .reads ts holds .value; goes = list-goes sum ok-terms p (more-terms-false (r .fault) (kindIn kinds n (r .at)) e) ts holds; wrote = p .reads ts holds .wrote };
+      reads = λ ts holds. record {
+        value = p .reads ts holds .value;
+        goes = list-goes sum ok-terms p
+            (more-terms-false (r .fault) (kindIn kinds n (r .at)) e) ts holds;
+        wrote = p .reads ts holds .wrote;
+      };
     }
 
 -- a product
-pub product-read : {kinds long : List ℕ} {n : ℕ} {q a r : Pos} {d : ℕ} {before middle after : Arrays} → ReadsOver factor postfix kinds long n q d before a middle → TurnOver product kinds long n a d middle r after
+pub product-read : {kinds long : List ℕ} {n : ℕ} {q a r : Cursor} {d : ℕ} {before middle after : Arrays}
+    → ReadsOver factor postfix kinds long n q d before a middle → TurnOver product kinds long n a d middle r after
     → moreFactors (r .fault) (kindIn kinds n (r .at)) ≡ false → ReadsOver term postfix kinds long n q d before r after
 product-read {kinds} {n = n} {r = r} u v e =
     let p = partly-then ok-factors (product-first u) v in
     record {
       moves = p .moves;
-      reads = λ ts holds. record { value = p .reads ts holds .value; goes = list-goes product ok-factors p (more-factors-false (r .fault) (kindIn kinds n (r .at)) e) ts holds; wrote = p .reads ts holds .wrote };
+      reads = λ ts holds. record {
+        value = p .reads ts holds .value;
+        goes = list-goes product ok-factors p
+            (more-factors-false (r .fault) (kindIn kinds n (r .at)) e) ts holds;
+        wrote = p .reads ts holds .wrote;
+      };
     }
 
 -- a relation
@@ -332,8 +371,9 @@ no-chain : (k : ℕ) → oneOf k logical ≡ false → T (elem k (first chain)) 
 unfolding first elem oneOf
 no-chain k e t = subst T e t
 
-module _ {kinds long : List ℕ} {n : ℕ} {q : Pos} {d : ℕ} where
-  pub relation-plain : {before after : Arrays} {r : Pos} → ReadsOver simple postfix kinds long n q d before r after → oneOf (kindIn kinds n (r .at)) relational ≡ false → ReadsOver relation postfix kinds long n q d before r after
+module _ {kinds long : List ℕ} {n : ℕ} {q : Cursor} {d : ℕ} where
+  pub relation-plain : {before after : Arrays} {r : Cursor} → ReadsOver simple postfix kinds long n q d before r after
+      → oneOf (kindIn kinds n (r .at)) relational ≡ false → ReadsOver relation postfix kinds long n q d before r after
   unfolding compose productions
   relation-plain {r = r} p f = record {
     moves = p .moves;
@@ -349,8 +389,10 @@ module _ {kinds long : List ℕ} {n : ℕ} {q : Pos} {d : ℕ} where
     };
   }
 
-  pub relation-compared : {before middle after : Arrays} {a r : Pos} (k : ℕ) → ReadsOver simple postfix kinds long n q d before a middle → oneOf k relational ≡ true → kindIn kinds n (a .at) ≡ k
-      → {code : ℕ} → code ≡ operationOf k → BehindOver simple postfix k code kinds long n a d middle r after → ReadsOver relation postfix kinds long n q d before r after
+  pub relation-compared : {before middle after : Arrays} {a r : Cursor} (k : ℕ) → ReadsOver simple postfix kinds long n q d before a middle
+      → oneOf k relational ≡ true → kindIn kinds n (a .at) ≡ k
+      → {code : ℕ} → code ≡ operationOf k → BehindOver simple postfix k code kinds long n a d middle r after
+      → ReadsOver relation postfix kinds long n q d before r after
   unfolding compose productions postfix
   relation-compared {before} {middle} {after} {a} {r} k p op e is-code b = record {
     moves = moves-then (p .moves) (b .moves);
@@ -369,7 +411,8 @@ module _ {kinds long : List ℕ} {n : ℕ} {q : Pos} {d : ℕ} where
   }
 
   -- an expression
-  pub expression-plain : {before after : Arrays} {r : Pos} → ReadsOver relation postfix kinds long n q d before r after → oneOf (kindIn kinds n (r .at)) logical ≡ false → ReadsOver expression postfix kinds long n q d before r after
+  pub expression-plain : {before after : Arrays} {r : Cursor} → ReadsOver relation postfix kinds long n q d before r after
+      → oneOf (kindIn kinds n (r .at)) logical ≡ false → ReadsOver expression postfix kinds long n q d before r after
   unfolding compose productions
   expression-plain {r = r} p f = record {
     moves = p .moves;
@@ -386,7 +429,8 @@ module _ {kinds long : List ℕ} {n : ℕ} {q : Pos} {d : ℕ} where
   }
 
 -- at an operator a chain is a chain of that operator
-chain-start : (q : Pos) (d : ℕ) (t : Tail) (k : ℕ) → oneOf k logical ≡ true → operatorOf t k → {kinds long : List ℕ} {n : ℕ} {ts : List Token} → Holds ts kinds long n → kindIn kinds n (q .at) ≡ k → (S : NonTerminal) (s l : ℕ) (h : InHeading) (γ : List Sym) (κ : Expr → Fun γ (Says S)) (a : Expr)
+chain-start : (q : Cursor) (d : ℕ) (t : Tail) (k : ℕ) → oneOf k logical ≡ true → operatorOf t k → {kinds long : List ℕ} {n : ℕ} {ts : List Token}
+    → Holds ts kinds long n → kindIn kinds n (q .at) ≡ k → (S : NonTerminal) (s l : ℕ) (h : InHeading) (γ : List Sym) (κ : Expr → Fun γ (Says S)) (a : Expr)
     → from ts S s l h q d (nt chain ∷ γ) (λ f. κ (f a)) ≡ from ts S s l h q d (nt (tailOf t) ∷ γ) (ofTail t S γ κ a)
 unfolding compose
 chain-start q d sum k w op holds e S s l h γ κ a = absurd (logical-alone k w .0 op)
@@ -425,8 +469,10 @@ not-operator xor-chain k j w op f z = f (z ∙ sym op)
 pub which : (k : ℕ) → oneOf k logical ≡ true → (t : Tail) × operatorOf t k
 which = each (λ (k : ℕ). (t : Tail) × operatorOf t k) logical ((and-chain, refl), ((or-chain, refl), ((xor-chain, refl), tt)))
 
-pub expression-chain : {kinds long : List ℕ} {n : ℕ} {q a r : Pos} {d : ℕ} {before middle after : Arrays} (k : ℕ) → oneOf k logical ≡ true → ReadsOver relation postfix kinds long n q d before a middle → kindIn kinds n (a .at) ≡ k
-    → ((t : Tail) → operatorOf t k → TurnOver t kinds long n a d middle r after) → goesOn (r .fault) (kindIn kinds n (r .at)) k ≡ false → ReadsOver expression postfix kinds long n q d before r after
+pub expression-chain : {kinds long : List ℕ} {n : ℕ} {q a r : Cursor} {d : ℕ} {before middle after : Arrays} (k : ℕ) → oneOf k logical ≡ true
+    → ReadsOver relation postfix kinds long n q d before a middle → kindIn kinds n (a .at) ≡ k
+    → ((t : Tail) → operatorOf t k → TurnOver t kinds long n a d middle r after) → followsAt (r .fault) (kindIn kinds n (r .at)) k ≡ false
+    → ReadsOver expression postfix kinds long n q d before r after
 unfolding compose productions
 expression-chain {kinds} {long} {n} {q} {a} {r} {d} {before} {middle} {after} k w p e turns stop =
     let t : Tail = which k w .0 in
@@ -446,13 +492,15 @@ expression-chain {kinds} {long} {n} {q} {a} {r} {d} {before} {middle} {after} k 
                 ∙ (x .goes S s l h fine (nt chain ∷ γ) (λ a f. κ (f a)) ok
                 ∙ (chain-start a d t k w op holds e S s l h γ κ (x .value)
                 ∙ (y .goes (x .value) S s l h fine γ κ on
-                ∙ tail-over t ts S s l h r d (λ z. not-operator t k (tokenAt ts (r .at) .kind) w op (λ w. goes-on-false (r .fault) (kindIn kinds n (r .at)) k stop z (kind-is holds (r .at) ∙ w))) γ κ (y .grow (x .value)) on)));
-            wrote = λ z. subst (λ (l : List Item). Wrote ts (q .n) (r .n) before after l) (sym (y .grows (x .value))) (wrote-then (x .wrote (v .moves .began z)) (y .wrote z));
+                ∙ tail-over t ts S s l h r d (λ z. not-operator t k (tokenAt ts (r .at) .kind) w op
+                (λ w. follows-false (r .fault) (kindIn kinds n (r .at)) k stop z (kind-is holds (r .at) ∙ w))) γ κ (y .grow (x .value)) on)));
+            wrote = λ z. subst (λ (l : List Item). Wrote ts (q .written) (r .written) before after l) (sym (y .grows (x .value)))
+                (wrote-then (x .wrote (v .moves .began z)) (y .wrote z));
           };
     }
 
 -- What the needs of the calls and loops ask: bounds.
-pub asks-after : {n : ℕ} {q a : Pos} → Asks n q → Moves n q a → Asks n a
+pub asks-after : {n : ℕ} {q a : Cursor} → Asks n q → Moves n q a → Asks n a
 asks-after u v = record { short = omega arith; inside = omega arith; room = omega arith; few = omega arith }
 
 -- a test that is turned round
@@ -482,19 +530,21 @@ pub logical-kind : (k : ℕ) → oneOf k logical ≡ true → 0 < k
 logical-kind = some-kind logical (lit< tt, (lit< tt, (lit< tt, tt)))
 
 -- a turn brings the loop nearer to its end: it gets further, or refuses
-pub loop-falls : (n : ℕ) (a r : Pos) → a .at ≤ n → a .fault ≡ 0 → Moves n a r → (r .fault ≡ 0 → a .at < r .at) → (n - r .at) + (1 - r .fault) < (n - a .at) + (1 - a .fault)
+pub loop-falls : (n : ℕ) (a r : Cursor) → a .at ≤ n → a .fault ≡ 0 → Moves n a r → (r .fault ≡ 0 → a .at < r .at)
+    → (n - r .at) + (1 - r .fault) < (n - a .at) + (1 - a .fault)
 loop-falls n a r i z m f = turn-falls n (a .at) (r .at) (a .fault) (r .fault) (m .inside) z (m .on) f
 
 -- a loop over a chain of the operator with kind k
-pub record Chained (k : ℕ) (kinds long : List ℕ) (n : ℕ) (q : Pos) (d : ℕ) (before : Arrays) (r : Pos) (after : Arrays) : Type 0 where
+pub record Chained (k : ℕ) (kinds long : List ℕ) (n : ℕ) (q : Cursor) (d : ℕ) (before : Arrays) (r : Cursor) (after : Arrays) : Type 0 where
   pub moves : Moves n q r
   pub turns : (t : Tail) → operatorOf t k → TurnOver t kinds long n q d before r after
 
-pub chained-none : {k : ℕ} {kinds long : List ℕ} {n : ℕ} {q : Pos} {d : ℕ} (b : Arrays) → Asks n q → Chained k kinds long n q d b q b
+pub chained-none : {k : ℕ} {kinds long : List ℕ} {n : ℕ} {q : Cursor} {d : ℕ} (b : Arrays) → Asks n q → Chained k kinds long n q d b q b
 chained-none {n = n} {q} b a = record { moves = stay-moves n q a; turns = λ t op. turn-none t b a }
 
 -- one turn more, at the operator j
-pub chained-again : {k : ℕ} {kinds long : List ℕ} {n : ℕ} {q a r : Pos} {d : ℕ} {before middle after : Arrays} → (j : ℕ) → oneOf k logical ≡ true → j ≡ k → Chained k kinds long n q d before a middle
+pub chained-again : {k : ℕ} {kinds long : List ℕ} {n : ℕ} {q a r : Cursor} {d : ℕ} {before middle after : Arrays} → (j : ℕ) → oneOf k logical ≡ true → j ≡ k
+    → Chained k kinds long n q d before a middle
     → ((t : Tail) → operatorOf t j → OneTurn t kinds long n a d middle r after) → Chained k kinds long n q d before r after
 chained-again {k} j l e c f =
     let w = which k l in
@@ -503,7 +553,8 @@ chained-again {k} j l e c f =
       turns = λ t op. turn-then (c .turns t op) (f t (subst (operatorOf t) (sym e) op) .turn);
     }
 
-pub chained-falls : {k : ℕ} {kinds long : List ℕ} {n : ℕ} {a r : Pos} {d : ℕ} {middle after : Arrays} → (j : ℕ) → oneOf k logical ≡ true → j ≡ k → a .at ≤ n → a .fault ≡ 0
+pub chained-falls : {k : ℕ} {kinds long : List ℕ} {n : ℕ} {a r : Cursor} {d : ℕ} {middle after : Arrays} → (j : ℕ) → oneOf k logical ≡ true → j ≡ k → a .at ≤ n
+    → a .fault ≡ 0
     → ((t : Tail) → operatorOf t j → OneTurn t kinds long n a d middle r after) → (n - r .at) + (1 - r .fault) < (n - a .at) + (1 - a .fault)
 chained-falls {k} {n = n} {a} {r} j l e i z f =
     let w = which k l in

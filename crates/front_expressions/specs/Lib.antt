@@ -1,4 +1,3 @@
-pub mod Postfix
-pub mod Written
+pub mod Put
 pub mod Readers
 pub mod Tests

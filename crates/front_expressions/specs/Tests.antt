@@ -16,7 +16,3 @@ moreTerms fault k = choose (eqb fault 0) (oneOf k adding) false
 
 unfoldable pub moreFactors : ℕ → ℕ → Bool
 moreFactors fault k = choose (eqb fault 0) (oneOf k multiplying) false
-
--- a chain goes on where the cursor has not refused and its operator stands there
-unfoldable pub goesOn : ℕ → ℕ → ℕ → Bool
-goesOn fault k operator = choose (eqb fault 0) (eqb k operator) false

@@ -6,55 +6,46 @@ ghost use Rattle.spec_grammar.specs.Grammar.{primary as primaryPart, factor as 
 ghost use mathlib.Core.Bool.{true};
 ghost use Rattle.base_codes.specs.Token.{oneOf, operands, adding, multiplying, logical, LP};
 ghost use Rattle.front_cursor.specs.Reading.{Asks};
-ghost use Rattle.front_cursor.specs.Tokens.{kindIn};
-ghost use Rattle.front_expressions.specs.Postfix.{postfix};
-ghost use Rattle.front_expressions.specs.Written.{arrays, Put};
-ghost use Rattle.front_expressions.specs.Tests.{leafCode, moreTerms, moreFactors, goesOn};
+ghost use Rattle.front_layout.specs.Tokens.{kindIn};
+ghost use Rattle.front_layout.specs.Postfix.{postfix};
+ghost use Rattle.front_layout.specs.Items.{arrays};
+ghost use Rattle.front_expressions.specs.Put.{Put};
+ghost use Rattle.front_expressions.specs.Tests.{leafCode, moreTerms, moreFactors};
 ghost use Rattle.front_expressions.specs.Readers.{Tail, sum, product as productTail, operatorOf, ReadsOver, PartlyOver, OneTurn};
 use base_codes::limit;
 use base_codes::operation;
 use base_codes::refusal;
 use base_codes::token;
-use front_cursor::Pos;
+use front_cursor::Cursor;
+use front_cursor::again;
 use front_cursor::expect;
+use front_cursor::follows;
 use front_cursor::item;
 use front_cursor::kind_at;
 use front_cursor::refused;
-
-// The same place, made anew. A place that is handed on as it came is kept in memory from the start, and the most common way, that of a leaf, would pay for it.
-fn again(q: Pos) -> Pos
-    ensures { λ r. ⌜ r ≡ q ⌝ }
-{
-    Pos {
-        fault: q.fault,
-        at: q.at,
-        items: q.items,
-        n: q.n,
-    }
-}
 
 // Writes an item behind the others, unless the cursor has refused.
 fn put(
     codes: &mut [u8; limit::TEXT],
     tokens: &mut [u16; limit::TEXT],
-    q: Pos,
+    q: Cursor,
     code: u8,
     at: usize,
-) -> Pos
-    requires { ⌜ (q .fault ≡ 0 → q .n < 16384) × (at < 65536) ⌝ }
+) -> Cursor
+    requires { ⌜ (q .fault ≡ 0 → q .written < 16384) × (at < 65536) ⌝ }
     ensures { λ r. ⌜ Put q code at (arrays (now (codes .entry)) (now (tokens .entry))) r (arrays (now (codes .exit)) (now (tokens .exit))) ⌝ }
 {
     if q.fault != 0 {
         return q;
     }
-    let n = q.n;
+    let n = q.written;
     codes[n] = code;
     tokens[n] = at as u16;
-    Pos {
+    Cursor {
         fault: q.fault,
         at: q.at,
         items: q.items,
-        n: n + 1,
+        written: n + 1,
     }
 }
 
@@ -74,22 +65,22 @@ fn parenthesised(
     kinds: &[u8; limit::TEXT],
     long: &[u8; limit::TEXT],
     n: usize,
-    q: Pos,
+    q: Cursor,
     parens: usize,
     codes: &mut [u8; limit::TEXT],
     tokens: &mut [u16; limit::TEXT],
-) -> Pos
+) -> Cursor
     requires { ⌜ (parens ≤ 16) × Asks n q × (q .fault ≡ 0) × (kindIn (now kinds) n (q .at) ≡ LP) ⌝ }
     ensures { λ r. ⌜ ReadsOver primaryPart postfix (now (kinds .entry)) (now (long .entry)) n q parens (arrays (now (codes .entry)) (now (tokens .entry))) r (arrays (now (codes .exit)) (now (tokens .exit))) ⌝ }
 {
     if parens >= limit::PARENTHESES {
         return refused(q, refusal::LIMIT_PASSED);
     }
-    let a = Pos {
+    let a = Cursor {
         fault: 0,
         at: q.at + 1,
         items: q.items,
-        n: q.n,
+        written: q.written,
     };
     let b = expression(kinds, long, n, a, parens + 1, codes, tokens);
     expect(kinds, long, n, b, token::RP)
@@ -100,10 +91,10 @@ fn leaf(
     kinds: &[u8; limit::TEXT],
     long: &[u8; limit::TEXT],
     n: usize,
-    q: Pos,
+    q: Cursor,
     codes: &mut [u8; limit::TEXT],
     tokens: &mut [u16; limit::TEXT],
-) -> Pos
+) -> Cursor
     requires { ⌜ Asks n q × (oneOf (kindIn (now kinds) n (q .at)) operands ≡ true) ⌝ }
     ensures { λ r. ⌜ ((parens : ℕ) → parens ≤ 16 → ReadsOver primaryPart postfix (now (kinds .entry)) (now (long .entry)) n q parens (arrays (now (codes .entry)) (now (tokens .entry))) r (arrays (now (codes .exit)) (now (tokens .exit)))) ⌝ }
 {
@@ -121,11 +112,11 @@ fn primary(
     kinds: &[u8; limit::TEXT],
     long: &[u8; limit::TEXT],
     n: usize,
-    q: Pos,
+    q: Cursor,
     parens: usize,
     codes: &mut [u8; limit::TEXT],
     tokens: &mut [u16; limit::TEXT],
-) -> Pos
+) -> Cursor
     requires { ⌜ (parens ≤ 16) × Asks n q ⌝ }
     ensures { λ r. ⌜ ReadsOver primaryPart postfix (now (kinds .entry)) (now (long .entry)) n q parens (arrays (now (codes .entry)) (now (tokens .entry))) r (arrays (now (codes .exit)) (now (tokens .exit))) ⌝ }
 {
@@ -148,11 +139,11 @@ fn factor(
     kinds: &[u8; limit::TEXT],
     long: &[u8; limit::TEXT],
     n: usize,
-    q: Pos,
+    q: Cursor,
     parens: usize,
     codes: &mut [u8; limit::TEXT],
     tokens: &mut [u16; limit::TEXT],
-) -> Pos
+) -> Cursor
     requires { ⌜ (parens ≤ 16) × Asks n q ⌝ }
     ensures { λ r. ⌜ ReadsOver factorPart postfix (now (kinds .entry)) (now (long .entry)) n q parens (arrays (now (codes .entry)) (now (tokens .entry))) r (arrays (now (codes .exit)) (now (tokens .exit))) ⌝ }
 {
@@ -174,11 +165,11 @@ fn multiplied(
     kinds: &[u8; limit::TEXT],
     long: &[u8; limit::TEXT],
     n: usize,
-    q: Pos,
+    q: Cursor,
     parens: usize,
     codes: &mut [u8; limit::TEXT],
     tokens: &mut [u16; limit::TEXT],
-) -> Pos
+) -> Cursor
     requires { ⌜ (parens ≤ 16) × Asks n q × (oneOf (kindIn (now kinds) n (q .at)) multiplying ≡ true) ⌝ }
     ensures { λ r. ⌜ OneTurn productTail (now (kinds .entry)) (now (long .entry)) n q parens (arrays (now (codes .entry)) (now (tokens .entry))) r (arrays (now (codes .exit)) (now (tokens .exit))) ⌝ }
 {
@@ -194,11 +185,11 @@ fn product(
     kinds: &[u8; limit::TEXT],
     long: &[u8; limit::TEXT],
     n: usize,
-    q: Pos,
+    q: Cursor,
     parens: usize,
     codes: &mut [u8; limit::TEXT],
     tokens: &mut [u16; limit::TEXT],
-) -> Pos
+) -> Cursor
     requires { ⌜ (parens ≤ 16) × Asks n q ⌝ }
     ensures { λ r. ⌜ ReadsOver termPart postfix (now (kinds .entry)) (now (long .entry)) n q parens (arrays (now (codes .entry)) (now (tokens .entry))) r (arrays (now (codes .exit)) (now (tokens .exit))) ⌝ }
 {
@@ -214,11 +205,11 @@ fn signed(
     kinds: &[u8; limit::TEXT],
     long: &[u8; limit::TEXT],
     n: usize,
-    q: Pos,
+    q: Cursor,
     parens: usize,
     codes: &mut [u8; limit::TEXT],
     tokens: &mut [u16; limit::TEXT],
-) -> Pos
+) -> Cursor
     requires { ⌜ (parens ≤ 16) × Asks n q ⌝ }
     ensures { λ r. ⌜ PartlyOver sum (now (kinds .entry)) (now (long .entry)) n q parens (arrays (now (codes .entry)) (now (tokens .entry))) r (arrays (now (codes .exit)) (now (tokens .exit))) ⌝ }
 {
@@ -236,11 +227,11 @@ fn term(
     kinds: &[u8; limit::TEXT],
     long: &[u8; limit::TEXT],
     n: usize,
-    q: Pos,
+    q: Cursor,
     parens: usize,
     codes: &mut [u8; limit::TEXT],
     tokens: &mut [u16; limit::TEXT],
-) -> Pos
+) -> Cursor
     requires { ⌜ (parens ≤ 16) × Asks n q × (oneOf (kindIn (now kinds) n (q .at)) adding ≡ true) ⌝ }
     ensures { λ r. ⌜ OneTurn sum (now (kinds .entry)) (now (long .entry)) n q parens (arrays (now (codes .entry)) (now (tokens .entry))) r (arrays (now (codes .exit)) (now (tokens .exit))) ⌝ }
 {
@@ -256,11 +247,11 @@ fn simple(
     kinds: &[u8; limit::TEXT],
     long: &[u8; limit::TEXT],
     n: usize,
-    q: Pos,
+    q: Cursor,
     parens: usize,
     codes: &mut [u8; limit::TEXT],
     tokens: &mut [u16; limit::TEXT],
-) -> Pos
+) -> Cursor
     requires { ⌜ (parens ≤ 16) × Asks n q ⌝ }
     ensures { λ r. ⌜ ReadsOver simplePart postfix (now (kinds .entry)) (now (long .entry)) n q parens (arrays (now (codes .entry)) (now (tokens .entry))) r (arrays (now (codes .exit)) (now (tokens .exit))) ⌝ }
 {
@@ -276,11 +267,11 @@ fn relation(
     kinds: &[u8; limit::TEXT],
     long: &[u8; limit::TEXT],
     n: usize,
-    q: Pos,
+    q: Cursor,
     parens: usize,
     codes: &mut [u8; limit::TEXT],
     tokens: &mut [u16; limit::TEXT],
-) -> Pos
+) -> Cursor
     requires { ⌜ (parens ≤ 16) × Asks n q ⌝ }
     ensures { λ r. ⌜ ReadsOver relationPart postfix (now (kinds .entry)) (now (long .entry)) n q parens (arrays (now (codes .entry)) (now (tokens .entry))) r (arrays (now (codes .exit)) (now (tokens .exit))) ⌝ }
 {
@@ -301,11 +292,11 @@ fn joined(
     kinds: &[u8; limit::TEXT],
     long: &[u8; limit::TEXT],
     n: usize,
-    q: Pos,
+    q: Cursor,
     parens: usize,
     codes: &mut [u8; limit::TEXT],
     tokens: &mut [u16; limit::TEXT],
-) -> Pos
+) -> Cursor
     requires { ⌜ (parens ≤ 16) × Asks n q × (oneOf (kindIn (now kinds) n (q .at)) logical ≡ true) ⌝ }
     ensures { λ r. ⌜ ((t : Tail) → operatorOf t (kindIn (now (kinds .entry)) n (q .at)) → OneTurn t (now (kinds .entry)) (now (long .entry)) n q parens (arrays (now (codes .entry)) (now (tokens .entry))) r (arrays (now (codes .exit)) (now (tokens .exit)))) ⌝ }
 {
@@ -321,11 +312,11 @@ pub fn expression(
     kinds: &[u8; limit::TEXT],
     long: &[u8; limit::TEXT],
     n: usize,
-    q: Pos,
+    q: Cursor,
     parens: usize,
     codes: &mut [u8; limit::TEXT],
     tokens: &mut [u16; limit::TEXT],
-) -> Pos
+) -> Cursor
     requires { ⌜ (parens ≤ 16) × Asks n q ⌝ }
     ensures { λ r. ⌜ ReadsOver expressionPart postfix (now (kinds .entry)) (now (long .entry)) n q parens (arrays (now (codes .entry)) (now (tokens .entry))) r (arrays (now (codes .exit)) (now (tokens .exit))) ⌝ }
 {
@@ -335,14 +326,14 @@ pub fn expression(
     if !token::is_logical(kind) {
         return a;
     }
-    while joins(kinds, n, a, kind) {
+    while follows(kinds, n, a, kind) {
         a = joined(kinds, long, n, a, parens, codes, tokens);
     }
     a
 }
 
 // Whether a further term follows.
-fn more_terms(kinds: &[u8; limit::TEXT], n: usize, q: Pos) -> bool
+fn more_terms(kinds: &[u8; limit::TEXT], n: usize, q: Cursor) -> bool
     requires { ⌜ n ≤ 16384 ⌝ }
     ensures { λ r. ⌜ r ≡ moreTerms (q .fault) (kindIn (now (kinds .entry)) n (q .at)) ⌝ }
 {
@@ -353,7 +344,7 @@ fn more_terms(kinds: &[u8; limit::TEXT], n: usize, q: Pos) -> bool
 }
 
 // Whether a further factor follows.
-fn more_factors(kinds: &[u8; limit::TEXT], n: usize, q: Pos) -> bool
+fn more_factors(kinds: &[u8; limit::TEXT], n: usize, q: Cursor) -> bool
     requires { ⌜ n ≤ 16384 ⌝ }
     ensures { λ r. ⌜ r ≡ moreFactors (q .fault) (kindIn (now (kinds .entry)) n (q .at)) ⌝ }
 {
@@ -361,15 +352,4 @@ fn more_factors(kinds: &[u8; limit::TEXT], n: usize, q: Pos) -> bool
         return false;
     }
     token::is_multiplying(kind_at(kinds, n, q.at))
-}
-
-// Whether the chain of this operator goes on.
-fn joins(kinds: &[u8; limit::TEXT], n: usize, q: Pos, kind: u8) -> bool
-    requires { ⌜ n ≤ 16384 ⌝ }
-    ensures { λ r. ⌜ r ≡ goesOn (q .fault) (kindIn (now (kinds .entry)) n (q .at)) kind ⌝ }
-{
-    if q.fault != 0 {
-        return false;
-    }
-    kind_at(kinds, n, q.at) == kind
 }

@@ -118,7 +118,8 @@ module _ (text : List ℕ) (i b : ℕ) (l : List ℕ) (e : drop i text ≡ b ∷
         later = omega arith;
         within = omega arith;
         lexes = rw (e, s, n) (ap (_▸_ (record { kind = k; value = v; size = suc j; place = i })) (past lexFrom lex-skip text i b l j e));
-        finds = rw (e, s, n) (ap (λ (ts : List Token). record { kind = k; value = v; size = suc j; place = i } ∷ ts) (past foundFrom found-skip text i b l j e));
+        finds = rw (e, s, n) (ap (λ (ts : List Token). record { kind = k; value = v; size = suc j; place = i } ∷ ts)
+            (past foundFrom found-skip text i b l j e));
         hands = λ p. rw (e, s, n) (ap (cond (eqb i p) (take (suc j) (b ∷ l))) (past (λ t k n. tokenFrom t k n p) (token-skip p) text i b l j e));
       }
   by-start unknown s z = record { lexes = rw (e, s); finds = rw (e, s); hands = λ p. rw (e, s) }

@@ -88,7 +88,8 @@ module _ (text kinds₀ starts₀ sizes₀ : List ℕ) where
         let c = f .count in
         rw e (write-more (map g (f .done)) a₀ n (g t) (c ∙ sym (length-map (f .done) g)) ∙ ap (λ (l : List ℕ). write l a₀) (sym (map-more g (f .done) t)))
 
-    pub fill-token : (k end : ℕ) → Tokened text i k end → Filled text kinds₀ starts₀ sizes₀ (set kinds₁ n k) (set starts₁ n i) (set sizes₁ n (end - i)) end (n + 1)
+    pub fill-token : (k end : ℕ) → Tokened text i k end
+        → Filled text kinds₀ starts₀ sizes₀ (set kinds₁ n k) (set starts₁ n i) (set sizes₁ n (end - i)) end (n + 1)
     fill-token k end g =
         let l = g .later in
         let r = f .room in

@@ -32,7 +32,8 @@ found-all (b ∷ l) zero n ts e = go (startOf b l) (λ k us. found-all l k (suc 
     go : (o : Start) → ((k : ℕ) (us : List Token) → lexFrom l k (suc n) ≡ tokens us → foundFrom l k (suc n) ≡ us)
         → onStart o n (λ k. lexFrom l k (suc n)) ≡ tokens ts → onFound o n (λ k. foundFrom l k (suc n)) ≡ ts
     go (L.gap k) ih f = ih (pred k) ts f
-    go (lexeme k v s) ih f = more (record { kind = k; value = v; size = s; place = n }) (lexFrom l (pred s) (suc n)) (foundFrom l (pred s) (suc n)) f (ih (pred s))
+    go (lexeme k v s) ih f = more (record { kind = k; value = v; size = s; place = n }) (lexFrom l (pred s) (suc n)) (foundFrom l (pred s) (suc n)) f
+        (ih (pred s))
     go unknown ih f = absurd (let z : _≡_ {A = ℕ} 0 1 = cc in omega arith)
 found-all (b ∷ l) (suc k) n ts e = found-all l k (suc n) ts e
 

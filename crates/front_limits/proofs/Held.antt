@@ -27,8 +27,8 @@ use Rattle.front_lexer.specs.TokenValues.{Valued}
 use Rattle.front_lexer.specs.Tokens.{lexed, found, write, Lexing}
 use Rattle.front_lexer.proofs.LexAnswer.{lexed-answered, write-at}
 use Rattle.front_lexer.proofs.TokenValues.{token-values, number-token}
-use Rattle.front_cursor.specs.Tokens.{noToken, tokenAt, alone, Holds}
-use Rattle.front_syntax.specs.Arrays.{TokensIn}
+use Rattle.front_layout.specs.Tokens.{noToken, tokenAt, alone, Holds}
+use Rattle.front_layout.specs.Arrays.{TokensIn}
 use Rattle.front_limits.specs.Flags.{flagOf, flagAt, flagsFrom, marked}
 use Rattle.front_limits.specs.Words.{WordsIn}
 
@@ -49,7 +49,8 @@ flag-is text x v = go (eqb (x .kind) NAME) (eqb (x .kind) NUMBER) refl refl
     go : (a b : Bool) → eqb (x .kind) NAME ≡ a → eqb (x .kind) NUMBER ≡ b → eqb (flagOf text (x .kind) (x .place) (x .size)) 1 ≡ alone x
     go true true e f = absurd (let g = eqb-true (x .kind) NAME e in let h = eqb-true (x .kind) NUMBER f in omega arith)
     go true false e f = rw (e, f) (flag-test (ltb 32 (x .size)) ∙ sym (or-none (ltb 32 (x .size))))
-    go false true e f = let g = number-token text x v (eqb-true (x .kind) NUMBER f) in rw (e, f, g) (flag-test (ltb 2147483647 (value 0 (part text (x .place) (x .size)))))
+    go false true e f = let g = number-token text x v (eqb-true (x .kind) NUMBER f) in
+        rw (e, f, g) (flag-test (ltb 2147483647 (value 0 (part text (x .place) (x .size)))))
     go false false e f = rw (e, f)
 
 module _ (text kinds starts sizes : List ℕ) where
@@ -70,7 +71,8 @@ module _ (text kinds starts sizes : List ℕ) where
   marked-size long n = length-sets long 0 (flagsFrom text kinds starts sizes 0 (min n 16384))
 
   -- the array that marking leaves, read back
-  pub marked-at : (long : List ℕ) (n i : ℕ) → length long ≡ 16384 → n ≤ 16384 → i < n → getD (marked text kinds starts sizes n long) i 0 ≡ flagAt text kinds starts sizes i
+  pub marked-at : (long : List ℕ) (n i : ℕ) → length long ≡ 16384 → n ≤ 16384 → i < n
+      → getD (marked text kinds starts sizes n long) i 0 ≡ flagAt text kinds starts sizes i
   unfolding marked write
   marked-at long n i h s l =
       let m : min n 16384 ≡ n = omega arith in
@@ -150,5 +152,6 @@ module _ (text kinds₀ kinds starts₀ starts sizes₀ sizes : List ℕ) (n : �
       record {
         count = c;
         kind = a;
-        flag = λ i j. rw (marked-at text kinds starts sizes long n i g (r .short) j, a i j, b i j, d i j) (flag-is text (tokenAt ts i) (each-at (Valued text) ts noToken values-held i (omega arith)));
+        flag = λ i j. rw (marked-at text kinds starts sizes long n i g (r .short) j, a i j, b i j, d i j)
+            (flag-is text (tokenAt ts i) (each-at (Valued text) ts noToken values-held i (omega arith)));
       }

@@ -6,7 +6,7 @@ use lib.ListN.{getD}
 use Rattle.spec_grammar.specs.Token.{Token}
 use Rattle.spec_grammar.specs.Limits.{Each}
 use Rattle.front_lexer.specs.TokenValues.{Valued}
-use Rattle.front_cursor.specs.Tokens.{tokenAt}
+use Rattle.front_layout.specs.Tokens.{tokenAt}
 
 -- the tokens are those of the text: the array has their sizes, and each token's value is that of its bytes
 pub record WordsIn (text : List ℕ) (ts : List Token) (sizes : List ℕ) (n : ℕ) : Type 0 where

@@ -15,19 +15,18 @@ use Rattle.spec_grammar.proofs.Each.{each-join}
 use Rattle.spec_language.specs.Lists.{each}
 use Rattle.spec_language.specs.Declarations.{within, statements}
 use Rattle.spec_language.proofs.Facts.{clash, each-append}
-use Rattle.front_cursor.specs.Tokens.{tokenAt}
-use Rattle.front_expressions.specs.Postfix.{Item, itemOf, postfix}
-use Rattle.front_expressions.specs.Written.{itemAtIndex}
+use Rattle.front_layout.specs.Tokens.{tokenAt}
+use Rattle.front_layout.specs.Postfix.{Item, itemOf, postfix}
+use Rattle.front_layout.specs.Items.{itemAtIndex}
 use Rattle.base_codes.proofs.OperationLaws.{operation-apart}
-use Rattle.front_expressions.proofs.Folds.{Steps, postfix-whole}
-use Rattle.front_statements.specs.Entries.{Entry, entry, stmtEntries, bodyEntries, entryItems}
-use Rattle.front_statements.specs.Rows.{Line, seen, linesFrom}
-use Rattle.front_syntax.specs.Arrays.{placedFrom, ItemsIn, rowIn, rowsFrom, RowsIn}
-use Rattle.front_syntax.specs.Entries.{stmtEntry}
-use Rattle.front_syntax.specs.Kinded.{KindedStmt, KindedBody}
-use Rattle.front_syntax.specs.Lowest.{lowestOf, lowestFrom}
-pub use Rattle.front_syntax.proofs.Named.{NamedItem}
-use Rattle.front_syntax.proofs.Named.{IsNamed, postfix-named}
+use Rattle.front_layout.proofs.Folds.{Steps, postfix-whole}
+use Rattle.front_layout.specs.Entries.{Entry, entry, stmtEntries, bodyEntries, entryItems, stmtEntry}
+use Rattle.front_layout.specs.Rows.{Line, seen, linesFrom}
+use Rattle.front_layout.specs.Arrays.{placedFrom, ItemsIn, rowIn, rowsFrom, RowsIn}
+use Rattle.front_offences.specs.Kinded.{KindedStmt, KindedBody}
+use Rattle.front_offences.specs.Lowest.{lowestOf, lowestFrom}
+pub use Rattle.front_offences.proofs.Named.{NamedItem}
+use Rattle.front_offences.proofs.Named.{IsNamed, postfix-named}
 use Rattle.front_offences.specs.Positions.{hasName}
 use Rattle.front_offences.proofs.Loops.{listFrom, list-lowest, each-same, each-map, all-map, all-imply}
 
@@ -89,12 +88,14 @@ unfolding listFrom rowsFrom
 rows-list ts rows j zero = refl
 rows-list ts rows j (suc c) = ap (λ (l : List Line). seen ts (rowIn rows j) ∷ l) (rows-list ts rows (j + 1) c)
 
-lines-each : (h : ℕ → Token → List ℕ) (s m : ℕ) (es : List Entry) → each (λ (l : Line). h (l .kind) (l .token)) (linesFrom s m es) ≡ each (λ (e : Entry). h (e .kind) (e .token)) es
+lines-each : (h : ℕ → Token → List ℕ) (s m : ℕ) (es : List Entry)
+    → each (λ (l : Line). h (l .kind) (l .token)) (linesFrom s m es) ≡ each (λ (e : Entry). h (e .kind) (e .token)) es
 unfolding each linesFrom
 lines-each h s m [] = refl
 lines-each h s m (e ∷ es) = ap (λ (l : List ℕ). h (e .kind) (e .token) ++ l) (lines-each h (s + 1) (m + length (e .items)) es)
 
-lines-named : (s m : ℕ) (es : List Entry) → Each (λ (e : Entry). NamedRow (e .kind) (e .token)) es → Each (λ (l : Line). NamedRow (l .kind) (l .token)) (linesFrom s m es)
+lines-named : (s m : ℕ) (es : List Entry) → Each (λ (e : Entry). NamedRow (e .kind) (e .token)) es
+    → Each (λ (l : Line). NamedRow (l .kind) (l .token)) (linesFrom s m es)
 unfolding linesFrom
 lines-named s m [] p = tt
 lines-named s m (e ∷ es) p = (p .0, lines-named (s + 1) (m + length (e .items)) es (p .1))
@@ -108,7 +109,8 @@ entries-named b k =
 -- a rule that goes by a statement's kind and token, over the rows
 pub rows-lowest : (ts : List Token) (b : Body) (rows : List ℕ) (s : ℕ) → RowsIn ts (bodyEntries b) rows s → KindedBody b
     → (g : Stmt → List ℕ) (h : ℕ → Token → List ℕ) → ((x : Stmt) → g x ≡ h (stmtEntry x .kind) (stmtEntry x .token))
-    → (f : ℕ → ℕ) → ((j : ℕ) → NamedRow (getD rows (6 * j) 0) (tokenAt ts (getD rows (6 * j + 1) 0)) → f j ≡ lowestOf (h (getD rows (6 * j) 0) (tokenAt ts (getD rows (6 * j + 1) 0))))
+    → (f : ℕ → ℕ) → ((j : ℕ) → NamedRow (getD rows (6 * j) 0) (tokenAt ts (getD rows (6 * j + 1) 0))
+    → f j ≡ lowestOf (h (getD rows (6 * j) 0) (tokenAt ts (getD rows (6 * j + 1) 0))))
     → lowestFrom f 0 s ≡ lowestOf (each g (statements b))
 rows-lowest ts b rows s r k g h e f q =
     list-lowest (λ (i : ℕ). seen ts (rowIn rows i)) rule (λ (l : Line). NamedRow (l .kind) (l .token)) f q 0 s
@@ -150,7 +152,8 @@ itemRule : (Token → List ℕ) → Item → List ℕ
 itemRule r i = ofItem r (i .code) (i .token)
 
 -- what was found before an expression, its own, and what the items behind it have
-names-steps : (r : Token → List ℕ) (q : List ℕ) → Steps (λ (e : Expr) (w : List ℕ). Unit {0}) (λ (e : Expr) (w : List ℕ). w ++ ofNames r e) (λ (k : List Item) (w : List ℕ). w ++ each (itemRule r) k ≡ q)
+names-steps : (r : Token → List ℕ) (q : List ℕ)
+    → Steps (λ (e : Expr) (w : List ℕ). Unit {0}) (λ (e : Expr) (w : List ℕ). w ++ ofNames r e) (λ (k : List Item) (w : List ℕ). w ++ each (itemRule r) k ≡ q)
 unfolding each ofNames itemRule
 names-steps r q =
     record {
@@ -159,7 +162,12 @@ names-steps r q =
       name = λ x w k f c. sym (append-assoc w (r x) (each (itemRule r) k)) ∙ c;
       sign = λ x a w k f. (tt, λ c. c);
       negate = λ x a w k f. (tt, λ c. c);
-      binary = λ x a b w k f. (tt, tt, λ c. rw (operation-apart (x .kind) 1 (omega arith) (omega arith)) (ap (λ (l : List ℕ). l ++ each (itemRule r) k) (append-assoc w (ofNames r a) (ofNames r b)) ∙ c));
+      binary = λ x a b w k f. (
+        tt,
+        tt,
+        λ c. rw (operation-apart (x .kind) 1 (omega arith) (omega arith))
+            (ap (λ (l : List ℕ). l ++ each (itemRule r) k) (append-assoc w (ofNames r a) (ofNames r b)) ∙ c),
+      );
       parens = λ a w k f. (tt, λ c. c);
     }
 
@@ -201,11 +209,13 @@ items-list : (ts : List Token) (codes indices : List ℕ) (j c : ℕ) → listFr
     ≡ map (itemAtIndex ts) (placedFrom codes indices j c)
 unfolding listFrom placedFrom
 items-list ts codes indices j zero = refl
-items-list ts codes indices j (suc c) = ap (λ (l : List Item). itemOf (getD codes j 0) (tokenAt ts (getD indices j 0)) ∷ l) (items-list ts codes indices (j + 1) c)
+items-list ts codes indices j (suc c) = ap (λ (l : List Item). itemOf (getD codes j 0) (tokenAt ts (getD indices j 0)) ∷ l)
+    (items-list ts codes indices (j + 1) c)
 
 -- a rule for the names in the expressions, over the items
 pub items-lowest : (ts : List Token) (b : Body) (codes indices : List ℕ) (k : ℕ) → ItemsIn ts (entryItems (bodyEntries b)) codes indices k → KindedBody b
-    → (r : Token → List ℕ) (f : ℕ → ℕ) → ((j : ℕ) → NamedItem (getD codes j 0) (tokenAt ts (getD indices j 0)) → f j ≡ lowestOf (ofItem r (getD codes j 0) (tokenAt ts (getD indices j 0))))
+    → (r : Token → List ℕ) (f : ℕ → ℕ) → ((j : ℕ) → NamedItem (getD codes j 0) (tokenAt ts (getD indices j 0))
+    → f j ≡ lowestOf (ofItem r (getD codes j 0) (tokenAt ts (getD indices j 0))))
     → lowestFrom f 0 k ≡ lowestOf (each (ofReads r) (statements b))
 unfolding itemRule
 items-lowest ts b codes indices k i q r f h =

@@ -1,5 +1,11 @@
+pub mod Lowest
+pub mod Kinded
+pub mod Operators
+pub mod Named
 pub mod Loops
 pub mod Bodies
-pub mod Found
+pub mod Owners
 pub mod Tokens
 pub mod Lowers
+pub mod Judged
+pub mod Groups

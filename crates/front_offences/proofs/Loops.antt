@@ -5,8 +5,8 @@ use Prim.Native.Nat.{ℕ, zero, suc, _+_, _-_, _≤_, _<_}
 use native.Mathlib.Omega.{arith}
 use Rattle.spec_grammar.specs.Limits.{Each}
 use Rattle.spec_language.specs.Lists.{each, lowest}
-use Rattle.front_syntax.specs.Lowest.{lowestOf, lower, number, lowestFrom}
-use Rattle.front_syntax.proofs.Lowest.{lower-none, lower-assoc, lowest-append}
+use Rattle.front_offences.specs.Lowest.{lowestOf, lower, number, lowestFrom}
+use Rattle.front_offences.proofs.Lowest.{lower-none, lower-assoc, lowest-append}
 
 -- before position j the lowest is low
 pub record Running (f : ℕ → ℕ) (n j low : ℕ) : Type 0 where
@@ -33,12 +33,12 @@ running-again f n j low x r h p q k =
           ∙ (ap (lower low) (sym (lowest-step f j (n - j) (omega arith))) ∙ k .rest)));
     }
 
-pub running-stop : (f : ℕ → ℕ) (n j low : ℕ) → n ≤ j → Running f n j low → low ≡ lowestFrom f 0 n
+pub running-stop : (f : ℕ → ℕ) (n m j low : ℕ) → n ≡ m → n ≤ j → Running f n j low → low ≡ lowestFrom f 0 m
 unfolding lowestFrom
-running-stop f n j low h k =
+running-stop f n m j low q h k =
     let e : n - j ≡ 0 = omega arith in
     let z : lower low (lowestFrom f j 0) ≡ lowestFrom f 0 n = ap (λ (c : ℕ). lower low (lowestFrom f j c)) (sym e) ∙ k .rest in
-    sym (lower-none low) ∙ z
+    sym (lower-none low) ∙ (z ∙ ap (lowestFrom f 0) q)
 
 -- the list of what stands at j and after it, c positions
 unfoldable pub listFrom : {A : Type 0} → (ℕ → A) → ℕ → ℕ → List A

@@ -6,8 +6,8 @@ use mathlib.Core.List.{List, [], _∷_, _++_}
 use Prim.Native.Nat.{ℕ, zero, suc, _+_}
 use native.Mathlib.Omega.{arith}
 use Rattle.spec_language.specs.Lists.{unless, each, least, lowest}
-use Rattle.front_syntax.specs.Lowest.{number, lowestOf, lower}
-use Rattle.front_syntax.proofs.Lowest.{lower-assoc, lowest-append}
+use Rattle.front_offences.specs.Lowest.{number, lowestOf, lower}
+use Rattle.front_offences.proofs.Lowest.{lower-assoc, lowest-append}
 
 pub lower-comm : (a b : ℕ) → lower a b ≡ lower b a
 unfolding lower

@@ -14,9 +14,9 @@ use Rattle.spec_language.specs.Lists.{unless}
 use Rattle.spec_language.specs.Declarations.{Decl}
 use Rattle.spec_language.specs.Elaboration.{position}
 use Rattle.spec_language.proofs.Facts.{clash}
-use Rattle.front_cursor.specs.Tokens.{noToken, tokenAt}
-use Rattle.front_syntax.specs.Arrays.{numberIn, TokensIn, OwnersIn}
-use Rattle.front_syntax.specs.Lowest.{lowestOf}
+use Rattle.front_layout.specs.Tokens.{noToken, tokenAt}
+use Rattle.front_layout.specs.Arrays.{numberIn, TokensIn, OwnersIn}
+use Rattle.front_offences.specs.Lowest.{lowestOf}
 
 -- the number at an index that counts
 pub number-inside : (l : List ℕ) (n i : ℕ) → n ≤ 16384 → i < n → numberIn l n i ≡ getD l i 0
@@ -72,4 +72,6 @@ one-there k c x r h e = picked (eqb k c) x 0 r (eq-eqb k c h) e
 -- the test goes by the owner of the name at an index
 pub owner-tested : (owners places : List ℕ) (n i i′ w p r : ℕ) (b : ℕ → Bool) → i ≡ i′ → w ≡ numberIn owners n i → p ≡ numberIn places n i
     → r ≡ lowestOf (unless (b w) p) → r ≡ lowestOf (unless (b (numberIn owners n i′)) (numberIn places n i′))
-owner-tested owners places n i i′ w p r b e f g h = h ∙ (ap (λ (m : ℕ). lowestOf (unless (b m) p)) (f ∙ ap (numberIn owners n) e) ∙ ap (λ (m : ℕ). lowestOf (unless (b (numberIn owners n i′)) m)) (g ∙ ap (numberIn places n) e))
+owner-tested owners places n i i′ w p r b e f g h = h
+    ∙ (ap (λ (m : ℕ). lowestOf (unless (b m) p)) (f ∙ ap (numberIn owners n) e)
+    ∙ ap (λ (m : ℕ). lowestOf (unless (b (numberIn owners n i′)) m)) (g ∙ ap (numberIn places n) e))

@@ -1,2 +1,5 @@
+pub mod Lowest
+pub mod Kinded
 pub mod Positions
 pub mod Laid
+pub mod Judged

@@ -33,13 +33,15 @@ ops-outside codes args j a m (suc n) h = rw (getD-set-other args j m a (pos 0) (
     further (inr l) = inr (omega arith)
 
 -- one operation more at the end of a stretch
-ops-more : (codes : List ℕ) (args : List ℤ) (m n : ℕ) → opsFrom codes args m (suc n) ≡ opsFrom codes args m n ++ (op (getD codes (m + n) 0) (getD args (m + n) (pos 0)) ∷ [])
+ops-more : (codes : List ℕ) (args : List ℤ) (m n : ℕ)
+    → opsFrom codes args m (suc n) ≡ opsFrom codes args m n ++ (op (getD codes (m + n) 0) (getD args (m + n) (pos 0)) ∷ [])
 unfolding opsFrom
 ops-more codes args m zero = let z : m + 0 ≡ m = omega arith in rw z
 ops-more codes args m (suc n) = let z : m + suc n ≡ m + 1 + n = omega arith in rw (ops-more codes args (m + 1) n, z)
 
 -- the first operation of a stretch
-ops-first : (codes : List ℕ) (args : List ℤ) (m p q : ℕ) → p ≡ suc q → opsFrom codes args m p ≡ op (getD codes m 0) (getD args m (pos 0)) ∷ opsFrom codes args (m + 1) q
+ops-first : (codes : List ℕ) (args : List ℤ) (m p q : ℕ) → p ≡ suc q
+    → opsFrom codes args m p ≡ op (getD codes m 0) (getD args m (pos 0)) ∷ opsFrom codes args (m + 1) q
 unfolding opsFrom
 ops-first codes args m p q e = rw e
 
@@ -77,13 +79,24 @@ module _ (codes is vs : List ℕ) (n : ℕ) (args₀ : List ℤ) where
             let s = h .size in
             let y : j + 1 ≡ suc j = omega arith in
             let x : 0 + j ≡ j = omega arith in
-            rw (y, ops-more codes (set args₁ j a) 0 j, x, ops-outside codes args₁ j a 0 j (inr (omega arith)), getD-set-same args₁ j a (pos 0) (omega arith), sym hc)
+            rw (
+              y,
+              ops-more codes (set args₁ j a) 0 j,
+              x,
+              ops-outside codes args₁ j a 0 j (inr (omega arith)),
+              getD-set-same args₁ j a (pos 0)
+                  (omega arith),
+              sym hc,
+            )
 
-        next : n ≤ length args₀ → opsFrom codes (set args₁ j a) 0 (j + 1) ++ told is vs u (opsFrom codes (set args₁ j a) (j + 1) (n - (j + 1))) ≡ opsFrom codes args₁ 0 j ++ told is vs t (opsFrom codes args₁ j (n - j))
-        next m = rw (before m, ops-outside codes args₁ j a (j + 1) (n - (j + 1)) (inl (omega arith)), here) (append-assoc (opsFrom codes args₁ 0 j) (op c a ∷ []) (told is vs u rest))
+        next : n ≤ length args₀ → opsFrom codes (set args₁ j a) 0 (j + 1) ++ told is vs u
+            (opsFrom codes (set args₁ j a) (j + 1) (n - (j + 1))) ≡ opsFrom codes args₁ 0 j ++ told is vs t (opsFrom codes args₁ j (n - j))
+        next m = rw (before m, ops-outside codes args₁ j a (j + 1) (n - (j + 1)) (inl (omega arith)), here)
+            (append-assoc (opsFrom codes args₁ 0 j) (op c a ∷ []) (told is vs u rest))
 
     -- the step's own words for it
-    pub telling-step : {c u : ℕ} {b : List ℤ} → j < n → c ≡ getD codes j 0 → u ≡ tagAfter is vs (op c (getD args₁ j (pos 0))) t → b ≡ set args₁ j (argWith c (getD args₁ j (pos 0)) t)
+    pub telling-step : {c u : ℕ} {b : List ℤ} → j < n → c ≡ getD codes j 0 → u ≡ tagAfter is vs (op c (getD args₁ j (pos 0))) t
+        → b ≡ set args₁ j (argWith c (getD args₁ j (pos 0)) t)
         → Telling codes is vs n args₀ args₁ t j → Telling codes is vs n args₀ b u (j + 1)
     telling-step l hc hu hb h = rw hb (telling-again l hc refl refl hu h)
 
@@ -109,7 +122,8 @@ module _ (codes is vs : List ℕ) (n : ℕ) (args₀ : List ℤ) where
             let hv = w .variables in
             let li = length-map (p .inputs) (λ (x : Source). x .type) in
             let lv = length-map (p .variables) (λ (x : Slot). x .type) in
-            let r = told-right (sourceTypes (p .inputs)) (slotTypes (p .variables)) is vs (omega arith) (omega arith) (rw (a .0) (a .1)) (rw (b .0) (b .1)) (slotTypes (p .outputs)) (p .body) (w .typed) NONE in
+            let r = told-right (sourceTypes (p .inputs)) (slotTypes (p .variables)) is vs (omega arith) (omega arith) (rw (a .0) (a .1)) (rw (b .0) (b .1))
+            (slotTypes (p .outputs)) (p .body) (w .typed) NONE in
             record {
               count = sym (length-map (entryOps (entries (p .body))) bareOp) ∙ o .count;
               short = o .short;

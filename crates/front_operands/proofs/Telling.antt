@@ -1,13 +1,13 @@
 -- THE LAW: telling types from the first operation on gives the operations of a well-typed process, whatever stood in the place of the types. Assumes nothing.
-use mathlib.Core.Path.{_≡_, refl, sym, _∙_, ap}
+use mathlib.Core.Path.{_≡_, refl, _∙_, ap}
 use mathlib.Core.Bool.{Bool, true, false, _&&_, cond}
 use mathlib.Core.Option.{Option, none, some}
 use mathlib.Core.List.{List, [], _∷_, _++_, map, append-assoc, append-nil}
-use Prim.Native.Nat.{ℕ, zero, suc, _≤_, _<_}
+use Prim.Native.Nat.{ℕ, zero, suc, _≤_}
 use native.Mathlib.Omega.{arith}
-use lib.Dec.{eqb, ltb}
+use lib.Dec.{eqb}
 use lib.ListN.{length, getD, take}
-use lib.IntN.{ℤ, pos}
+use lib.IntN.{pos}
 use borrow.Author.Tests.{lt-ltb}
 use Rattle.spec_design.specs.Types.{Ty, integer, ExprTy, plain, boolean, inRange, typeByte}
 use Rattle.spec_design.specs.Expression.{Leaf, int, bit, input, variable, Unary, Binary, Expr, leaf, unary, binary, nth, plainly, leafType, unaryType, binaryType, typeOf}
@@ -16,20 +16,18 @@ use Rattle.spec_design.specs.Statement.{Stmt, act, wait, if-then, if-else, whil
 use Rattle.spec_design.specs.Process.{fits, typedAct, typed}
 use Rattle.spec_design.proofs.Postfix.{Steps, lay-law}
 use Rattle.base_codes.specs.Limit.{VARIABLES}
-use Rattle.base_codes.specs.Operation.{unaryCode, binaryCode, countOr, operandsOf}
-use Rattle.base_codes.specs.Types.{NONE, tagOf, tagOr, unaryTypeFor, binaryTypeFor}
-use Rattle.base_codes.proofs.OperationLaws.{unary-code, binary-code, unary-operands, binary-operands}
+use Rattle.base_codes.specs.Operation.{countOr, operandsOf}
+use Rattle.base_codes.specs.Types.{tagOf, tagOr}
+use Rattle.base_codes.proofs.OperationLaws.{unary-operands, binary-operands}
 use Rattle.base_codes.proofs.TypeLaws.{unary-result, binary-result}
 use Rattle.spec_semantics.proofs.Basic.{none-some}
-use Rattle.spec_format.proofs.Decoding.{given-some, given2-some}
-use Rattle.spec_format.proofs.Lines.{fits-type}
-use Rattle.spec_format.proofs.Encoded.{named-below}
 use Rattle.base_ir.specs.Operations.{Op, op, leafOp, ops, withType, bareOp}
 use Rattle.base_ir.specs.Entries.{entries, entryOps}
 use Rattle.base_ir.proofs.Held.{entry-ops-append}
 use Rattle.base_ir.proofs.Laid.{unaryOp, binaryOp, ops-laid}
 use Rattle.base_ir.proofs.Bare.{leaf-with, unary-with, binary-with}
 use Rattle.front_operands.specs.Told.{tagAt, leafTag, tagAfter, told}
+use Rattle.spec_semantics.proofs.Typed.{fits-type, given-some, given2-some, named-below}
 
 -- WHATEVER STOOD IN THE PLACE OF THE TYPES
 
@@ -65,7 +63,8 @@ type-at (s ∷ ts) [] k t e h = absurd (let z : _≡_ {A = ℕ} 0 1 = cc in omeg
 type-at (s ∷ ts) (x ∷ l) zero t e h = let a : x ≡ typeByte s = cc in let b : s ≡ t = cc in a ∙ ap typeByte b
 type-at (s ∷ ts) (x ∷ l) (suc k) t e h = let a : take (length ts) l ≡ map typeByte ts = cc in type-at ts l k t a h
 
-name-tag : (ts : List Ty) (l : List ℕ) (k : ℕ) (u : ExprTy) → length ts ≤ VARIABLES → take (length ts) l ≡ map typeByte ts → plainly (nth ts k) ≡ some u → tagAt l k ≡ tagOr (plainly (nth ts k))
+name-tag : (ts : List Ty) (l : List ℕ) (k : ℕ) (u : ExprTy) → length ts ≤ VARIABLES → take (length ts) l ≡ map typeByte ts → plainly (nth ts k) ≡ some u
+    → tagAt l k ≡ tagOr (plainly (nth ts k))
 unfolding plainly
 name-tag ts l k u n e h = let b = named-below ts k u h in rw (lt-ltb k 32 (omega arith)) (go (nth ts k) refl h)
   where
@@ -99,17 +98,20 @@ module _ (is vs : List Ty) (ti tv : List ℕ) (ni : length is ≤ VARIABLES) (nv
   unfolding told tagAfter
   binary-told o s u k x y e f g c = rw (e, binary-with (tagOf s) o (pos (tagOf s)), binary-operands o, binary-result o s u g, rw f at c)
 
-  leaf-told : (l : Leaf) (t : ℕ) (k : List Op) (u : ExprTy) → leafType is vs l ≡ some u → told ti tv (tagOr (leafType is vs l)) k ≡ k → told ti tv t (leafOp l ∷ k) ≡ leafOp l ∷ k
+  leaf-told : (l : Leaf) (t : ℕ) (k : List Op) (u : ExprTy) → leafType is vs l ≡ some u → told ti tv (tagOr (leafType is vs l)) k ≡ k
+      → told ti tv t (leafOp l ∷ k) ≡ leafOp l ∷ k
   unfolding told
   leaf-told l t k u h c = rw (leaf-with t l, leaf-tag l t u h, c)
 
   -- the number of the type of what ends before the next operation is the state
-  told-steps : Steps leafOp unaryOp binaryOp (λ (e : Expr) (t : ℕ). (u : ExprTy) × (typeOf is vs e ≡ some u)) (λ (e : Expr) (t : ℕ). tagOr (typeOf is vs e)) (λ (k : List Op) (t : ℕ). told ti tv t k ≡ k)
+  told-steps : Steps leafOp unaryOp binaryOp (λ (e : Expr) (t : ℕ). (u : ExprTy) × (typeOf is vs e ≡ some u)) (λ (e : Expr) (t : ℕ). tagOr (typeOf is vs e))
+      (λ (k : List Op) (t : ℕ). told ti tv t k ≡ k)
   unfolding typeOf
   told-steps =
       record {
         leaf = λ l t k f c. leaf-told l t k (f .0) (f .1) c;
-        unary = λ o s a t k f. let p = given-some (unaryType o) s (f .0) (typeOf is vs a) (f .1) in ((s, p .0), λ c. unary-told o s (f .0) k (typeOf is vs a) _ (p .0) (f .1) (p .1) c);
+        unary = λ o s a t k f. let p = given-some (unaryType o) s (f .0) (typeOf is vs a) (f .1) in
+            ((s, p .0), λ c. unary-told o s (f .0) k (typeOf is vs a) _ (p .0) (f .1) (p .1) c);
         binary = λ o s a b t k f.
             let p = given2-some (binaryType o) s (f .0) (typeOf is vs a) (typeOf is vs b) (f .1) in
             ((s, p .0), (s, p .1), λ c. binary-told o s (f .0) k (typeOf is vs b) _ (p .1) (f .1) (p .2) c);
@@ -147,15 +149,19 @@ module _ (is vs : List Ty) (ti tv : List ℕ) (ni : length is ≤ VARIABLES) (nv
   stmt-stays os (act S.null) h k c = c
   stmt-stays os wait h k c = c
   stmt-stays os (if-then e a) h k c =
-      inside e (some boolean) (and-first (fits is vs e (some boolean)) (typed is os vs a) h) (entryOps (entries a)) k (stmt-stays os a (and-second (fits is vs e (some boolean)) (typed is os vs a) h) k c)
+      inside e (some boolean) (and-first (fits is vs e (some boolean)) (typed is os vs a) h) (entryOps (entries a)) k
+      (stmt-stays os a (and-second (fits is vs e (some boolean)) (typed is os vs a) h) k c)
   stmt-stays os (if-else e a b) h k c =
       let r = and-second (fits is vs e (some boolean)) (typed is os vs a && typed is os vs b) h in
       inside e (some boolean) (and-first (fits is vs e (some boolean)) (typed is os vs a && typed is os vs b) h) (entryOps (entries a ++ entries b)) k
-      (both a b k (stmt-stays os a (and-first (typed is os vs a) (typed is os vs b) r) (entryOps (entries b) ++ k) (stmt-stays os b (and-second (typed is os vs a) (typed is os vs b) r) k c)))
+      (both a b k (stmt-stays os a (and-first (typed is os vs a) (typed is os vs b) r) (entryOps (entries b) ++ k)
+      (stmt-stays os b (and-second (typed is os vs a) (typed is os vs b) r) k c)))
   stmt-stays os (while e b) h k c =
-      inside e (some boolean) (and-first (fits is vs e (some boolean)) (typed is os vs b) h) (entryOps (entries b)) k (stmt-stays os b (and-second (fits is vs e (some boolean)) (typed is os vs b) h) k c)
+      inside e (some boolean) (and-first (fits is vs e (some boolean)) (typed is os vs b) h) (entryOps (entries b)) k
+      (stmt-stays os b (and-second (fits is vs e (some boolean)) (typed is os vs b) h) k c)
   stmt-stays os (seq a b) h k c =
-      both a b k (stmt-stays os a (and-first (typed is os vs a) (typed is os vs b) h) (entryOps (entries b) ++ k) (stmt-stays os b (and-second (typed is os vs a) (typed is os vs b) h) k c))
+      both a b k (stmt-stays os a (and-first (typed is os vs a) (typed is os vs b) h) (entryOps (entries b) ++ k)
+      (stmt-stays os b (and-second (typed is os vs a) (typed is os vs b) h) k c))
 
   -- the operations of a well-typed statement are told right, from whatever type on
   pub told-right : (os : List Ty) (s : Stmt) → typed is os vs s ≡ true → (t : ℕ) → told ti tv t (map bareOp (entryOps (entries s))) ≡ entryOps (entries s)

@@ -6,7 +6,7 @@ use mathlib.Core.List.{List, [], _∷_, map}
 use Prim.Native.Nat.{ℕ}
 use lib.Dec.{eqb, ltb}
 use lib.ListN.{length, getD}
-use lib.IntN.{ℤ, pos}
+use lib.IntN.{ℤ}
 use Rattle.spec_design.specs.Types.{std-logic, integer, typeByte}
 use Rattle.spec_design.specs.Process.{Process, WellFormed, sourceTypes, slotTypes}
 use Rattle.base_codes.specs.Limit.{TEXT, VARIABLES}
@@ -24,7 +24,8 @@ tagAt l k = cond (ltb k VARIABLES) (getD l k 0) NONE
 -- of a literal's or a name's
 unfoldable pub leafTag : List ℕ → List ℕ → ℕ → ℤ → ℕ
 leafTag is vs c z =
-    cond (eqb c INTEGER) (typeByte integer) (cond (eqb c STD-LOGIC) (typeByte std-logic) (cond (eqb c INPUT) (tagAt is (unsigned32 z)) (cond (eqb c VARIABLE) (tagAt vs (unsigned32 z)) NONE)))
+    cond (eqb c INTEGER) (typeByte integer) (cond (eqb c STD-LOGIC) (typeByte std-logic)
+    (cond (eqb c INPUT) (tagAt is (unsigned32 z)) (cond (eqb c VARIABLE) (tagAt vs (unsigned32 z)) NONE)))
 
 -- of what ends at an operation, where t is that of what ends before it
 unfoldable pub tagAfter : List ℕ → List ℕ → Op → ℕ → ℕ

@@ -4,174 +4,280 @@ use mathlib.Core.Bool.{Bool, true, false}
 use mathlib.Core.List.{List, [], _∷_, _++_}
 use Prim.Native.Nat.{ℕ, _+_, _≤_}
 use native.Mathlib.Omega.{arith}
+use Rattle.base_codes.specs.Token.{NAME, LP, RP, SEMI, ENTITY, IS, PORT, END, ARCHITECTURE, OF, BEGIN, PROCESS}
 use Rattle.spec_grammar.specs.Token.{Token}
 use Rattle.spec_grammar.specs.Grammar.{NonTerminal, ports, vars, body, Says, Sym, nt, tok, Fun}
-use Rattle.front_cursor.specs.declared.Pos.{Pos}
-use Rattle.front_cursor.specs.Tokens.{tokenAt, Holds}
-use Rattle.front_cursor.specs.Reading.{from, Asks}
-use Rattle.front_cursor.proofs.Steps.{from-same}
-use Rattle.front_declarations.specs.declared.Head.{Head}
-use Rattle.front_declarations.specs.Heads.{headingOf, cursorOf, headAt, fromHead, AsksHead}
-use Rattle.front_declarations.specs.Rows.{declarations}
+use Rattle.front_cursor.specs.declared.Cursor.{Cursor}
+use Rattle.front_layout.specs.Tokens.{tokenAt, Holds}
+use Rattle.front_cursor.specs.Reading.{from, Asks, expectOne}
+use Rattle.front_cursor.proofs.Steps.{asks-then}
+use Rattle.front_declarations.specs.declared.Header.{Header}
+use Rattle.front_declarations.specs.Headers.{headingOf, headerAt, fromHeader, AsksHeader}
+use Rattle.front_layout.specs.Headings.{groupsNames}
 use Rattle.front_declarations.specs.Readers.{AsksGroup, PortsOver, VariablesOver}
-use Rattle.front_declarations.proofs.Steps.{fine, asks-head}
-use Rattle.front_statements.specs.declared.Place.{Place}
-use Rattle.front_statements.specs.Entries.{bodyEntries}
-use Rattle.front_statements.specs.Rows.{Output, WroteLines}
-use Rattle.front_statements.specs.Places.{AsksPlace}
+use Rattle.front_declarations.proofs.Steps.{fine, cursor-asks, asks-header}
+use Rattle.front_statements.specs.declared.Listing.{Listing}
+use Rattle.front_layout.specs.Entries.{bodyEntries}
+use Rattle.front_layout.specs.Rows.{Output, WroteLines}
+use Rattle.front_statements.specs.Listings.{listing, AsksListing}
 use Rattle.front_statements.specs.Readers.{ReadsLinesOver}
-use Rattle.front_statements.proofs.Steps.{asks-place}
-use Rattle.front_parser.specs.Runs.{start, headOf, placeOf, placeAt, expectOne, expectAll, positive, toks, feed}
+use Rattle.front_statements.proofs.Steps as statements
+use Rattle.front_parser.specs.Runs.{start, headingAt, expectAll, positive, toks, feed}
 use Rattle.front_parser.specs.Parts.{entityKinds, entityEndKinds, architectureKinds, endKinds, EntityOver, ArchitectureOver, ProcessOver}
 use Rattle.front_parser.proofs.RunLaws.{Ran, ran-eq, all-taken}
 
-pub start-asks : {n : ℕ} → n ≤ 16384 → Asks n start
-start-asks h = record { short = h; inside = omega arith; room = omega arith; few = omega arith }
-
-pub head-cursor : {n : ℕ} {p : Head} → AsksHead n p → Asks n (cursorOf p)
-head-cursor a = record { short = a .short; inside = a .inside; room = omega arith; few = omega arith }
+pub start-asks : {n : ℕ} {q : Cursor} → n ≤ 16384 → q ≡ start → Asks n q
+start-asks {n} h e = subst (λ (q : Cursor). Asks n q) (sym e) (record { short = h; inside = omega arith; room = omega arith; few = omega arith })
 
 -- a run of tokens at a place of the heading
-pub run-head : {n : ℕ} {ks : List ℕ} {p : Head} {q : Pos} → AsksHead n p → Ran n ks (cursorOf p) q → AsksHead n (headAt q p)
-run-head a r = let m = r .moves in record { short = a .short; inside = omega arith; waiting = omega arith; inputs = a .inputs; outputs = a .outputs; vars = a .vars }
+pub run-header : {n : ℕ} {ks : List ℕ} {p : Header} {q : Cursor} → AsksHeader n p → Ran n ks (p .cursor) q → AsksHeader n (headerAt q p)
+run-header a r = let m = r .moves in let w = r .wrote in
+    record {
+      short = a .short;
+      inside = m .inside;
+      room = omega arith;
+      few = m .few;
+      waiting = omega arith;
+      inputs = a .inputs;
+      outputs = a .outputs;
+      vars = a .vars;
+    }
 
-pub head-of-asks : {n : ℕ} {ks : List ℕ} {q : Pos} → n ≤ 16384 → Ran n ks start q → AsksHead n (headOf q)
-head-of-asks h r = let m = r .moves in record { short = h; inside = omega arith; waiting = omega arith; inputs = omega arith; outputs = omega arith; vars = omega arith }
+pub run-header-at : {n : ℕ} {ks : List ℕ} {p r : Header} {q : Cursor} → AsksHeader n p → Ran n ks (p .cursor) q → r ≡ headerAt q p → AsksHeader n r
+run-header-at {n} a r e = subst (λ (v : Header). AsksHeader n v) (sym e) (run-header a r)
 
-pub run-head-at : {n : ℕ} {ks : List ℕ} {p r : Head} {q : Pos} → AsksHead n p → Ran n ks (cursorOf p) q → r ≡ headAt q p → AsksHead n r
-run-head-at {n} a r e = subst (λ (v : Head). AsksHead n v) (sym e) (run-head a r)
+heading-asks : {n : ℕ} {q : Cursor} → Asks n q → AsksHeader n (headingAt q)
+heading-asks a = record {
+  short = a .short;
+  inside = a .inside;
+  room = a .room;
+  few = a .few;
+  waiting = omega arith;
+  inputs = omega arith;
+  outputs = omega arith;
+  vars = omega arith;
+}
 
-pub group-of : {n : ℕ} {ks : List ℕ} {q : Pos} {h : Head} → n ≤ 16384 → h ≡ headOf q → Ran n ks start q → AsksGroup n h
-group-of {n} {ks} {q} {h} l e r = subst (λ (v : Head). AsksGroup n v) (sym e) (record { asks = head-of-asks l r; none = λ z. refl })
+pub group-of : {n : ℕ} {q : Cursor} {h : Header} → h ≡ headingAt q → Asks n q → AsksGroup n h
+group-of {n} e a = subst (λ (v : Header). AsksGroup n v) (sym e) (record { asks = heading-asks a; none = λ z. refl })
 
 -- the grammar's reader over a run in the heading
-run-at : {ts : List Token} {kinds long : List ℕ} {n : ℕ} → Holds ts kinds long n → (ks : List ℕ) → positive ks ≡ true → {p : Head} {c : Pos} (b : Bool) → AsksHead n p → c ≡ expectAll kinds long n ks (cursorOf p) → (S : NonTerminal) (γ : List Sym) (κ : Fun (toks ks ++ γ) (Says S))
-    → fromHead ts S b p (toks ks ++ γ) κ ≡ fromHead ts S b (headAt c p) γ (feed ts (p .at) S γ ks κ)
-run-at {ts} {kinds} {long} {n} holds ks pos {p} {c} b a e S γ κ =
-    all-taken holds S 0 1 (headingOf b p) (fine b a) ks pos (cursorOf p) (head-cursor a) γ κ
-    ∙ (ap (λ (v : Pos). from ts S 0 1 (headingOf b p) v 0 γ (feed ts (p .at) S γ ks κ)) (sym e)
-    ∙ from-same ts S 0 1 (headingOf b p) c (cursorOf (headAt c p)) 0 γ (feed ts (p .at) S γ ks κ) refl refl (ran-eq kinds long e pos (head-cursor a) .items))
+run-at : {ts : List Token} {kinds long : List ℕ} {n : ℕ} → Holds ts kinds long n → (ks : List ℕ) → positive ks ≡ true → {p : Header} {c : Cursor} (b : Bool)
+    → AsksHeader n p → c ≡ expectAll kinds long n ks (p .cursor) → (S : NonTerminal) (γ : List Sym) (κ : Fun (toks ks ++ γ) (Says S))
+    → fromHeader ts S b p (toks ks ++ γ) κ ≡ fromHeader ts S b (headerAt c p) γ (feed ts (p .cursor .at) S γ ks κ)
+run-at {ts} holds ks pos {p} {c} b a e S γ κ =
+    all-taken holds S 0 1 (headingOf b p) (fine b a) ks pos (p .cursor) (cursor-asks a) γ κ
+    ∙ ap (λ (v : Cursor). from ts S 0 1 (headingOf b p) v 0 γ (feed ts (p .cursor .at) S γ ks κ)) (sym e)
 
-pub entity-read : {kinds long : List ℕ} {n : ℕ} {a c q : Pos} {h b r : Head} {before after : List ℕ} → n ≤ 16384 → a ≡ expectAll kinds long n entityKinds start → h ≡ headOf a → PortsOver ports declarations kinds long n h before b after
-    → q ≡ cursorOf b → c ≡ expectAll kinds long n entityEndKinds q → r ≡ headAt c b → EntityOver kinds long n before r after
-entity-read {kinds} {long} {n} {a} {c} {q} {h} {b} {r} {before} {after} short ea eh v0 eq ec er = rw er (record {
-  asks = run-head b-asks cr;
-  far = λ z. let e = cr .end z in omega arith;
+pub entity-read : {kinds long : List ℕ} {n : ℕ} {z a b c e f : Cursor} {h d r : Header} {before after : List ℕ} → n ≤ 16384 → z ≡ start
+    → a ≡ expectOne kinds long n ENTITY z → b ≡ expectAll kinds long n (NAME ∷ IS ∷ []) a → c ≡ expectAll kinds long n (PORT ∷ LP ∷ []) b
+    → h ≡ headingAt c → PortsOver ports groupsNames kinds long n h before d after → e ≡ expectAll kinds long n (RP ∷ SEMI ∷ END ∷ []) (d .cursor)
+    → f ≡ expectAll kinds long n (NAME ∷ SEMI ∷ []) e → r ≡ headerAt f d
+    → EntityOver kinds long n before (record { header = r; name = a .at; end = e .at }) after
+unfolding expectAll
+entity-read {kinds} {long} {n} {z} {a} {b} {c} {e} {f} {h} {d} {r} {before} {after} short ez ea eb ec eh v0 ee ef er = rw er (record {
+  asks = run-header d-asks fr;
+  none = fr .wrote ∙ (v .moves .wrote ∙ cr .wrote);
   reads = λ ts holds.
       let x = v .reads ts holds in
       record {
         groups = x .value;
-        at = b .at;
-        end = λ z. cr .end z;
+        at = d .cursor .at;
+        named = λ w.
+            let we = lr .moves .began w in
+            let g = ar .end (tr .moves .began (v .moves .began (kr .moves .began we))) in
+            (g, kr .end we);
         goes = λ S γ κ o.
-            run-at holds entityKinds refl {p = headOf start} false zero-asks ea S (nt ports ∷ (toks entityEndKinds ++ γ)) κ
+            run-at holds entityKinds refl {p = headingAt start} false (heading-asks z-asks) ec′ S (nt ports ∷ (toks entityEndKinds ++ γ)) κ
             ∙ (x .goes S (toks entityEndKinds ++ γ) (feed ts 0 S (nt ports ∷ (toks entityEndKinds ++ γ)) entityKinds κ) o
-            ∙ run-at holds entityEndKinds refl false b-asks ec′ S γ (feed ts 0 S (nt ports ∷ (toks entityEndKinds ++ γ)) entityKinds κ (x .value)));
-        wrote = λ z. x .wrote (cr .moves .began z);
+            ∙ run-at holds entityEndKinds refl false d-asks ef′ S γ (feed ts 0 S (nt ports ∷ (toks entityEndKinds ++ γ)) entityKinds κ (x .value)));
+        wrote = λ w. x .wrote (fr .moves .began w);
       };
 })
   where
-    zero-asks : AsksHead n (headOf start)
-    zero-asks = record { short = short; inside = omega arith; waiting = omega arith; inputs = omega arith; outputs = omega arith; vars = omega arith }
+    z-asks : Asks n start
+    z-asks = start-asks short refl
 
-    v : PortsOver ports declarations kinds long n (headOf a) before b after
-    v = subst (λ (x : Head). PortsOver ports declarations kinds long n x before b after) eh v0
+    ea′ : a ≡ expectAll kinds long n (ENTITY ∷ []) start
+    ea′ = ea ∙ ap (expectOne kinds long n ENTITY) ez
 
-    ar : Ran n entityKinds start a
-    ar = ran-eq kinds long ea refl (start-asks short)
+    et : c ≡ expectAll kinds long n (NAME ∷ IS ∷ PORT ∷ LP ∷ []) a
+    et = ec ∙ ap (expectAll kinds long n (PORT ∷ LP ∷ [])) eb
 
-    b-asks : AsksHead n b
-    b-asks = asks-head (head-of-asks short ar) (v .moves)
+    ec′ : c ≡ expectAll kinds long n entityKinds start
+    ec′ = et ∙ ap (expectAll kinds long n (NAME ∷ IS ∷ PORT ∷ LP ∷ [])) ea′
 
-    ec′ : c ≡ expectAll kinds long n entityEndKinds (cursorOf b)
-    ec′ = ec ∙ ap (expectAll kinds long n entityEndKinds) eq
+    ar : Ran n (ENTITY ∷ []) start a
+    ar = ran-eq kinds long ea′ refl z-asks
 
-    cr : Ran n entityEndKinds (cursorOf b) c
-    cr = ran-eq kinds long ec′ refl (head-cursor b-asks)
+    a-asks : Asks n a
+    a-asks = asks-then z-asks (ar .moves)
 
-pub architecture-read : {kinds long : List ℕ} {n : ℕ} {a c q q′ : Pos} {p h b r : Head} {before after : List ℕ} → AsksHead n p → q ≡ cursorOf p → a ≡ expectAll kinds long n architectureKinds q → h ≡ headAt a p → VariablesOver kinds long n h before b after
-    → q′ ≡ cursorOf b → c ≡ expectOne kinds long n 29 q′ → r ≡ headAt c b → ArchitectureOver kinds long n p before r after
+    tr : Ran n (NAME ∷ IS ∷ PORT ∷ LP ∷ []) a c
+    tr = ran-eq kinds long et refl a-asks
+
+    cr : Ran n entityKinds start c
+    cr = ran-eq kinds long ec′ refl z-asks
+
+    c-asks : Asks n c
+    c-asks = asks-then z-asks (cr .moves)
+
+    v : PortsOver ports groupsNames kinds long n (headingAt c) before d after
+    v = subst (λ (x : Header). PortsOver ports groupsNames kinds long n x before d after) eh v0
+
+    d-asks : AsksHeader n d
+    d-asks = asks-header (heading-asks c-asks) (v .moves)
+
+    kr : Ran n (RP ∷ SEMI ∷ END ∷ []) (d .cursor) e
+    kr = ran-eq kinds long ee refl (cursor-asks d-asks)
+
+    e-asks : Asks n e
+    e-asks = cursor-asks (run-header d-asks kr)
+
+    lr : Ran n (NAME ∷ SEMI ∷ []) e f
+    lr = ran-eq kinds long ef refl e-asks
+
+    ef′ : f ≡ expectAll kinds long n entityEndKinds (d .cursor)
+    ef′ = ef ∙ ap (expectAll kinds long n (NAME ∷ SEMI ∷ [])) ee
+
+    fr : Ran n entityEndKinds (d .cursor) f
+    fr = ran-eq kinds long ef′ refl (cursor-asks d-asks)
+
+-- `architecture A of E is begin process`: where the variables begin
+words-all : (kinds long : List ℕ) (n : ℕ) (q : Cursor) {a b c d : Cursor} → a ≡ expectOne kinds long n ARCHITECTURE q
+    → b ≡ expectAll kinds long n (NAME ∷ OF ∷ []) a → c ≡ expectAll kinds long n (NAME ∷ IS ∷ BEGIN ∷ []) b → d ≡ expectOne kinds long n PROCESS c
+    → d ≡ expectAll kinds long n architectureKinds q
 unfolding expectAll
-architecture-read {kinds} {long} {n} {a} {c} {q} {q′} {p} {h} {b} {r} {before} {after} p-asks eq ea eh v0 eq′ ec er = rw er (record {
-  asks = run-head b-asks cr;
-  on = let x = ar .moves in let y = v .moves in let z = cr .moves in omega arith;
-  began = λ z. ar .moves .began (v .moves .began (cr .moves .began z));
+words-all kinds long n q ea eb ec ed = ed
+    ∙ ap (expectOne kinds long n PROCESS) (ec ∙ ap (expectAll kinds long n (NAME ∷ IS ∷ BEGIN ∷ [])) (eb ∙ ap (expectAll kinds long n (NAME ∷ OF ∷ [])) ea))
+
+pub words-asks : (kinds long : List ℕ) {n : ℕ} {a b c d : Cursor} {p h : Header} → AsksHeader n p → a ≡ expectOne kinds long n ARCHITECTURE (p .cursor)
+    → b ≡ expectAll kinds long n (NAME ∷ OF ∷ []) a → c ≡ expectAll kinds long n (NAME ∷ IS ∷ BEGIN ∷ []) b
+    → d ≡ expectOne kinds long n PROCESS c → h ≡ headerAt d p → AsksHeader n h
+words-asks kinds long {n} {p = p} p-asks ea eb ec ed eh =
+    run-header-at p-asks (ran-eq kinds long {ks = architectureKinds} (words-all kinds long n (p .cursor) ea eb ec ed) refl (cursor-asks p-asks)) eh
+
+pub architecture-read : {kinds long : List ℕ} {n : ℕ} {a b c d f : Cursor} {p h e r : Header} {before after : List ℕ} → AsksHeader n p
+    → a ≡ expectOne kinds long n ARCHITECTURE (p .cursor) → b ≡ expectAll kinds long n (NAME ∷ OF ∷ []) a
+    → c ≡ expectAll kinds long n (NAME ∷ IS ∷ BEGIN ∷ []) b → d ≡ expectOne kinds long n PROCESS c → h ≡ headerAt d p
+    → VariablesOver kinds long n h before e after → f ≡ expectOne kinds long n BEGIN (e .cursor) → r ≡ headerAt f e
+    → ArchitectureOver kinds long n p before (record { header = r; name = a .at; of = b .at; process = c .at }) after
+unfolding expectAll
+architecture-read {kinds} {long} {n} {a} {b} {c} {d} {f} {p} {h} {e} {r} {before} {after} p-asks ea eb ec ed eh v0 ef er = rw er (record {
+  asks = run-header e-asks fr;
+  none = fr .wrote ∙ (v .moves .wrote ∙ dr .wrote);
+  began = λ w. dr .moves .began (v .moves .began (fr .moves .began w));
+  named = λ w.
+      let wc = wr .moves .began (v .moves .began (fr .moves .began w)) in
+      let wb = cr .moves .began wc in
+      let x = ar .end (br .moves .began wb) in
+      let y = br .end wb in
+      let z = cr .end wc in
+      (x, (omega arith), (omega arith));
   reads = λ ts holds.
       let x = v .reads ts holds in
       let y = x .reads in
       record {
         flag = x .flag;
         groups = y .value;
-        begin = tokenAt ts (b .at);
+        begin = tokenAt ts (e .cursor .at);
         goes = λ S γ κ o.
-            run-at holds architectureKinds refl false p-asks ea′ S (nt vars ∷ tok 29 ∷ γ) κ
-            ∙ (y .goes S (tok 29 ∷ γ) (feed ts (p .at) S (nt vars ∷ tok 29 ∷ γ) architectureKinds κ) o
-            ∙ run-at holds (29 ∷ []) refl (x .flag) b-asks ec′ S γ (feed ts (p .at) S (nt vars ∷ tok 29 ∷ γ) architectureKinds κ (y .value)));
-        wrote = λ z. y .wrote (cr .moves .began z);
+            run-at holds architectureKinds refl false p-asks ed′ S (nt vars ∷ tok 29 ∷ γ) κ
+            ∙ (y .goes S (tok 29 ∷ γ) (feed ts (p .cursor .at) S (nt vars ∷ tok 29 ∷ γ) architectureKinds κ) o
+            ∙ run-at holds (29 ∷ []) refl (x .flag) e-asks ef S γ (feed ts (p .cursor .at) S (nt vars ∷ tok 29 ∷ γ) architectureKinds κ (y .value)));
+        wrote = λ w. y .wrote (fr .moves .began w);
       };
 })
   where
-    ea′ : a ≡ expectAll kinds long n architectureKinds (cursorOf p)
-    ea′ = ea ∙ ap (expectAll kinds long n architectureKinds) eq
+    ar : Ran n (ARCHITECTURE ∷ []) (p .cursor) a
+    ar = ran-eq kinds long ea refl (cursor-asks p-asks)
 
-    ar : Ran n architectureKinds (cursorOf p) a
-    ar = ran-eq kinds long ea′ refl (head-cursor p-asks)
+    a-asks : Asks n a
+    a-asks = cursor-asks (run-header p-asks ar)
 
-    v : VariablesOver kinds long n (headAt a p) before b after
-    v = subst (λ (x : Head). VariablesOver kinds long n x before b after) eh v0
+    br : Ran n (NAME ∷ OF ∷ []) a b
+    br = ran-eq kinds long eb refl a-asks
 
-    b-asks : AsksHead n b
-    b-asks = asks-head (run-head p-asks ar) (v .moves)
+    b-asks : Asks n b
+    b-asks = asks-then a-asks (br .moves)
 
-    ec′ : c ≡ expectAll kinds long n (29 ∷ []) (cursorOf b)
-    ec′ = ec ∙ ap (expectOne kinds long n 29) eq′
+    cr : Ran n (NAME ∷ IS ∷ BEGIN ∷ []) b c
+    cr = ran-eq kinds long ec refl b-asks
 
-    cr : Ran n (29 ∷ []) (cursorOf b) c
-    cr = ran-eq kinds long ec′ refl (head-cursor b-asks)
+    c-asks : Asks n c
+    c-asks = asks-then b-asks (cr .moves)
 
--- the cursor of a place among the statements
-abbrev pub placeCursor : Place → Pos
-placeCursor p = record { fault = p .fault; at = p .at; items = p .items; n = p .n }
+    wr : Ran n (PROCESS ∷ []) c d
+    wr = ran-eq kinds long ed refl c-asks
 
-pub place-of-asks : {n : ℕ} {p : Head} → AsksHead n p → AsksPlace n (placeOf p)
-place-of-asks a = record { short = a .short; inside = a .inside; room = omega arith; few = omega arith; statements = omega arith }
+    ed′ : d ≡ expectAll kinds long n architectureKinds (p .cursor)
+    ed′ = words-all kinds long n (p .cursor) ea eb ec ed
 
-pub place-asks : {n : ℕ} {p : Head} {h : Place} → AsksHead n p → h ≡ placeOf p → AsksPlace n h
-place-asks {n} a e = subst (λ (v : Place). AsksPlace n v) (sym e) (place-of-asks a)
+    dr : Ran n architectureKinds (p .cursor) d
+    dr = ran-eq kinds long ed′ refl (cursor-asks p-asks)
 
-pub place-cursor : {n : ℕ} {p : Place} → AsksPlace n p → Asks n (placeCursor p)
-place-cursor a = record { short = a .short; inside = a .inside; room = a .room; few = a .few }
+    v : VariablesOver kinds long n (headerAt d p) before e after
+    v = subst (λ (x : Header). VariablesOver kinds long n x before e after) eh v0
 
-pub process-read : {kinds long : List ℕ} {n : ℕ} {p : Head} {h a r : Place} {q b : Pos} {before after : Output} → AsksHead n p → h ≡ placeOf p → ReadsLinesOver body bodyEntries kinds long n h 1 before a after → q ≡ placeCursor a → b ≡ expectAll kinds long n endKinds q → r ≡ placeAt b a
-    → ProcessOver kinds long n p before r after
-process-read {kinds} {long} {n} {p} {h} {a} {r} {q} {b} {before} {after} p-asks eh v0 eq eb er = rw er (record {
-  inside = br .moves .inside;
-  room = (let w = br .wrote in let g = v .moves .room in let i = v .moves .inside in omega arith);
+    e-asks : AsksHeader n e
+    e-asks = asks-header (run-header p-asks dr) (v .moves)
+
+    fr : Ran n (29 ∷ []) (e .cursor) f
+    fr = ran-eq kinds long ef refl (cursor-asks e-asks)
+
+-- the first statement begins where the heading ends
+pub first-asks : {n : ℕ} {p : Header} → AsksHeader n p → AsksListing n (listing (p .cursor) 0)
+first-asks a = record { short = a .short; inside = a .inside; room = a .room; few = a .few; statements = omega arith }
+
+pub process-read : {kinds long : List ℕ} {n : ℕ} {p : Header} {a : Listing} {b c d : Cursor} {before after : Output} → AsksHeader n p → p .cursor .written ≡ 0
+    → ReadsLinesOver body bodyEntries kinds long n (listing (p .cursor) 0) 1 before a after
+    → b ≡ expectAll kinds long n (END ∷ PROCESS ∷ SEMI ∷ []) (a .cursor) → c ≡ expectOne kinds long n END b → d ≡ expectAll kinds long n (NAME ∷ SEMI ∷ []) c
+    → ProcessOver kinds long n p before (record { listing = listing d (a .statements); end = c .at }) after
+unfolding expectAll
+process-read {kinds} {long} {n} {p} {a} {b} {c} {d} {before} {after} p-asks none v eb ec ed = record {
+  inside = dr .moves .inside;
+  room = (let w = dr .wrote in let g = v .moves .room in let i = v .moves .inside in omega arith);
   few = v .moves .statements;
-  far = λ z. let e = br .end z in omega arith;
-  began = λ z. v .moves .began (br .moves .began z);
+  began = λ w. v .moves .began (dr .moves .began w);
   reads = λ ts holds.
       let x = v .reads ts holds in
       record {
         value = x .value;
-        at = a .at;
-        end = λ z. br .end z;
+        at = a .cursor .at;
+        named = λ w. let wc = lr .moves .began w in let y = cr .end wc in let z = br .end (cr .moves .began wc) in omega arith;
         goes = λ flag S γ κ o.
             x .goes S (headingOf flag p) (record { inputs = p-asks .inputs; outputs = p-asks .outputs; vars = p-asks .vars }) (toks endKinds ++ γ) κ o
-            ∙ (all-taken holds S (a .s) 1 (headingOf flag p) (record { statements = a-asks .statements; inputs = p-asks .inputs; outputs = p-asks .outputs; vars = p-asks .vars }) endKinds refl (placeCursor a) (place-cursor a-asks) γ (κ (x .value))
-            ∙ ap (λ (u : Pos). from ts S (a .s) 1 (headingOf flag p) u 0 γ (feed ts (a .at) S γ endKinds (κ (x .value)))) (sym eb′));
-        wrote = λ z. subst (λ (m : ℕ). WroteLines ts 0 0 m (a .s) before after (bodyEntries (x .value))) (sym (br .wrote)) (x .wrote (br .moves .began z));
+            ∙ (all-taken holds S (a .statements) 1 (headingOf flag p)
+            (record { statements = a-asks .statements; inputs = p-asks .inputs; outputs = p-asks .outputs; vars = p-asks .vars }) endKinds refl (a .cursor)
+            (statements.cursor-asks a-asks) γ (κ (x .value))
+            ∙ ap (λ (u : Cursor). from ts S (a .statements) 1 (headingOf flag p) u 0 γ (feed ts (a .cursor .at) S γ endKinds (κ (x .value)))) (sym ed′));
+        wrote = λ w.
+            subst (λ (m : ℕ). WroteLines ts m 0 (d .written) (a .statements) before after (bodyEntries (x .value))) none
+            (subst (λ (m : ℕ). WroteLines ts (p .cursor .written) 0 m (a .statements) before after (bodyEntries (x .value))) (sym (dr .wrote))
+            (x .wrote (dr .moves .began w)));
       };
-})
+}
   where
-    v : ReadsLinesOver body bodyEntries kinds long n (placeOf p) 1 before a after
-    v = subst (λ (x : Place). ReadsLinesOver body bodyEntries kinds long n x 1 before a after) eh v0
+    a-asks : AsksListing n a
+    a-asks = statements.asks-listing (first-asks p-asks) (v .moves)
 
-    a-asks : AsksPlace n a
-    a-asks = asks-place (place-of-asks p-asks) (v .moves)
+    br : Ran n (END ∷ PROCESS ∷ SEMI ∷ []) (a .cursor) b
+    br = ran-eq kinds long eb refl (statements.cursor-asks a-asks)
 
-    eb′ : b ≡ expectAll kinds long n endKinds (placeCursor a)
-    eb′ = eb ∙ ap (expectAll kinds long n endKinds) eq
+    b-asks : Asks n b
+    b-asks = asks-then (statements.cursor-asks a-asks) (br .moves)
 
-    br : Ran n endKinds (placeCursor a) b
-    br = ran-eq kinds long eb′ refl (place-cursor a-asks)
+    cr : Ran n (END ∷ []) b c
+    cr = ran-eq kinds long ec refl b-asks
+
+    c-asks : Asks n c
+    c-asks = asks-then b-asks (cr .moves)
+
+    lr : Ran n (NAME ∷ SEMI ∷ []) c d
+    lr = ran-eq kinds long ed refl c-asks
+
+    ed′ : d ≡ expectAll kinds long n endKinds (a .cursor)
+    ed′ = ed ∙ ap (expectAll kinds long n (NAME ∷ SEMI ∷ [])) (ec ∙ ap (expectOne kinds long n END) eb)
+
+    dr : Ran n endKinds (a .cursor) d
+    dr = ran-eq kinds long ed′ refl (statements.cursor-asks a-asks)

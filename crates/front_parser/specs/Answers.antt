@@ -1,17 +1,19 @@
 -- What the reader of a text answers and writes, against the grammar's answer for its tokens. Assumes nothing.
 use mathlib.Core.Path.{_≡_}
-use mathlib.Core.List.{List, _++_}
-use Prim.Native.Nat.{ℕ, _+_, _-_, _≤_, _<_}
+use mathlib.Core.List.{List}
+use Prim.Native.Nat.{ℕ, _≤_, _<_}
 use Rattle.spec_grammar.specs.Token.{Token}
 use Rattle.spec_grammar.specs.Tree.{Text}
 use Rattle.spec_grammar.specs.Acceptance.{Answer, accepted, no-sentence, past-limit}
 use Rattle.spec_grammar.specs.Reader.{answer}
-use Rattle.front_cursor.specs.Tokens.{tokenAt, Holds}
-use Rattle.front_statements.specs.declared.Place.{Place}
-use Rattle.front_statements.specs.Entries.{bodyEntries}
-use Rattle.front_statements.specs.Rows.{Output, WroteLines}
-use Rattle.front_declarations.specs.declared.Head.{Head}
-use Rattle.front_declarations.specs.Rows.{declarations, declaredBy, WroteNames}
+use Rattle.front_layout.specs.Tokens.{tokenAt, Holds}
+use Rattle.front_layout.specs.Entries.{bodyEntries}
+use Rattle.front_layout.specs.Rows.{Output, WroteLines}
+use Rattle.front_layout.specs.Headings.{headings, WroteNames}
+use Rattle.front_declarations.specs.Rows.{declaredBy}
+use Rattle.front_parser.specs.declared.EntityUnit.{EntityUnit}
+use Rattle.front_parser.specs.declared.ArchitectureUnit.{ArchitectureUnit}
+use Rattle.front_parser.specs.declared.ProcessUnit.{ProcessUnit}
 use Rattle.front_parser.specs.declared.Parsed.{Parsed}
 use Rattle.front_parser.specs.declared.Parsing.{Parsing}
 use Rattle.front_parser.specs.declared.Parsing.the-variants.{Tree, NotParsed}
@@ -25,18 +27,18 @@ pub record Lent : Type 0 where
 abbrev pub lent : Output → List ℕ → Lent
 lent o d = record { out = o; decls = d }
 
--- the numbers of a text that was read: p is where its entity ends, q where its declarations end, r where the text ends
-abbrev pub numbersOf : Head → Head → Place → Parsed
+-- the numbers of a text whose entity, architecture and process were read
+abbrev pub numbersOf : EntityUnit → ArchitectureUnit → ProcessUnit → Parsed
 numbersOf p q r = record {
-  statements = r .s;
-  items = r .n;
-  names = declaredBy q;
-  entity = 1;
-  «entity_end» = p .at - 2;
-  arch = p .at + 1;
-  «arch_of» = p .at + 3;
-  process = p .at + 6;
-  «arch_end» = r .at - 2;
+  statements = r .listing .statements;
+  items = r .listing .cursor .written;
+  names = declaredBy (q .header);
+  entity = p .name;
+  «entity_end» = p .end;
+  arch = q .name;
+  «arch_of» = q .of;
+  process = q .process;
+  «arch_end» = r .end;
 }
 
 -- a text was read as the tree t
@@ -44,7 +46,7 @@ pub record ReadAs (ts : List Token) (t : Text) (before after : Lent) (q : Parsed
   -- the statements and the items of their expressions stand in the arrays from 0 on, all else is as it was
   pub lines : WroteLines ts 0 0 (q .items) (q .statements) (before .out) (after .out) (bodyEntries (t .body))
   -- the declared names, ports and then variables, stand in their array from row 0 on, all else is as it was
-  pub names : WroteNames ts 0 (q .names) (before .decls) (after .decls) (declarations (t .ports ++ t .vars))
+  pub names : WroteNames ts 0 (q .names) (before .decls) (after .decls) (headings t)
   -- "512 statements"; no more items than tokens; "17 in ports, 16 out, 32 variables"
   pub few-statements : q .statements ≤ 512
   pub few-items : q .items ≤ 16384

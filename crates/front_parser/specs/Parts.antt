@@ -8,16 +8,19 @@ use Rattle.base_codes.specs.Token.{NAME, LP, RP, SEMI, ENTITY, IS, PORT, END, A
 use Rattle.spec_grammar.specs.Tree.{Group, Body}
 use Rattle.spec_grammar.specs.Grammar.{NonTerminal, ports, vars, body, Says, Sym, nt, tok, Fun}
 use Rattle.spec_grammar.proofs.Steps.{Ok}
-use Rattle.front_cursor.specs.Tokens.{Holds}
+use Rattle.front_layout.specs.Tokens.{Holds}
 use Rattle.front_cursor.specs.Reading.{from}
-use Rattle.front_declarations.specs.declared.Head.{Head}
-use Rattle.front_declarations.specs.Heads.{headingOf, fromHead, AsksHead}
-use Rattle.front_declarations.specs.Rows.{declarations, declaredBy, WroteNames}
-use Rattle.front_statements.specs.declared.Place.{Place}
-use Rattle.front_statements.specs.Entries.{bodyEntries}
-use Rattle.front_statements.specs.Rows.{Output, WroteLines}
-use Rattle.front_statements.specs.Places.{fromPlace}
-use Rattle.front_parser.specs.Runs.{start, headOf, toks, feed}
+use Rattle.front_declarations.specs.declared.Header.{Header}
+use Rattle.front_declarations.specs.Headers.{headingOf, fromHeader, AsksHeader}
+use Rattle.front_layout.specs.Headings.{groupsNames, WroteNames}
+use Rattle.front_declarations.specs.Rows.{declaredBy}
+use Rattle.front_layout.specs.Entries.{bodyEntries}
+use Rattle.front_layout.specs.Rows.{Output, WroteLines}
+use Rattle.front_statements.specs.Listings.{fromListing}
+use Rattle.front_parser.specs.declared.EntityUnit.{EntityUnit}
+use Rattle.front_parser.specs.declared.ArchitectureUnit.{ArchitectureUnit}
+use Rattle.front_parser.specs.declared.ProcessUnit.{ProcessUnit}
+use Rattle.front_parser.specs.Runs.{start, headingAt, toks, feed}
 
 -- "entity E is port (", ") ; end E ;"
 abbrev pub entityKinds : List ℕ
@@ -35,51 +38,53 @@ abbrev pub endKinds : List ℕ
 endKinds = END ∷ PROCESS ∷ SEMI ∷ END ∷ NAME ∷ SEMI ∷ []
 
 -- from the beginning to r the entity was read: its ports, whose rows are written, and the index of the token behind them
-pub record EntityRead (ts : List Token) (r : Head) (before after : List ℕ) : Type 0 where
+pub record EntityRead (ts : List Token) (r : EntityUnit) (before after : List ℕ) : Type 0 where
   pub groups : List Group
   pub at : ℕ
-  pub end : r .fault ≡ 0 → r .at ≡ at + 5
-  pub goes : (S : NonTerminal) (γ : List Sym) (κ : Fun (toks entityKinds ++ (nt ports ∷ (toks entityEndKinds ++ γ))) (Says S)) → Ok (nt ports ∷ (toks entityEndKinds ++ γ))
-      → from ts S 0 1 (headingOf false (headOf start)) start 0 (toks entityKinds ++ (nt ports ∷ (toks entityEndKinds ++ γ))) κ
-      ≡ fromHead ts S false r γ (feed ts at S γ entityEndKinds (feed ts 0 S (nt ports ∷ (toks entityEndKinds ++ γ)) entityKinds κ groups))
-  pub wrote : r .fault ≡ 0 → WroteNames ts 0 (declaredBy r) before after (declarations groups)
+  pub named : r .header .cursor .fault ≡ 0 → (r .name ≡ 1) × (r .end ≡ at + 3)
+  pub goes : (S : NonTerminal) (γ : List Sym) (κ : Fun (toks entityKinds ++ (nt ports ∷ (toks entityEndKinds ++ γ))) (Says S))
+      → Ok (nt ports ∷ (toks entityEndKinds ++ γ))
+      → from ts S 0 1 (headingOf false (headingAt start)) start 0 (toks entityKinds ++ (nt ports ∷ (toks entityEndKinds ++ γ))) κ
+      ≡ fromHeader ts S false (r .header) γ (feed ts at S γ entityEndKinds (feed ts 0 S (nt ports ∷ (toks entityEndKinds ++ γ)) entityKinds κ groups))
+  pub wrote : r .header .cursor .fault ≡ 0 → WroteNames ts 0 (declaredBy (r .header)) before after (groupsNames groups)
 
--- the same over the arrays, and where it ends
-pub record EntityOver (kinds long : List ℕ) (n : ℕ) (before : List ℕ) (r : Head) (after : List ℕ) : Type 0 where
-  pub asks : AsksHead n r
-  pub far : r .fault ≡ 0 → 5 ≤ r .at
+-- the same over the arrays, and where it ends; no item is written
+pub record EntityOver (kinds long : List ℕ) (n : ℕ) (before : List ℕ) (r : EntityUnit) (after : List ℕ) : Type 0 where
+  pub asks : AsksHeader n (r .header)
+  pub none : r .header .cursor .written ≡ 0
   pub reads : (ts : List Token) → Holds ts kinds long n → EntityRead ts r before after
 
 -- from p to r the architecture was read up to its second `begin`: its variables, whose rows are written
-pub record ArchitectureRead (ts : List Token) (p r : Head) (before after : List ℕ) : Type 0 where
+pub record ArchitectureRead (ts : List Token) (p : Header) (r : ArchitectureUnit) (before after : List ℕ) : Type 0 where
   pub flag : Bool
   pub groups : List Group
   pub begin : Token
   pub goes : (S : NonTerminal) (γ : List Sym) (κ : Fun (toks architectureKinds ++ (nt vars ∷ tok BEGIN ∷ γ)) (Says S)) → Ok (nt vars ∷ tok BEGIN ∷ γ)
-      → fromHead ts S false p (toks architectureKinds ++ (nt vars ∷ tok BEGIN ∷ γ)) κ ≡ fromHead ts S flag r γ (feed ts (p .at) S (nt vars ∷ tok BEGIN ∷ γ) architectureKinds κ groups begin)
-  pub wrote : r .fault ≡ 0 → WroteNames ts (declaredBy p) (declaredBy r) before after (declarations groups)
+      → fromHeader ts S false p (toks architectureKinds ++ (nt vars ∷ tok BEGIN ∷ γ)) κ ≡ fromHeader ts S flag (r .header) γ
+      (feed ts (p .cursor .at) S (nt vars ∷ tok BEGIN ∷ γ) architectureKinds κ groups begin)
+  pub wrote : r .header .cursor .fault ≡ 0 → WroteNames ts (declaredBy p) (declaredBy (r .header)) before after (groupsNames groups)
 
--- the same over the arrays, and where it ends
-pub record ArchitectureOver (kinds long : List ℕ) (n : ℕ) (p : Head) (before : List ℕ) (r : Head) (after : List ℕ) : Type 0 where
-  pub asks : AsksHead n r
-  pub on : p .at ≤ r .at
-  pub began : r .fault ≡ 0 → p .fault ≡ 0
+-- the same over the arrays, and where it ends; no item is written
+pub record ArchitectureOver (kinds long : List ℕ) (n : ℕ) (p : Header) (before : List ℕ) (r : ArchitectureUnit) (after : List ℕ) : Type 0 where
+  pub asks : AsksHeader n (r .header)
+  pub none : r .header .cursor .written ≡ p .cursor .written
+  pub began : r .header .cursor .fault ≡ 0 → p .cursor .fault ≡ 0
+  pub named : r .header .cursor .fault ≡ 0 → (r .name ≡ p .cursor .at + 1) × (r .of ≡ p .cursor .at + 3) × (r .process ≡ p .cursor .at + 6)
   pub reads : (ts : List Token) → Holds ts kinds long n → ArchitectureRead ts p r before after
 
 -- from p to r the statements were read, which are written, and what ends the text; at is the index of the token behind them
-pub record ProcessRead (ts : List Token) (p : Head) (r : Place) (before after : Output) : Type 0 where
+pub record ProcessRead (ts : List Token) (p : Header) (r : ProcessUnit) (before after : Output) : Type 0 where
   pub value : Body
   pub at : ℕ
-  pub end : r .fault ≡ 0 → r .at ≡ at + 6
+  pub named : r .listing .cursor .fault ≡ 0 → r .end ≡ at + 4
   pub goes : (flag : Bool) (S : NonTerminal) (γ : List Sym) (κ : Fun (nt body ∷ (toks endKinds ++ γ)) (Says S)) → Ok (nt body ∷ (toks endKinds ++ γ))
-      → fromHead ts S flag p (nt body ∷ (toks endKinds ++ γ)) κ ≡ fromPlace ts S 1 (headingOf flag p) r γ (feed ts at S γ endKinds (κ value))
-  pub wrote : r .fault ≡ 0 → WroteLines ts 0 0 (r .n) (r .s) before after (bodyEntries value)
+      → fromHeader ts S flag p (nt body ∷ (toks endKinds ++ γ)) κ ≡ fromListing ts S 1 (headingOf flag p) (r .listing) γ (feed ts at S γ endKinds (κ value))
+  pub wrote : r .listing .cursor .fault ≡ 0 → WroteLines ts 0 0 (r .listing .cursor .written) (r .listing .statements) before after (bodyEntries value)
 
 -- the same over the arrays, and where it ends
-pub record ProcessOver (kinds long : List ℕ) (n : ℕ) (p : Head) (before : Output) (r : Place) (after : Output) : Type 0 where
-  pub inside : r .at ≤ n
-  pub room : r .n ≤ n
-  pub few : r .s ≤ 512
-  pub far : r .fault ≡ 0 → 6 ≤ r .at
-  pub began : r .fault ≡ 0 → p .fault ≡ 0
+pub record ProcessOver (kinds long : List ℕ) (n : ℕ) (p : Header) (before : Output) (r : ProcessUnit) (after : Output) : Type 0 where
+  pub inside : r .listing .cursor .at ≤ n
+  pub room : r .listing .cursor .written ≤ n
+  pub few : r .listing .statements ≤ 512
+  pub began : r .listing .cursor .fault ≡ 0 → p .cursor .fault ≡ 0
   pub reads : (ts : List Token) → Holds ts kinds long n → ProcessRead ts p r before after

@@ -2,37 +2,24 @@
 use mathlib.Core.Bool.{Bool, true, _&&_}
 use mathlib.Core.List.{List, [], _∷_, _++_}
 use Prim.Native.Nat.{ℕ, _+_}
-use lib.Dec.{eqb, ltb}
+use lib.Dec.{ltb}
 use Rattle.spec_grammar.specs.Token.{Token}
 use Rattle.spec_grammar.specs.Grammar.{NonTerminal, Says, Sym, tok, Fun}
-use Rattle.front_cursor.specs.declared.Pos.{Pos}
-use Rattle.front_cursor.specs.Tokens.{tokenAt, kindIn, flagIn}
-use Rattle.front_cursor.specs.Reading.{expectAt}
-use Rattle.front_declarations.specs.declared.Head.{Head}
-use Rattle.front_statements.specs.declared.Place.{Place}
+use Rattle.front_cursor.specs.declared.Cursor.{Cursor}
+use Rattle.front_layout.specs.Tokens.{tokenAt}
+use Rattle.front_cursor.specs.Reading.{expectOne}
+use Rattle.front_declarations.specs.declared.Header.{Header}
 
 -- before the first token
-abbrev pub start : Pos
-start = record { fault = 0; at = 0; items = 0; n = 0 }
+abbrev pub start : Cursor
+start = record { fault = 0; at = 0; items = 0; written = 0 }
 
 -- where the cursor is, with nothing declared
-abbrev pub headOf : Pos → Head
-headOf q = record { fault = q .fault; at = q .at; waiting = 0; inputs = 0; outputs = 0; vars = 0 }
-
--- where the reader of the heading is, before the first statement
-abbrev pub placeOf : Head → Place
-placeOf p = record { fault = p .fault; at = p .at; items = 0; n = 0; s = 0 }
-
--- where the cursor is, with as many statements as before
-abbrev pub placeAt : Pos → Place → Place
-placeAt q p = record { fault = q .fault; at = q .at; items = q .items; n = q .n; s = p .s }
-
--- a token of kind k is taken
-abbrev pub expectOne : List ℕ → List ℕ → ℕ → ℕ → Pos → Pos
-expectOne kinds long n k q = expectAt (eqb (kindIn kinds n (q .at)) k) (flagIn long (q .at)) q
+abbrev pub headingAt : Cursor → Header
+headingAt q = record { cursor = q; waiting = 0; inputs = 0; outputs = 0; vars = 0 }
 
 -- tokens of these kinds are taken, one after another
-unfoldable pub expectAll : List ℕ → List ℕ → ℕ → List ℕ → Pos → Pos
+unfoldable pub expectAll : List ℕ → List ℕ → ℕ → List ℕ → Cursor → Cursor
 expectAll kinds long n [] q = q
 expectAll kinds long n (k ∷ ks) q = expectAll kinds long n ks (expectOne kinds long n k q)
 

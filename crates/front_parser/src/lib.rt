@@ -1,13 +1,12 @@
 // The reader of a whole text: tokens to rows and items in lent arrays, or the refusal (3 or 4) with its token.
 ghost use mathlib.Core.Path.{_≡_};
-ghost use mathlib.Core.List.{List, [], _∷_};
-ghost use Prim.Native.Nat.{ℕ, _+_, _<_, _≤_};
-ghost use Rattle.base_codes.specs.Token.{ARCHITECTURE, BEGIN, END, IS, NAME, OF, PROCESS, SEMI};
+ghost use mathlib.Core.List.{[], _∷_};
+ghost use Prim.Native.Nat.{_<_, _≤_};
 ghost use Rattle.front_cursor.specs.Reading.{Asks};
-ghost use Rattle.front_expressions.specs.Written.{arrays};
-ghost use Rattle.front_statements.specs.Rows.{output};
-ghost use Rattle.front_declarations.specs.Heads.{AsksHead};
-ghost use Rattle.front_parser.specs.Runs.{start, headOf, placeOf, placeAt, expectAll};
+ghost use Rattle.front_layout.specs.Items.{arrays};
+ghost use Rattle.front_layout.specs.Rows.{output};
+ghost use Rattle.front_declarations.specs.Headers.{AsksHeader};
+ghost use Rattle.front_parser.specs.Runs.{start, headingAt, expectAll};
 ghost use Rattle.front_parser.specs.Parts.{EntityOver, ArchitectureOver, ProcessOver};
 ghost use Rattle.front_parser.specs.Answers.{lent, numbersOf, ParsesOver};
 use base_codes::declaration;
@@ -15,23 +14,15 @@ use base_codes::limit;
 use base_codes::refusal;
 use base_codes::statement;
 use base_codes::token;
-use front_cursor::Pos;
+use front_cursor::Cursor;
 use front_cursor::expect;
-use front_declarations::Head;
-use front_declarations::cursor_of;
+use front_declarations::Header;
 use front_declarations::declared_by;
-use front_declarations::head_at;
+use front_declarations::moved;
 use front_declarations::ports;
 use front_declarations::variables;
-use front_statements::Place;
+use front_statements::Listing;
 use front_statements::body;
-
-// A name and a semicolon end the entity and the text.
-const LAST_NAME: usize = 2;
-// Behind the entity: `architecture A of E is begin process`.
-const OF_NAME: usize = 3;
-
-const PROCESS_WORD: usize = 6;
 
 // What is known of a text that was read: the numbers of statements, items and declared names, and the indices of the tokens that the tree has beside them.
 pub struct Parsed {
@@ -52,25 +43,45 @@ pub enum Parsing {
     NotParsed(u8, usize),
 }
 
+// The entity was read: where it ends, and the indices of its name and of the name behind its `end`.
+pub struct EntityUnit {
+    pub header: Header,
+    pub name: usize,
+    pub end: usize,
+}
+
+// The architecture was read up to its statements: where that is, and the indices of its name, of the name behind `of` and of the word `process`.
+pub struct ArchitectureUnit {
+    pub header: Header,
+    pub name: usize,
+    pub of: usize,
+    pub process: usize,
+}
+
+// The statements and the end of the text were read: where that is, and the index of the name behind the architecture's `end`.
+pub struct ProcessUnit {
+    pub listing: Listing,
+    pub end: usize,
+}
+
 // Before the first token.
-fn beginning() -> Pos
+fn beginning() -> Cursor
     ensures { λ r. ⌜ r ≡ start ⌝ }
 {
-    Pos {
+    Cursor {
         fault: 0,
         at: 0,
         items: 0,
-        n: 0,
+        written: 0,
     }
 }
 
 // Where the cursor is, with nothing declared.
-fn head_of(q: Pos) -> Head
-    ensures { λ r. ⌜ r ≡ headOf q ⌝ }
+fn heading(q: Cursor) -> Header
+    ensures { λ r. ⌜ r ≡ headingAt q ⌝ }
 {
-    Head {
-        fault: q.fault,
-        at: q.at,
+    Header {
+        cursor: q,
         waiting: 0,
         inputs: 0,
         outputs: 0,
@@ -78,64 +89,38 @@ fn head_of(q: Pos) -> Head
     }
 }
 
-// Where the reader of the heading is, before the first statement.
-fn place_of(p: Head) -> Place
-    ensures { λ r. ⌜ r ≡ placeOf p ⌝ }
-{
-    Place {
-        fault: p.fault,
-        at: p.at,
-        items: 0,
-        n: 0,
-        s: 0,
-    }
-}
-
-// Where the cursor is, with as many statements as before.
-fn place_at(q: Pos, p: Place) -> Place
-    ensures { λ r. ⌜ r ≡ placeAt q p ⌝ }
-{
-    Place {
-        fault: q.fault,
-        at: q.at,
-        items: q.items,
-        n: q.n,
-        s: p.s,
-    }
-}
-
-// The cursor of a place.
-fn cursor_at(p: Place) -> Pos
-    ensures { λ r. ⌜ r ≡ record { fault = p .fault; at = p .at; items = p .items; n = p .n } ⌝ }
-{
-    Pos {
-        fault: p.fault,
-        at: p.at,
-        items: p.items,
-        n: p.n,
-    }
-}
-
-// Takes five tokens of these kinds.
-fn five(
+// Takes two tokens of these kinds.
+fn two(
     kinds: &[u8; limit::TEXT],
     long: &[u8; limit::TEXT],
     n: usize,
-    q: Pos,
+    q: Cursor,
+    a: u8,
+    b: u8,
+) -> Cursor
+    requires { ⌜ (0 < a) × (0 < b) × Asks n q ⌝ }
+    ensures { λ r. ⌜ r ≡ expectAll (now (kinds .entry)) (now (long .entry)) n (a ∷ b ∷ []) q ⌝ }
+{
+    let p = expect(kinds, long, n, q, a);
+    expect(kinds, long, n, p, b)
+}
+
+// Takes three tokens of these kinds.
+fn three(
+    kinds: &[u8; limit::TEXT],
+    long: &[u8; limit::TEXT],
+    n: usize,
+    q: Cursor,
     a: u8,
     b: u8,
     c: u8,
-    d: u8,
-    e: u8,
-) -> Pos
-    requires { ⌜ (0 < a) × (0 < b) × (0 < c) × (0 < d) × (0 < e) × Asks n q ⌝ }
-    ensures { λ r. ⌜ r ≡ expectAll (now (kinds .entry)) (now (long .entry)) n (a ∷ b ∷ c ∷ d ∷ e ∷ []) q ⌝ }
+) -> Cursor
+    requires { ⌜ (0 < a) × (0 < b) × (0 < c) × Asks n q ⌝ }
+    ensures { λ r. ⌜ r ≡ expectAll (now (kinds .entry)) (now (long .entry)) n (a ∷ b ∷ c ∷ []) q ⌝ }
 {
-    let p1 = expect(kinds, long, n, q, a);
-    let p2 = expect(kinds, long, n, p1, b);
-    let p3 = expect(kinds, long, n, p2, c);
-    let p4 = expect(kinds, long, n, p3, d);
-    expect(kinds, long, n, p4, e)
+    let p = expect(kinds, long, n, q, a);
+    let r = expect(kinds, long, n, p, b);
+    expect(kinds, long, n, r, c)
 }
 
 // `entity E is port ( GROUPS ) ; end E ;`
@@ -144,125 +129,102 @@ fn entity(
     long: &[u8; limit::TEXT],
     n: usize,
     decls: &mut [u16; declaration::ROWS],
-) -> Head
+) -> EntityUnit
     requires { ⌜ n ≤ 16384 ⌝ }
     ensures { λ r. ⌜ EntityOver (now (kinds .entry)) (now (long .entry)) n (now (decls .entry)) r (now (decls .exit)) ⌝ }
 {
-    let a = five(
-        kinds,
-        long,
-        n,
-        beginning(),
-        token::ENTITY,
-        token::NAME,
-        token::IS,
-        token::PORT,
-        token::LP,
-    );
-    let b = ports(kinds, long, n, head_of(a), decls);
-    let c = five(
-        kinds,
-        long,
-        n,
-        cursor_of(b),
-        token::RP,
-        token::SEMI,
-        token::END,
-        token::NAME,
-        token::SEMI,
-    );
-    head_at(c, b)
+    let a = expect(kinds, long, n, beginning(), token::ENTITY);
+    let b = two(kinds, long, n, a, token::NAME, token::IS);
+    let c = two(kinds, long, n, b, token::PORT, token::LP);
+    let d = ports(kinds, long, n, heading(c), decls);
+    let q = d.cursor;
+    let e = three(kinds, long, n, q, token::RP, token::SEMI, token::END);
+    let f = two(kinds, long, n, e, token::NAME, token::SEMI);
+    let header = moved(d, f);
+    EntityUnit {
+        header,
+        name: a.at,
+        end: e.at,
+    }
 }
 
-// `architecture A of E is begin process`
-fn architecture_words(kinds: &[u8; limit::TEXT], long: &[u8; limit::TEXT], n: usize, q: Pos) -> Pos
-    requires { ⌜ Asks n q ⌝ }
-    ensures { λ r. ⌜ r ≡ expectAll (now (kinds .entry)) (now (long .entry)) n (ARCHITECTURE ∷ NAME ∷ OF ∷ NAME ∷ IS ∷ BEGIN ∷ PROCESS ∷ []) q ⌝ }
-{
-    let a = five(
-        kinds,
-        long,
-        n,
-        q,
-        token::ARCHITECTURE,
-        token::NAME,
-        token::OF,
-        token::NAME,
-        token::IS,
-    );
-    let b = expect(kinds, long, n, a, token::BEGIN);
-    expect(kinds, long, n, b, token::PROCESS)
-}
-
-// The words of the architecture, the variables and `begin`.
+// `architecture A of E is begin process`, the variables and `begin`.
 fn architecture(
     kinds: &[u8; limit::TEXT],
     long: &[u8; limit::TEXT],
     n: usize,
-    p: Head,
+    p: Header,
     decls: &mut [u16; declaration::ROWS],
-) -> Head
-    requires { ⌜ AsksHead n p ⌝ }
+) -> ArchitectureUnit
+    requires { ⌜ AsksHeader n p ⌝ }
     ensures { λ r. ⌜ ArchitectureOver (now (kinds .entry)) (now (long .entry)) n p (now (decls .entry)) r (now (decls .exit)) ⌝ }
 {
-    let a = architecture_words(kinds, long, n, cursor_of(p));
-    let b = variables(kinds, long, n, head_at(a, p), decls);
-    let c = expect(kinds, long, n, cursor_of(b), token::BEGIN);
-    head_at(c, b)
+    let q = p.cursor;
+    let a = expect(kinds, long, n, q, token::ARCHITECTURE);
+    let b = two(kinds, long, n, a, token::NAME, token::OF);
+    let c = three(kinds, long, n, b, token::NAME, token::IS, token::BEGIN);
+    let d = expect(kinds, long, n, c, token::PROCESS);
+    let e = variables(kinds, long, n, moved(p, d), decls);
+    let x = e.cursor;
+    let f = expect(kinds, long, n, x, token::BEGIN);
+    let header = moved(e, f);
+    ArchitectureUnit {
+        header,
+        name: a.at,
+        of: b.at,
+        process: c.at,
+    }
 }
 
-// `end process ; end A ;`
-fn end_words(kinds: &[u8; limit::TEXT], long: &[u8; limit::TEXT], n: usize, q: Pos) -> Pos
-    requires { ⌜ Asks n q ⌝ }
-    ensures { λ r. ⌜ r ≡ expectAll (now (kinds .entry)) (now (long .entry)) n (END ∷ PROCESS ∷ SEMI ∷ END ∷ NAME ∷ SEMI ∷ []) q ⌝ }
-{
-    let a = five(
-        kinds,
-        long,
-        n,
-        q,
-        token::END,
-        token::PROCESS,
-        token::SEMI,
-        token::END,
-        token::NAME,
-    );
-    expect(kinds, long, n, a, token::SEMI)
-}
-
-// The statements of the process, and what ends the text.
+// The statements of the process, and `end process ; end A ;`.
 fn process(
     kinds: &[u8; limit::TEXT],
     long: &[u8; limit::TEXT],
     n: usize,
-    p: Head,
+    p: Header,
     codes: &mut [u8; limit::TEXT],
     tokens: &mut [u16; limit::TEXT],
     rows: &mut [u16; statement::ROWS],
-) -> Place
-    requires { ⌜ AsksHead n p ⌝ }
+) -> ProcessUnit
+    requires { ⌜ AsksHeader n p × (p .cursor .written ≡ 0) ⌝ }
     ensures { λ r. ⌜ ProcessOver (now (kinds .entry)) (now (long .entry)) n p (output (arrays (now (codes .entry)) (now (tokens .entry))) (now (rows .entry))) r (output (arrays (now (codes .exit)) (now (tokens .exit))) (now (rows .exit))) ⌝ }
 {
-    let a = body(kinds, long, n, place_of(p), 1, codes, tokens, rows);
-    let b = end_words(kinds, long, n, cursor_at(a));
-    place_at(b, a)
+    let q = p.cursor;
+    let first = Listing {
+        cursor: q,
+        statements: 0,
+    };
+    let a = body(kinds, long, n, first, 1, codes, tokens, rows);
+    let x = a.cursor;
+    let b = three(kinds, long, n, x, token::END, token::PROCESS, token::SEMI);
+    let c = expect(kinds, long, n, b, token::END);
+    let d = two(kinds, long, n, c, token::NAME, token::SEMI);
+    let listing = Listing {
+        cursor: d,
+        statements: a.statements,
+    };
+    ProcessUnit { listing, end: c.at }
 }
 
-// The numbers of a text that was read: p is where its entity ends, q where its declarations end, r where the text ends.
-fn numbers(p: Head, q: Head, r: Place) -> Parsed
-    requires { ⌜ (2 ≤ p .at) × (p .at ≤ 16384) × (2 ≤ r .at) × (q .inputs ≤ 17) × (q .outputs ≤ 16) × (q .vars ≤ 32) ⌝ }
+// The numbers of a text that was read, each from the reader that came past it.
+fn numbers(p: EntityUnit, q: ArchitectureUnit, r: ProcessUnit) -> Parsed
+    requires { ⌜ (q .header .inputs ≤ 17) × (q .header .outputs ≤ 16) × (q .header .vars ≤ 32) ⌝ }
     ensures { λ t. ⌜ t ≡ numbersOf p q r ⌝ }
 {
+    let header = q.header;
+    let listing = r.listing;
+    let last = listing.cursor;
+    let names = declared_by(header);
     Parsed {
-        statements: r.s,
-        items: r.n,
-        names: declared_by(q),
-        entity: 1,
-        entity_end: p.at - LAST_NAME,
-        arch: p.at + 1,
-        arch_of: p.at + OF_NAME,
-        process: p.at + PROCESS_WORD,
-        arch_end: r.at - LAST_NAME,
+        statements: listing.statements,
+        items: last.written,
+        names,
+        entity: p.name,
+        entity_end: p.end,
+        arch: q.name,
+        arch_of: q.of,
+        process: q.process,
+        arch_end: r.end,
     }
 }
 
@@ -283,16 +245,20 @@ pub fn parse(
         return Parsing::NotParsed(refusal::NO_SENTENCE, 0);
     }
     let p = entity(kinds, long, n, decls);
-    let q = architecture(kinds, long, n, p, decls);
-    let r = process(kinds, long, n, q, codes, tokens, rows);
-    if r.fault == refusal::NO_SENTENCE {
-        return Parsing::NotParsed(refusal::NO_SENTENCE, r.at);
+    let declared = p.header;
+    let q = architecture(kinds, long, n, declared, decls);
+    let heading = q.header;
+    let r = process(kinds, long, n, heading, codes, tokens, rows);
+    let listing = r.listing;
+    let last = listing.cursor;
+    if last.fault == refusal::NO_SENTENCE {
+        return Parsing::NotParsed(refusal::NO_SENTENCE, last.at);
     }
-    if r.fault != 0 {
-        return Parsing::NotParsed(refusal::LIMIT_PASSED, r.at);
+    if last.fault != 0 {
+        return Parsing::NotParsed(refusal::LIMIT_PASSED, last.at);
     }
-    if r.at < n {
-        return Parsing::NotParsed(refusal::NO_SENTENCE, r.at);
+    if last.at < n {
+        return Parsing::NotParsed(refusal::NO_SENTENCE, last.at);
     }
     Parsing::Tree(numbers(p, q, r))
 }

@@ -1,5 +1,4 @@
 pub mod Steps
 pub mod Owning
 pub mod Resolved
-pub mod Law
-pub mod Lexed
+pub mod Exact

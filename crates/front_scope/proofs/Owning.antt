@@ -24,12 +24,14 @@ module _ (text starts sizes : List ℕ) (n : ℕ) (decls : List ℕ) (i : ℕ) w
   pub owning-first : (end : ℕ) → Owning end 0
   owning-first end = record { inside = omega arith; rest = ap (ownerFrom text starts sizes n decls i 0) (omega arith) }
 
-  module _ (end j name : ℕ) (same : Bool) (h : j < end) (e : name ≡ getD decls (6 * j) 0) (f : same ≡ sameIn text starts sizes n name i) (w : Owning end j) where
+  module _ (end j name : ℕ) (same : Bool) (h : j < end) (e : name ≡ getD decls (6 * j) 0) (f : same ≡ sameIn text starts sizes n name i)
+      (w : Owning end j) where
     test : same ≡ sameIn text starts sizes n (getD decls (6 * j) 0) i
     test = f ∙ ap (λ (x : ℕ). sameIn text starts sizes n x i) e
 
     pub owning-found : same ≡ true → j ≡ ownerFrom text starts sizes n decls i 0 end
-    owning-found q = picked (sameIn text starts sizes n (getD decls (6 * j) 0) i) j _ j (sym test ∙ q) refl ∙ (sym (owner-step j (end - j) (omega arith)) ∙ w .rest)
+    owning-found q = picked (sameIn text starts sizes n (getD decls (6 * j) 0) i) j _ j (sym test ∙ q) refl
+        ∙ (sym (owner-step j (end - j) (omega arith)) ∙ w .rest)
 
     pub owning-again : same ≡ false → Owning end (j + 1)
     owning-again q =
@@ -37,7 +39,8 @@ module _ (text starts sizes : List ℕ) (n : ℕ) (decls : List ℕ) (i : ℕ) w
         record {
           inside = omega arith;
           rest = ap (ownerFrom text starts sizes n decls i (j + 1)) m
-              ∙ (passed (sameIn text starts sizes n (getD decls (6 * j) 0) i) j (ownerFrom text starts sizes n decls i (j + 1) (end - j - 1)) _ (sym test ∙ q) refl
+              ∙ (passed (sameIn text starts sizes n (getD decls (6 * j) 0) i) j (ownerFrom text starts sizes n decls i (j + 1) (end - j - 1)) _
+              (sym test ∙ q) refl
               ∙ (sym (owner-step j (end - j) (omega arith)) ∙ w .rest));
         }
 

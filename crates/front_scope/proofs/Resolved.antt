@@ -22,12 +22,12 @@ use Rattle.spec_language.specs.Elaboration.{position}
 use Rattle.front_token.specs.Places.{part}
 use Rattle.front_lexer.specs.TokenValues.{Valued}
 use Rattle.front_lexer.proofs.TokenValues.{same-names}
-use Rattle.front_cursor.specs.Tokens.{noToken, tokenAt}
-use Rattle.front_syntax.specs.Arrays.{numberIn, TokensIn}
-use Rattle.front_syntax.specs.Headings.{headings, DeclsIn}
-use Rattle.front_syntax.specs.Kinded.{KindedGroup, Kinded}
+use Rattle.front_layout.specs.Tokens.{noToken, tokenAt}
+use Rattle.front_layout.specs.Arrays.{numberIn, TokensIn}
+use Rattle.front_layout.specs.Headings.{headings, DeclsIn}
+use Rattle.front_offences.specs.Kinded.{KindedGroup, Kinded}
 use Rattle.front_offences.proofs.Loops.{listFrom}
-use Rattle.front_offences.proofs.Found.{Outline, ofDecl, outlineIn, decls-are}
+use Rattle.front_offences.proofs.Owners.{Outline, ofDecl, outlineIn, decls-are}
 use Rattle.front_offences.proofs.Tokens.{number-inside, kind-inside, place-is}
 use Rattle.front_scope.specs.Positions.{sameIn, ownerFrom, ownerIn, filled, fillFrom}
 use Rattle.front_scope.specs.Resolves.{Resolves}
@@ -56,21 +56,25 @@ module _ (text : List ℕ) (ts : List Token) (kinds starts sizes : List ℕ) (n 
   valued-at i h = let c = tokens .count in each-at (Valued text) ts noToken (words .valued) i (omega arith)
 
   -- two names of the text, by their indices
-  pub same-tokens : (a b : ℕ) → tokenAt ts a .kind ≡ NAME → tokenAt ts b .kind ≡ NAME → sameIn text starts sizes n a b ≡ eqb (tokenAt ts a .value) (tokenAt ts b .value)
+  pub same-tokens : (a b : ℕ) → tokenAt ts a .kind ≡ NAME → tokenAt ts b .kind ≡ NAME → sameIn text starts sizes n a b
+      ≡ eqb (tokenAt ts a .value) (tokenAt ts b .value)
   unfolding sameIn
   same-tokens a b p q =
       let i : a < n = kind-inside tokens a NAME p (omega arith) in
       let j : b < n = kind-inside tokens b NAME q (omega arith) in
       let s : n ≤ 16384 = tokens .short in
-      parts (numberIn starts n a) (numberIn sizes n a) (numberIn starts n b) (numberIn sizes n b) (place-is tokens a) (number-inside sizes n a s i ∙ words .size a i)
+      parts (numberIn starts n a) (numberIn sizes n a) (numberIn starts n b) (numberIn sizes n b) (place-is tokens a)
+      (number-inside sizes n a s i ∙ words .size a i)
       (place-is tokens b) (number-inside sizes n b s j ∙ words .size b j) (same-names text (tokenAt ts a) (tokenAt ts b) (valued-at a i) (valued-at b j) p q)
     where
       parts : (sa za sb zb : ℕ) → sa ≡ tokenAt ts a .place → za ≡ tokenAt ts a .size → sb ≡ tokenAt ts b .place → zb ≡ tokenAt ts b .size
-          → equal (map B.lower (part text (tokenAt ts a .place) (tokenAt ts a .size))) (map B.lower (part text (tokenAt ts b .place) (tokenAt ts b .size))) ≡ eqb (tokenAt ts a .value) (tokenAt ts b .value)
+          → equal (map B.lower (part text (tokenAt ts a .place) (tokenAt ts a .size))) (map B.lower (part text (tokenAt ts b .place) (tokenAt ts b .size)))
+          ≡ eqb (tokenAt ts a .value) (tokenAt ts b .value)
           → equal (map B.lower (part text sa za)) (map B.lower (part text sb zb)) ≡ eqb (tokenAt ts a .value) (tokenAt ts b .value)
       parts sa za sb zb e f g h z = rw (e, f, g, h) z
 
-  owner-found : (decls : List ℕ) (i : ℕ) → tokenAt ts i .kind ≡ NAME → (Δ : List Decl) → Each Named Δ → (j c : ℕ) → listFrom (outlineIn ts decls) j c ≡ map ofDecl Δ
+  owner-found : (decls : List ℕ) (i : ℕ) → tokenAt ts i .kind ≡ NAME → (Δ : List Decl) → Each Named Δ → (j c : ℕ) → listFrom (outlineIn ts decls) j c
+      ≡ map ofDecl Δ
       → ownerFrom text starts sizes n decls i j c ≡ j + position Δ (tokenAt ts i .value)
   unfolding ownerFrom listFrom position
   owner-found decls i k [] p j zero e = omega arith
@@ -125,20 +129,24 @@ module _ (f : ℕ → ℕ) (kinds : List ℕ) where
           first : getD kinds i 0 ≡ NAME → i < length l → getD (filled f kinds i l) i 0 ≡ f i
           first h s = ap (λ (b : Bool). getD (choose b (set l i (f i)) l) i 0) (ap (λ (x : ℕ). eqb x NAME) h) ∙ getD-set-same l i (f i) 0 s
 
-      go : (b : Bool) → eqb m i ≡ b → (i + 1 ≤ m → getD (fillFrom f kinds (i + 1) c (filled f kinds i l)) m 0 ≡ f m) → getD (fillFrom f kinds (i + 1) c (filled f kinds i l)) m 0 ≡ f m
+      go : (b : Bool) → eqb m i ≡ b → (i + 1 ≤ m → getD (fillFrom f kinds (i + 1) c (filled f kinds i l)) m 0 ≡ f m)
+          → getD (fillFrom f kinds (i + 1) c (filled f kinds i l)) m 0 ≡ f m
       go true e ih = let z = eqb-true m i e in untouched m c (i + 1) (filled f kinds i l) (λ j s t v w. omega arith) ∙ here z
       go false e ih = let z = eqb-false m i e in ih (omega (arith, z))
 
 -- THE LAW
 pub resolves : (text kinds starts sizes : List ℕ) (n : ℕ) (decls : List ℕ) (d : ℕ) (owners₀ owners₁ : List ℕ)
     → owners₁ ≡ fillFrom (ownerIn text starts sizes n decls d) kinds 0 (min n 16384) owners₀ → Resolves text kinds starts sizes n decls d owners₀ owners₁
-resolves text kinds starts sizes n decls d owners₀ owners₁ e = record { answer = e; kept = kept; owners = λ ts t l tokens words ds k. record { owner = owner ts t l tokens words ds k } }
+resolves text kinds starts sizes n decls d owners₀ owners₁ e =
+    record { answer = e; kept = kept; owners = λ ts t l tokens words ds k. record { owner = owner ts t l tokens words ds k } }
   where
     kept : (i : ℕ) → (n ≤ i) ⊎ (getD kinds i 0 ≡ NAME → ⊥) → getD owners₁ i 0 ≡ getD owners₀ i 0
     kept i (inl h) = rw e (untouched (ownerIn text starts sizes n decls d) kinds i (min n 16384) 0 owners₀ (λ j p q r s. omega arith))
-    kept i (inr h) = rw e (untouched (ownerIn text starts sizes n decls d) kinds i (min n 16384) 0 owners₀ (λ j p q r s. h (ap (λ (x : ℕ). getD kinds x 0) s ∙ r)))
+    kept i (inr h) = rw e
+        (untouched (ownerIn text starts sizes n decls d) kinds i (min n 16384) 0 owners₀ (λ j p q r s. h (ap (λ (x : ℕ). getD kinds x 0) s ∙ r)))
 
-    owner : (ts : List Token) (t : Text) → n ≤ length owners₀ → TokensIn ts kinds starts n → WordsIn text ts sizes n → DeclsIn ts (headings t) decls d → Kinded t
+    owner : (ts : List Token) (t : Text) → n ≤ length owners₀ → TokensIn ts kinds starts n → WordsIn text ts sizes n → DeclsIn ts (headings t) decls d
+        → Kinded t
         → (i : ℕ) → i < n → tokenAt ts i .kind ≡ NAME → getD owners₁ i 0 ≡ position (declared t) (tokenAt ts i .value)
     owner ts t l tokens words ds k i h q =
         let a : n ≤ 16384 = tokens .short in

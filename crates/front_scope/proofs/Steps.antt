@@ -2,22 +2,23 @@
 use mathlib.Core.Path.{_≡_, refl, _∙_, ap}
 use mathlib.Core.Bool.{Bool, true, false, not}
 use mathlib.Core.List.{List, map}
-use Prim.Native.Nat.{ℕ, _+_, _*_, _≤_, _<_}
-use borrow.Author.Tests.{lt-ltb, le-ltb, eq-eqb, ne-eqb}
-use lib.Dec.{eqb, ltb}
+use Prim.Native.Nat.{ℕ, _+_, _*_}
+use borrow.Author.Tests.{eq-eqb, ne-eqb}
+use lib.Dec.{eqb}
 use lib.ListN.{getD, set}
 use Rattle.base_codes.specs.Token.{NAME}
 use Rattle.spec_language.specs.Bytes as B
 use Rattle.spec_language.specs.Lexing.{equal}
 use Rattle.spec_language.specs.Lists.{unless}
 use Rattle.front_token.specs.Places.{part}
-use Rattle.front_syntax.specs.Lowest.{lowestOf, lower}
-use Rattle.front_syntax.specs.Arrays.{numberIn}
+use Rattle.front_offences.specs.Lowest.{lowestOf, lower}
+use Rattle.front_layout.specs.Arrays.{numberIn}
 use Rattle.front_offences.specs.Positions.{hasName, modeIn}
 use Rattle.front_offences.proofs.Tokens.{picked, passed, owner-tested}
 use Rattle.front_scope.specs.Positions.{sameIn, filled, differsIn, fitsIn, targetAt, readableIn}
 
-pub same-is : (text starts sizes : List ℕ) (n a b : ℕ) (sa za sb zb : ℕ) (r : Bool) → sa ≡ numberIn starts n a → za ≡ numberIn sizes n a → sb ≡ numberIn starts n b
+pub same-is : (text starts sizes : List ℕ) (n a b : ℕ) (sa za sb zb : ℕ) (r : Bool) → sa ≡ numberIn starts n a → za ≡ numberIn sizes n a → sb
+    ≡ numberIn starts n b
     → zb ≡ numberIn sizes n b → r ≡ equal (map B.lower (part text sa za)) (map B.lower (part text sb zb)) → r ≡ sameIn text starts sizes n a b
 unfolding sameIn
 same-is text starts sizes n a b sa za sb zb r e f g h q =
@@ -26,7 +27,8 @@ same-is text starts sizes n a b sa za sb zb r e f g h q =
     ∙ (ap (λ (x : ℕ). equal (map B.lower (part text (numberIn starts n a) (numberIn sizes n a))) (map B.lower (part text x zb))) g
     ∙ ap (λ (x : ℕ). equal (map B.lower (part text (numberIn starts n a) (numberIn sizes n a))) (map B.lower (part text (numberIn starts n b) x))) h)))
 
-pub differs-is : (text starts sizes : List ℕ) (n a b : ℕ) (same : Bool) (p r : ℕ) → same ≡ sameIn text starts sizes n a b → p ≡ numberIn starts n a → r ≡ lowestOf (unless same p)
+pub differs-is : (text starts sizes : List ℕ) (n a b : ℕ) (same : Bool) (p r : ℕ) → same ≡ sameIn text starts sizes n a b → p ≡ numberIn starts n a → r
+    ≡ lowestOf (unless same p)
     → r ≡ differsIn text starts sizes n a b
 differs-is text starts sizes n a b same p r e f g =
     g ∙ (ap (λ (q : Bool). lowestOf (unless q p)) e ∙ ap (λ (q : ℕ). lowestOf (unless (sameIn text starts sizes n a b) q)) f)
@@ -57,7 +59,8 @@ unfolding readableIn
 readable-other mode h = rw (ne-eqb mode 1 h)
 
 -- a test that goes by the mode of the owner of the name at an index
-pub mode-tested : (decls : List ℕ) (d : ℕ) (owners places : List ℕ) (n i i′ w m p r : ℕ) (b : ℕ → Bool) (ok : Bool) → i ≡ i′ → w ≡ numberIn owners n i → m ≡ modeIn decls d w
+pub mode-tested : (decls : List ℕ) (d : ℕ) (owners places : List ℕ) (n i i′ w m p r : ℕ) (b : ℕ → Bool) (ok : Bool) → i ≡ i′ → w ≡ numberIn owners n i → m
+    ≡ modeIn decls d w
     → ok ≡ b m → p ≡ numberIn places n i → r ≡ lowestOf (unless ok p)
     → r ≡ lowestOf (unless (b (modeIn decls d (numberIn owners n i′))) (numberIn places n i′))
 mode-tested decls d owners places n i i′ w m p r b ok e f g k h q =
@@ -69,7 +72,8 @@ module _ (rows starts owners : List ℕ) (n : ℕ) (decls : List ℕ) (d j kind 
   unfolding targetAt
   target-none h = passed (hasName (getD rows (6 * j) 0)) _ _ _ (rw e at h) refl
 
-  pub target-there : (i w m p r : ℕ) (ok : Bool) → hasName kind ≡ true → i ≡ getD rows (6 * j + 1) 0 → w ≡ numberIn owners n i → m ≡ modeIn decls d w → ok ≡ fitsIn kind m → p ≡ numberIn starts n i
+  pub target-there : (i w m p r : ℕ) (ok : Bool) → hasName kind ≡ true → i ≡ getD rows (6 * j + 1) 0 → w ≡ numberIn owners n i → m ≡ modeIn decls d w → ok
+      ≡ fitsIn kind m → p ≡ numberIn starts n i
       → r ≡ lowestOf (unless ok p) → r ≡ targetAt rows starts owners n decls d j
   unfolding targetAt
   target-there i w m p r ok h f g k l q z =
@@ -84,5 +88,6 @@ pub filled-name : (f : ℕ → ℕ) (kinds : List ℕ) (i : ℕ) (owners : List 
 filled-name f kinds i owners o h e = rw (eq-eqb (getD kinds i 0) NAME h) (ap (set owners i) e)
 
 -- the lower of four
-pub lower-four : (a b c d a′ b′ c′ d′ p q r : ℕ) → a ≡ a′ → b ≡ b′ → c ≡ c′ → d ≡ d′ → p ≡ lower c d → q ≡ lower b p → r ≡ lower a q → r ≡ lower a′ (lower b′ (lower c′ d′))
+pub lower-four : (a b c d a′ b′ c′ d′ p q r : ℕ) → a ≡ a′ → b ≡ b′ → c ≡ c′ → d ≡ d′ → p ≡ lower c d → q ≡ lower b p → r ≡ lower a q → r
+    ≡ lower a′ (lower b′ (lower c′ d′))
 lower-four a b c d a′ b′ c′ d′ p q r e f g h i j k = k ∙ (ap (lower a) (j ∙ ap (lower b) i) ∙ rw (e, f, g, h))

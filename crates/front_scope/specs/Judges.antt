@@ -5,35 +5,30 @@ use Prim.Native.Nat.{ℕ}
 use Rattle.spec_grammar.specs.Token.{Token}
 use Rattle.spec_grammar.specs.Tree.{Text}
 use Rattle.spec_language.specs.Names.{names}
-use Rattle.front_cursor.specs.Tokens.{tokenAt}
-use Rattle.front_syntax.specs.declared.Finding.{Finding}
-use Rattle.front_syntax.specs.Lowest.{lowestOf, lower, findingOf, findingFrom}
-use Rattle.front_offences.specs.Laid.{Laid}
-use Rattle.front_scope.specs.declared.Heads.{Heads}
-use Rattle.front_scope.specs.Positions.{headsIn, doubledIn, targetsIn, readsIn}
+use Rattle.front_layout.specs.Tokens.{tokenAt}
+use Rattle.front_offences.specs.declared.Finding.{Finding}
+use Rattle.front_offences.specs.declared.Shape.{Shape}
+use Rattle.front_offences.specs.Judged.{LaidIn, Judged}
 use Rattle.front_limits.specs.Words.{WordsIn}
+use Rattle.front_scope.specs.Positions.{lowestIn}
 
 -- the indices of the names of entity and architecture, wherever they stand
-pub record HeadsIn (ts : List Token) (t : Text) (h : Heads) : Type 0 where
-  pub entity-at : tokenAt ts (h .entity) ≡ t .entity
-  pub entity-end-at : tokenAt ts (h .«entity_end») ≡ t .entityEnd
-  pub arch-at : tokenAt ts (h .arch) ≡ t .arch
-  pub arch-of-at : tokenAt ts (h .«arch_of») ≡ t .archOf
-  pub arch-end-at : tokenAt ts (h .«arch_end») ≡ t .archEnd
+pub record HeadsIn (ts : List Token) (t : Text) (p : Shape) : Type 0 where
+  pub entity-at : tokenAt ts (p .entity) ≡ t .entity
+  pub entity-end-at : tokenAt ts (p .«entity_end») ≡ t .entityEnd
+  pub arch-at : tokenAt ts (p .arch) ≡ t .arch
+  pub arch-of-at : tokenAt ts (p .«arch_of») ≡ t .archOf
+  pub arch-end-at : tokenAt ts (p .«arch_end») ≡ t .archEnd
 
--- the lowest of all offences
-unfoldable pub namesIn : List ℕ → List ℕ → List ℕ → ℕ → Heads → List ℕ → ℕ → List ℕ → List ℕ → ℕ → List ℕ → ℕ → List ℕ → ℕ
-namesIn text starts sizes n h rows s codes indices k decls d owners =
-    lower (headsIn text starts sizes n h) (lower (doubledIn decls d starts owners n) (lower (targetsIn rows s starts owners n decls d) (readsIn codes indices k starts owners n decls d)))
+-- the arrays hold a tree, and the bytes of its names
+pub record Held (text starts sizes : List ℕ) (p : Shape) (codes indices rows decls owners : List ℕ) (t : Text) : Type 0 where
+  pub tokens : List Token
+  pub kinds : List ℕ
+  pub laid : LaidIn tokens t kinds starts p codes indices rows decls owners
+  pub words : WordsIn text tokens sizes (p .tokens)
+  pub heads : HeadsIn tokens t p
 
--- the answer by position; and for a tree that the arrays hold the lowest offence of refusal 5
-pub record Judges (text starts sizes : List ℕ) (n : ℕ) (h : Heads) (rows : List ℕ) (s : ℕ) (codes indices : List ℕ) (k : ℕ) (decls : List ℕ) (d : ℕ) (owners : List ℕ) (r : ℕ) : Type 0 where
-  pub answer : r ≡ namesIn text starts sizes n h rows s codes indices k decls d owners
-  pub lowest : (ts : List Token) (t : Text) (kinds : List ℕ) → Laid ts t kinds starts n codes indices k rows s decls d owners → WordsIn text ts sizes n → HeadsIn ts t h
-      → r ≡ lowestOf (names t)
-
--- the stage's answer, by position; and for a tree that the arrays hold the lowest offence of refusal 5
-pub record Finds (text starts sizes : List ℕ) (n : ℕ) (h : Heads) (rows : List ℕ) (s : ℕ) (codes indices : List ℕ) (k : ℕ) (decls : List ℕ) (d : ℕ) (owners : List ℕ) (r : Finding) : Type 0 where
-  pub answer : r ≡ findingFrom (namesIn text starts sizes n h rows s codes indices k decls d owners)
-  pub lowest : (ts : List Token) (t : Text) (kinds : List ℕ) → Laid ts t kinds starts n codes indices k rows s decls d owners → WordsIn text ts sizes n → HeadsIn ts t h
-      → r ≡ findingOf (names t)
+-- the stage's answer: the lowest place by position; and for such a tree the lowest offence of refusal 5
+abbrev pub Judges : List ℕ → List ℕ → List ℕ → Shape → List ℕ → List ℕ → List ℕ → List ℕ → List ℕ → Finding → Type 0
+Judges text starts sizes p codes indices rows decls owners r =
+    Judged (lowestIn text starts sizes p codes indices rows decls owners) (Held text starts sizes p codes indices rows decls owners) names r

@@ -15,10 +15,10 @@ use Rattle.spec_language.specs.Bytes as B
 use Rattle.spec_language.specs.Lexing.{equal}
 use Rattle.spec_language.specs.Lists.{unless}
 use Rattle.front_token.specs.Places.{part}
-use Rattle.front_syntax.specs.Lowest.{lowestOf, lower, lowestFrom}
-use Rattle.front_syntax.specs.Arrays.{numberIn}
+use Rattle.front_offences.specs.Lowest.{lowestOf, lower, lowestFrom}
+use Rattle.front_layout.specs.Arrays.{numberIn}
+use Rattle.front_offences.specs.declared.Shape.{Shape}
 use Rattle.front_offences.specs.Positions.{hasName, modeIn}
-use Rattle.front_scope.specs.declared.Heads.{Heads}
 
 -- the bytes of the token at an index, folded to lower case
 abbrev pub foldedAt : List ℕ → List ℕ → List ℕ → ℕ → ℕ → List ℕ
@@ -31,7 +31,8 @@ sameIn text starts sizes n a b = equal (foldedAt text starts sizes n a) (foldedA
 -- the number of the first declared name, from number j on, c of them, that is the name at index i; the number after the last for none
 unfoldable pub ownerFrom : List ℕ → List ℕ → List ℕ → ℕ → List ℕ → ℕ → ℕ → ℕ → ℕ
 ownerFrom text starts sizes n decls i j zero = j
-ownerFrom text starts sizes n decls i j (suc c) = choose (sameIn text starts sizes n (getD decls (D.ROW * j) 0) i) j (ownerFrom text starts sizes n decls i (j + 1) c)
+ownerFrom text starts sizes n decls i j (suc c) = choose (sameIn text starts sizes n (getD decls (D.ROW * j) 0) i) j
+    (ownerFrom text starts sizes n decls i (j + 1) c)
 
 -- of at most 65 declared names
 abbrev pub ownerIn : List ℕ → List ℕ → List ℕ → ℕ → List ℕ → ℕ → ℕ → ℕ
@@ -51,9 +52,10 @@ abbrev pub differsIn : List ℕ → List ℕ → List ℕ → ℕ → ℕ → �
 differsIn text starts sizes n a b = lowestOf (unless (sameIn text starts sizes n a b) (numberIn starts n a))
 
 -- the three pairs of names
-abbrev pub headsIn : List ℕ → List ℕ → List ℕ → ℕ → Heads → ℕ
-headsIn text starts sizes n h =
-    lower (differsIn text starts sizes n (h .«entity_end») (h .entity)) (lower (differsIn text starts sizes n (h .«arch_of») (h .entity)) (differsIn text starts sizes n (h .«arch_end») (h .arch)))
+abbrev pub headsIn : List ℕ → List ℕ → List ℕ → Shape → ℕ
+headsIn text starts sizes p =
+    lower (differsIn text starts sizes (p .tokens) (p .«entity_end») (p .entity))
+    (lower (differsIn text starts sizes (p .tokens) (p .«arch_of») (p .entity)) (differsIn text starts sizes (p .tokens) (p .«arch_end») (p .arch)))
 
 -- "declared twice": declared name j stands for an earlier one
 unfoldable pub doubledAt : List ℕ → List ℕ → List ℕ → ℕ → ℕ → ℕ
@@ -67,7 +69,8 @@ fitsIn kind mode = choose (eqb kind S.WAIT) (not (eqb mode D.NO-MODE)) (choose (
 unfoldable pub targetAt : List ℕ → List ℕ → List ℕ → ℕ → List ℕ → ℕ → ℕ → ℕ
 targetAt rows starts owners n decls d j =
     choose (hasName (getD rows (S.ROW * j) 0))
-    (lowestOf (unless (fitsIn (getD rows (S.ROW * j) 0) (modeIn decls d (numberIn owners n (getD rows (S.ROW * j + S.TOKEN) 0)))) (numberIn starts n (getD rows (S.ROW * j + S.TOKEN) 0)))) 0
+    (lowestOf (unless (fitsIn (getD rows (S.ROW * j) 0) (modeIn decls d (numberIn owners n (getD rows (S.ROW * j + S.TOKEN) 0))))
+    (numberIn starts n (getD rows (S.ROW * j + S.TOKEN) 0)))) 0
 
 -- "Inputs and variables may be read, outputs not."
 unfoldable pub readableIn : ℕ → Bool
@@ -90,3 +93,11 @@ targetsIn rows s starts owners n decls d = lowestFrom (targetAt rows starts owne
 -- the lowest of at most 16384 items
 abbrev pub readsIn : List ℕ → List ℕ → ℕ → List ℕ → List ℕ → ℕ → List ℕ → ℕ → ℕ
 readsIn codes indices k starts owners n decls d = lowestFrom (readAt codes indices starts owners n decls d) 0 (min k L.TEXT)
+
+-- the lowest of all offences
+unfoldable pub lowestIn : List ℕ → List ℕ → List ℕ → Shape → List ℕ → List ℕ → List ℕ → List ℕ → List ℕ → ℕ
+lowestIn text starts sizes p codes indices rows decls owners =
+    lower (headsIn text starts sizes p)
+    (lower (doubledIn decls (p .names) starts owners (p .tokens))
+    (lower (targetsIn rows (p .statements) starts owners (p .tokens) decls (p .names))
+    (readsIn codes indices (p .items) starts owners (p .tokens) decls (p .names))))

@@ -1,4 +1,3 @@
-pub mod Lines
 pub mod Steps
 pub mod Picks
 pub mod Simple

@@ -1,18 +1,18 @@
 -- Which production of a statement the reader takes at a token, by the grammar's tables. Assumes nothing.
 use mathlib.Core.Path.{_≡_, refl, ap}
 use mathlib.Core.Bool.{Bool, true, false, _||_}
-use mathlib.Core.List.{List, [], _∷_, _++_}
-use Prim.Native.Nat.{ℕ, _≤_, _<_}
+use mathlib.Core.List.{[], _∷_}
+use Prim.Native.Nat.{ℕ}
 use native.Mathlib.Omega.{arith}
 use borrow.Author.Tests.{ne-eqb, eqb-true}
-use lib.Dec.{T, eqb}
+use lib.Dec.{eqb}
 use Rattle.base_codes.specs.Token.{NAME, ONE, SEMI, BECOMES, EQ, LE, END, NULL, WAIT, UNTIL, IF, THEN, ELSE, WHILE, LOOP}
-use Rattle.spec_grammar.specs.Tree.{null, wait, if-then, if-else, while, output, assign, only, andThen}
-use Rattle.spec_grammar.specs.Grammar.{NonTerminal, statement, target, expression, body, more, else-part, Sym, tk, nt, tok, stmt, stmt-fresh, fresh, deeper, shallower, Production, productions, _↠_}
+use Rattle.spec_grammar.specs.Tree.{null, wait, if-else, while, output, assign, andThen}
+use Rattle.spec_grammar.specs.Grammar.{statement, target, expression, body, more, else-part, tk, nt, tok, stmt, stmt-fresh, fresh, deeper, shallower, Production, productions, _↠_}
 use Rattle.front_cursor.proofs.Steps.{Into}
 use Rattle.front_expressions.proofs.Picks.{tests, or-left, or-right}
-use Rattle.front_statements.specs.Places.{isStart}
-use Rattle.spec_grammar.specs.Reader.{choose, elem, first, firsts, follow, nullable, nullables, chosen, Pick, take, no-rule, pick}
+use Rattle.front_statements.specs.Listings.{isStart}
+use Rattle.spec_grammar.specs.Reader.{elem, first, firsts, follow, nullable, nullables, chosen, take, no-rule, pick}
 
 abbrev pub assignmentRule : Production statement
 assignmentRule = tk stmt NAME ∷ nt target ∷ [] ↠ λ n f. f n
@@ -112,7 +112,8 @@ pub pick-more : (k : ℕ) → isStart k ≡ true → pick (productions more) k �
 unfolding pick productions chosen firsts nullables first nullable follow elem
 pick-more k h = go (eqb k 1) refl (eqb k 34) refl (eqb k 35) refl (eqb k 37) refl (eqb k 40) refl h
   where
-    go : (a : Bool) → eqb k 1 ≡ a → (b : Bool) → eqb k 34 ≡ b → (c : Bool) → eqb k 35 ≡ c → (d : Bool) → eqb k 37 ≡ d → (e : Bool) → eqb k 40 ≡ e → a || (b || (c || (d || e))) ≡ true → pick (productions more) k ≡ take moreRule
+    go : (a : Bool) → eqb k 1 ≡ a → (b : Bool) → eqb k 34 ≡ b → (c : Bool) → eqb k 35 ≡ c → (d : Bool) → eqb k 37 ≡ d → (e : Bool) → eqb k 40 ≡ e
+        → a || (b || (c || (d || e))) ≡ true → pick (productions more) k ≡ take moreRule
     go true a b b′ c c′ d d′ e e′ z = rw (eqb-true k 1 a)
     go false a true b′ c c′ d d′ e e′ z = rw (eqb-true k 34 b′)
     go false a false b′ true c′ d d′ e e′ z = rw (eqb-true k 35 c′)

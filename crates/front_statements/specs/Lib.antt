@@ -1,4 +1,2 @@
-pub mod Entries
-pub mod Rows
-pub mod Places
+pub mod Listings
 pub mod Readers

@@ -1,6 +1,6 @@
 -- What a reader of statements answers and writes, against the grammar's reader: as for expressions, and the rows written are the statements in text order. Assumes nothing.
 use mathlib.Core.Path.{_≡_}
-use mathlib.Core.List.{List, [], _∷_, _++_}
+use mathlib.Core.List.{List, _∷_, _++_}
 use Prim.Native.Nat.{ℕ, _+_, _<_}
 use lib.ListN.{length}
 use Rattle.base_codes.specs.Statement as S
@@ -9,40 +9,42 @@ use Rattle.spec_grammar.specs.Tree.{Expr, Body}
 use Rattle.spec_grammar.specs.Grammar.{NonTerminal, statement, else-part, Says, Sym, nt, Fun}
 use Rattle.spec_grammar.specs.Meter.{InHeading}
 use Rattle.spec_grammar.proofs.Steps.{Ok}
-use Rattle.front_cursor.specs.Tokens.{Holds}
-use Rattle.front_expressions.specs.Postfix.{postfix}
-use Rattle.front_statements.specs.declared.Place.{Place}
-use Rattle.front_statements.specs.Entries.{Entry, entry, stmtEntries, bodyEntries}
-use Rattle.front_statements.specs.Rows.{Output, WroteLines}
-use Rattle.front_statements.specs.Places.{fromPlace, FineHeading, MovesPlace}
+use Rattle.front_layout.specs.Tokens.{Holds}
+use Rattle.front_layout.specs.Postfix.{postfix}
+use Rattle.front_statements.specs.declared.Listing.{Listing}
+use Rattle.front_layout.specs.Entries.{Entry, entry, stmtEntries, bodyEntries}
+use Rattle.front_layout.specs.Rows.{Output, WroteLines}
+use Rattle.front_statements.specs.Listings.{fromListing, FineHeading, MovesListing}
 
 -- from p to r the reader has read an M with a value, and written its statements behind those before
-pub record ReadsLines (M : NonTerminal) (flat : Says M → List Entry) (ts : List Token) (depth : ℕ) (p r : Place) (before after : Output) : Type 0 where
+pub record ReadsLines (M : NonTerminal) (flat : Says M → List Entry) (ts : List Token) (depth : ℕ) (p r : Listing) (before after : Output) : Type 0 where
   pub value : Says M
   pub goes : (S : NonTerminal) (h : InHeading) → FineHeading h → (γ : List Sym) (κ : Says M → Fun γ (Says S)) → Ok (nt M ∷ γ)
-      → fromPlace ts S depth h p (nt M ∷ γ) κ ≡ fromPlace ts S depth h r γ (κ value)
-  pub wrote : r .fault ≡ 0 → WroteLines ts (p .n) (p .s) (r .n) (r .s) before after (flat value)
+      → fromListing ts S depth h p (nt M ∷ γ) κ ≡ fromListing ts S depth h r γ (κ value)
+  pub wrote : r .cursor .fault ≡ 0 → WroteLines ts (p .cursor .written) (p .statements) (r .cursor .written) (r .statements) before after (flat value)
 
 -- a statement, by which the reader gets further
-pub record StatementOver (kinds long : List ℕ) (n : ℕ) (p : Place) (depth : ℕ) (before : Output) (r : Place) (after : Output) : Type 0 where
-  pub moves : MovesPlace n p r
-  pub further : r .fault ≡ 0 → p .at < r .at
+pub record StatementOver (kinds long : List ℕ) (n : ℕ) (p : Listing) (depth : ℕ) (before : Output) (r : Listing) (after : Output) : Type 0 where
+  pub moves : MovesListing n p r
+  pub further : r .cursor .fault ≡ 0 → p .cursor .at < r .cursor .at
   pub reads : (ts : List Token) → Holds ts kinds long n → ReadsLines statement stmtEntries ts depth p r before after
 
 -- over the arrays
-pub record ReadsLinesOver (M : NonTerminal) (flat : Says M → List Entry) (kinds long : List ℕ) (n : ℕ) (p : Place) (depth : ℕ) (before : Output) (r : Place) (after : Output) : Type 0 where
-  pub moves : MovesPlace n p r
+pub record ReadsLinesOver (M : NonTerminal) (flat : Says M → List Entry) (kinds long : List ℕ) (n : ℕ) (p : Listing) (depth : ℕ) (before : Output) (r : Listing)
+    (after : Output) : Type 0 where
+  pub moves : MovesListing n p r
   pub reads : (ts : List Token) → Holds ts kinds long n → ReadsLines M flat ts depth p r before after
 
 -- an else part that is there or not: extra are its statements, behind those of the first part
-pub record ElseReads (ts : List Token) (depth : ℕ) (p r : Place) (before after : Output) : Type 0 where
+pub record ElseReads (ts : List Token) (depth : ℕ) (p r : Listing) (before after : Output) : Type 0 where
   pub value : Says else-part
   pub extra : List Entry
-  pub shape : (i : Token) (e : Expr) (a : Body) → stmtEntries (value i e a) ≡ entry S.IF i (postfix e) (length (bodyEntries a)) (length (bodyEntries a) + length extra) ∷ (bodyEntries a ++ extra)
+  pub shape : (i : Token) (e : Expr) (a : Body)
+      → stmtEntries (value i e a) ≡ entry S.IF i (postfix e) (length (bodyEntries a)) (length (bodyEntries a) + length extra) ∷ (bodyEntries a ++ extra)
   pub goes : (S : NonTerminal) (h : InHeading) → FineHeading h → (γ : List Sym) (κ : Says else-part → Fun γ (Says S)) → Ok (nt else-part ∷ γ)
-      → fromPlace ts S depth h p (nt else-part ∷ γ) κ ≡ fromPlace ts S depth h r γ (κ value)
-  pub wrote : r .fault ≡ 0 → WroteLines ts (p .n) (p .s) (r .n) (r .s) before after extra
+      → fromListing ts S depth h p (nt else-part ∷ γ) κ ≡ fromListing ts S depth h r γ (κ value)
+  pub wrote : r .cursor .fault ≡ 0 → WroteLines ts (p .cursor .written) (p .statements) (r .cursor .written) (r .statements) before after extra
 
-pub record ElseOver (kinds long : List ℕ) (n : ℕ) (p : Place) (depth : ℕ) (before : Output) (r : Place) (after : Output) : Type 0 where
-  pub moves : MovesPlace n p r
+pub record ElseOver (kinds long : List ℕ) (n : ℕ) (p : Listing) (depth : ℕ) (before : Output) (r : Listing) (after : Output) : Type 0 where
+  pub moves : MovesListing n p r
   pub reads : (ts : List Token) → Holds ts kinds long n → ElseReads ts depth p r before after

@@ -1,119 +1,95 @@
 // The readers of statements: tokens to rows in a lent array, one for each statement in text order, and items of their expressions.
 // A statement list is a loop; statements in statements are a cycle of calls, the tokens left falling.
 ghost use mathlib.Core.Path.{_≡_};
-ghost use Prim.Native.Nat.{ℕ, _+_, _<_, _≤_};
-ghost use lib.Dec.{eqb};
-ghost use Rattle.base_codes.specs.Token.{IF, NAME, NULL, WAIT, WHILE};
+ghost use Prim.Native.Nat.{_+_, _<_, _≤_};
+ghost use Rattle.base_codes.specs.Token.{END, IF, NAME, NULL, SEMI, WAIT, WHILE};
 ghost use Rattle.spec_grammar.specs.Grammar.{body as bodyPart};
-ghost use Rattle.front_cursor.specs.Tokens.{kindIn, flagIn};
-ghost use Rattle.front_cursor.specs.Reading.{expectAt};
-ghost use Rattle.front_expressions.specs.Written.{Arrays, arrays};
-ghost use Rattle.front_statements.specs.Entries.{bodyEntries};
-ghost use Rattle.front_statements.specs.Rows.{row, Small, finishAt, output};
-ghost use Rattle.front_statements.specs.Places.{cursorOf, placeOf, refusePlace, beginAt, renew, freshAt, isAssigning, rowKind, isStart, moreStatements, AsksPlace};
+ghost use Rattle.front_layout.specs.Tokens.{kindIn, flagIn};
+ghost use Rattle.front_cursor.specs.Reading.{Asks, expectOne};
+ghost use Rattle.front_layout.specs.Items.{Arrays, arrays};
+ghost use Rattle.front_layout.specs.Entries.{bodyEntries};
+ghost use Rattle.front_layout.specs.Rows.{row, output};
+ghost use Rattle.front_statements.specs.Listings.{refuseListing, beginAt, renew, freshAt, isAssigning, rowKind, isStart, moreStatements, Small, finishAt, AsksListing};
 ghost use Rattle.front_statements.specs.Readers.{ReadsLinesOver, StatementOver, ElseOver};
 use base_codes::limit;
 use base_codes::refusal;
 use base_codes::statement;
 use base_codes::token;
-use front_cursor::Pos;
+use front_cursor::Cursor;
 use front_cursor::expect;
 use front_cursor::kind_at;
+use front_cursor::refused;
 use front_expressions::expression;
 
 // Where a reader of statements stands: a cursor, and the statements so far.
-pub struct Place {
-    pub fault: u8,
-    pub at: usize,
-    pub items: usize,
-    pub n: usize,
-    pub s: usize,
+pub struct Listing {
+    pub cursor: Cursor,
+    pub statements: usize,
 }
 
-// The cursor of a place.
-fn cursor_of(p: Place) -> Pos
-    ensures { λ r. ⌜ r ≡ cursorOf p ⌝ }
+// The same statements, where the cursor is refused by a number.
+fn halted(p: Listing, number: u8) -> Listing
+    ensures { λ r. ⌜ r ≡ refuseListing number p ⌝ }
 {
-    Pos {
-        fault: p.fault,
-        at: p.at,
-        items: p.items,
-        n: p.n,
+    let q = p.cursor;
+    let c = refused(q, number);
+    Listing {
+        cursor: c,
+        statements: p.statements,
     }
 }
 
-// A cursor, and the statements so far.
-fn place_of(q: Pos, s: usize) -> Place
-    ensures { λ r. ⌜ r ≡ placeOf q s ⌝ }
-{
-    Place {
-        fault: q.fault,
-        at: q.at,
-        items: q.items,
-        n: q.n,
-        s,
-    }
-}
-
-// The same place, refused by a number.
-fn refuse(p: Place, number: u8) -> Place
-    ensures { λ r. ⌜ r ≡ refusePlace number p ⌝ }
-{
-    Place {
-        fault: number,
-        at: p.at,
-        items: p.items,
-        n: p.n,
-        s: p.s,
-    }
-}
-
-// Takes the token if it has the kind; refuses it otherwise, or by a limit.
-pub fn take(
+// `end if ;` or `end loop ;`
+fn end_of(
     kinds: &[u8; limit::TEXT],
     long: &[u8; limit::TEXT],
     n: usize,
-    p: Place,
-    kind: u8,
-) -> Place
-    requires { ⌜ (0 < kind) × AsksPlace n p ⌝ }
-    ensures { λ r. ⌜ r ≡ placeOf (expectAt (eqb (kindIn (now (kinds .entry)) n (p .at)) kind) (flagIn (now (long .entry)) (p .at)) (cursorOf p)) (p .s) ⌝ }
+    q: Cursor,
+    word: u8,
+) -> Cursor
+    requires { ⌜ (0 < word) × Asks n q ⌝ }
+    ensures { λ r. ⌜ r ≡ expectOne (now (kinds .entry)) (now (long .entry)) n SEMI (expectOne (now (kinds .entry)) (now (long .entry)) n word (expectOne (now (kinds .entry)) (now (long .entry)) n END q)) ⌝ }
 {
-    let q = expect(kinds, long, n, cursor_of(p), kind);
-    place_of(q, p.s)
+    let f = expect(kinds, long, n, q, token::END);
+    let g = expect(kinds, long, n, f, word);
+    expect(kinds, long, n, g, token::SEMI)
 }
 
 // Takes the first token of a statement, or refuses it by a limit; items is what the count of items is then.
-fn begin(long: &[u8; limit::TEXT], p: Place, depth: usize, items: usize) -> Place
-    requires { ⌜ (p .at < 16384) × (p .s ≤ 512) ⌝ }
-    ensures { λ r. ⌜ r ≡ beginAt (flagIn (now (long .entry)) (p .at)) depth items p ⌝ }
+fn begin(long: &[u8; limit::TEXT], p: Listing, depth: usize, items: usize) -> Listing
+    requires { ⌜ (p .cursor .at < 16384) × (p .statements ≤ 512) ⌝ }
+    ensures { λ r. ⌜ r ≡ beginAt (flagIn (now (long .entry)) (p .cursor .at)) depth items p ⌝ }
 {
-    if p.fault != 0 {
+    let q = p.cursor;
+    if q.fault != 0 {
         return p;
     }
-    let at = p.at;
+    let at = q.at;
     if long[at] == 1 {
-        return refuse(p, refusal::LIMIT_PASSED);
+        return halted(p, refusal::LIMIT_PASSED);
     }
-    if p.s >= limit::STATEMENTS {
-        return refuse(p, refusal::LIMIT_PASSED);
+    if p.statements >= limit::STATEMENTS {
+        return halted(p, refusal::LIMIT_PASSED);
     }
     if depth > limit::DEPTH {
-        return refuse(p, refusal::LIMIT_PASSED);
+        return halted(p, refusal::LIMIT_PASSED);
     }
-    Place {
-        fault: p.fault,
+    let c = Cursor {
+        fault: q.fault,
         at: at + 1,
         items,
-        n: p.n,
-        s: p.s + 1,
+        written: q.written,
+    };
+    Listing {
+        cursor: c,
+        statements: p.statements + 1,
     }
 }
 
 // Stores the row of statement number s, unless the reader has refused.
 fn finish(
     rows: &mut [u16; statement::ROWS],
-    r: Place,
+    r: Cursor,
     s: usize,
     kind: u16,
     index: usize,
@@ -141,27 +117,33 @@ fn null_statement(
     kinds: &[u8; limit::TEXT],
     long: &[u8; limit::TEXT],
     n: usize,
-    p: Place,
+    p: Listing,
     depth: usize,
     rows: &mut [u16; statement::ROWS],
-) -> Place
-    requires { ⌜ AsksPlace n p × (p .fault ≡ 0) × (kindIn (now kinds) n (p .at) ≡ NULL) ⌝ }
+) -> Listing
+    requires { ⌜ AsksListing n p × (p .cursor .fault ≡ 0) × (kindIn (now kinds) n (p .cursor .at) ≡ NULL) ⌝ }
     ensures { λ r. ⌜ ((a : Arrays) → StatementOver (now (kinds .entry)) (now (long .entry)) n p depth (output a (now (rows .entry))) r (output a (now (rows .exit)))) ⌝ }
 {
-    let a = begin(long, p, depth, p.items);
-    let b = take(kinds, long, n, a, token::SEMI);
+    let q = p.cursor;
+    let s = p.statements;
+    let a = begin(long, p, depth, q.items);
+    let c = a.cursor;
+    let b = expect(kinds, long, n, c, token::SEMI);
     finish(
         rows,
         b,
-        p.s,
+        s,
         statement::NULL,
         token::NOWHERE,
-        p.n,
-        p.n,
-        p.s + 1,
-        p.s + 1,
+        q.written,
+        q.written,
+        s + 1,
+        s + 1,
     );
-    b
+    Listing {
+        cursor: b,
+        statements: a.statements,
+    }
 }
 
 // `wait until clk = '1' ;`
@@ -169,31 +151,37 @@ fn wait_statement(
     kinds: &[u8; limit::TEXT],
     long: &[u8; limit::TEXT],
     n: usize,
-    p: Place,
+    p: Listing,
     depth: usize,
     rows: &mut [u16; statement::ROWS],
-) -> Place
-    requires { ⌜ AsksPlace n p × (p .fault ≡ 0) × (kindIn (now kinds) n (p .at) ≡ WAIT) ⌝ }
+) -> Listing
+    requires { ⌜ AsksListing n p × (p .cursor .fault ≡ 0) × (kindIn (now kinds) n (p .cursor .at) ≡ WAIT) ⌝ }
     ensures { λ r. ⌜ ((a : Arrays) → StatementOver (now (kinds .entry)) (now (long .entry)) n p depth (output a (now (rows .entry))) r (output a (now (rows .exit)))) ⌝ }
 {
-    let a = begin(long, p, depth, p.items);
-    let b = take(kinds, long, n, a, token::UNTIL);
-    let c = take(kinds, long, n, b, token::NAME);
-    let d = take(kinds, long, n, c, token::EQ);
-    let e = take(kinds, long, n, d, token::ONE);
-    let f = take(kinds, long, n, e, token::SEMI);
+    let q = p.cursor;
+    let s = p.statements;
+    let a = begin(long, p, depth, q.items);
+    let w = a.cursor;
+    let b = expect(kinds, long, n, w, token::UNTIL);
+    let c = expect(kinds, long, n, b, token::NAME);
+    let d = expect(kinds, long, n, c, token::EQ);
+    let e = expect(kinds, long, n, d, token::ONE);
+    let f = expect(kinds, long, n, e, token::SEMI);
     finish(
         rows,
         f,
-        p.s,
+        s,
         statement::WAIT,
         b.at,
-        p.n,
-        p.n,
-        p.s + 1,
-        p.s + 1,
+        q.written,
+        q.written,
+        s + 1,
+        s + 1,
     );
-    f
+    Listing {
+        cursor: f,
+        statements: a.statements,
+    }
 }
 
 // `o <= e ;` or `v := e ;`
@@ -201,33 +189,38 @@ fn assignment(
     kinds: &[u8; limit::TEXT],
     long: &[u8; limit::TEXT],
     n: usize,
-    p: Place,
+    p: Listing,
     depth: usize,
     codes: &mut [u8; limit::TEXT],
     tokens: &mut [u16; limit::TEXT],
     rows: &mut [u16; statement::ROWS],
-) -> Place
-    requires { ⌜ AsksPlace n p × (p .fault ≡ 0) × (kindIn (now kinds) n (p .at) ≡ NAME) ⌝ }
+) -> Listing
+    requires { ⌜ AsksListing n p × (p .cursor .fault ≡ 0) × (kindIn (now kinds) n (p .cursor .at) ≡ NAME) ⌝ }
     ensures { λ r. ⌜ StatementOver (now (kinds .entry)) (now (long .entry)) n p depth (output (arrays (now (codes .entry)) (now (tokens .entry))) (now (rows .entry))) r (output (arrays (now (codes .exit)) (now (tokens .exit))) (now (rows .exit))) ⌝ }
 {
-    let a = begin(long, p, depth, p.items);
-    let at = a.at;
-    let kind = kind_at(kinds, n, at);
-    let b = fresh(a, kind);
-    let e = expression(kinds, long, n, cursor_of(b), 0, codes, tokens);
-    let c = take(kinds, long, n, place_of(e, b.s), token::SEMI);
+    let q = p.cursor;
+    let s = p.statements;
+    let a = begin(long, p, depth, q.items);
+    let w = a.cursor;
+    let kind = kind_at(kinds, n, w.at);
+    let b = fresh(w, kind);
+    let e = expression(kinds, long, n, b, 0, codes, tokens);
+    let c = expect(kinds, long, n, e, token::SEMI);
     finish(
         rows,
         c,
-        p.s,
+        s,
         row_kind(kind),
-        p.at,
-        p.n,
-        e.n,
-        p.s + 1,
-        p.s + 1,
+        q.at,
+        q.written,
+        e.written,
+        s + 1,
+        s + 1,
     );
-    c
+    Listing {
+        cursor: c,
+        statements: a.statements,
+    }
 }
 
 // The row's kind of an assignment: 1 for <=, 2 for :=.
@@ -241,33 +234,32 @@ fn row_kind(kind: u8) -> u16
 }
 
 // Takes <= or :=, behind which an expression begins.
-fn fresh(p: Place, kind: u8) -> Place
-    requires { ⌜ p .at < 65536 ⌝ }
-    ensures { λ r. ⌜ r ≡ freshAt (isAssigning kind) p ⌝ }
+fn fresh(q: Cursor, kind: u8) -> Cursor
+    requires { ⌜ q .at < 65536 ⌝ }
+    ensures { λ r. ⌜ r ≡ freshAt (isAssigning kind) q ⌝ }
 {
-    if p.fault != 0 {
-        return p;
+    if q.fault != 0 {
+        return q;
     }
     if kind == token::LE {
-        return renewed(p);
+        return renewed(q);
     }
     if kind == token::BECOMES {
-        return renewed(p);
+        return renewed(q);
     }
-    refuse(p, refusal::NO_SENTENCE)
+    refused(q, refusal::NO_SENTENCE)
 }
 
 // One token on, where an expression begins.
-fn renewed(p: Place) -> Place
-    requires { ⌜ p .at < 65536 ⌝ }
-    ensures { λ r. ⌜ r ≡ renew p ⌝ }
+fn renewed(q: Cursor) -> Cursor
+    requires { ⌜ q .at < 65536 ⌝ }
+    ensures { λ r. ⌜ r ≡ renew q ⌝ }
 {
-    Place {
-        fault: p.fault,
-        at: p.at + 1,
+    Cursor {
+        fault: q.fault,
+        at: q.at + 1,
         items: 0,
-        n: p.n,
-        s: p.s,
+        written: q.written,
     }
 }
 
@@ -276,28 +268,46 @@ fn if_statement(
     kinds: &[u8; limit::TEXT],
     long: &[u8; limit::TEXT],
     n: usize,
-    p: Place,
+    p: Listing,
     depth: usize,
     codes: &mut [u8; limit::TEXT],
     tokens: &mut [u16; limit::TEXT],
     rows: &mut [u16; statement::ROWS],
-) -> Place
-    requires { ⌜ (depth ≤ 17) × AsksPlace n p × (p .fault ≡ 0) × (kindIn (now kinds) n (p .at) ≡ IF) ⌝ }
+) -> Listing
+    requires { ⌜ (depth ≤ 17) × AsksListing n p × (p .cursor .fault ≡ 0) × (kindIn (now kinds) n (p .cursor .at) ≡ IF) ⌝ }
     ensures { λ r. ⌜ StatementOver (now (kinds .entry)) (now (long .entry)) n p depth (output (arrays (now (codes .entry)) (now (tokens .entry))) (now (rows .entry))) r (output (arrays (now (codes .exit)) (now (tokens .exit))) (now (rows .exit))) ⌝ }
 {
+    let q = p.cursor;
     let a = begin(long, p, depth, 0);
-    if a.fault != 0 {
+    let w = a.cursor;
+    if w.fault != 0 {
         return a;
     }
-    let e = expression(kinds, long, n, cursor_of(a), 0, codes, tokens);
-    let b = take(kinds, long, n, place_of(e, a.s), token::THEN);
+    let e = expression(kinds, long, n, w, 0, codes, tokens);
+    let t = expect(kinds, long, n, e, token::THEN);
+    let b = Listing {
+        cursor: t,
+        statements: a.statements,
+    };
     let c = body(kinds, long, n, b, depth + 1, codes, tokens, rows);
     let d = else_part(kinds, long, n, c, depth + 1, codes, tokens, rows);
-    let f = take(kinds, long, n, d, token::END);
-    let g = take(kinds, long, n, f, token::IF);
-    let i = take(kinds, long, n, g, token::SEMI);
-    finish(rows, i, p.s, statement::IF, p.at, p.n, e.n, c.s, d.s);
-    i
+    let x = d.cursor;
+    let i = end_of(kinds, long, n, x, token::IF);
+    finish(
+        rows,
+        i,
+        p.statements,
+        statement::IF,
+        q.at,
+        q.written,
+        e.written,
+        c.statements,
+        d.statements,
+    );
+    Listing {
+        cursor: i,
+        statements: d.statements,
+    }
 }
 
 // `while e loop S end loop ;`
@@ -305,27 +315,45 @@ fn while_statement(
     kinds: &[u8; limit::TEXT],
     long: &[u8; limit::TEXT],
     n: usize,
-    p: Place,
+    p: Listing,
     depth: usize,
     codes: &mut [u8; limit::TEXT],
     tokens: &mut [u16; limit::TEXT],
     rows: &mut [u16; statement::ROWS],
-) -> Place
-    requires { ⌜ (depth ≤ 17) × AsksPlace n p × (p .fault ≡ 0) × (kindIn (now kinds) n (p .at) ≡ WHILE) ⌝ }
+) -> Listing
+    requires { ⌜ (depth ≤ 17) × AsksListing n p × (p .cursor .fault ≡ 0) × (kindIn (now kinds) n (p .cursor .at) ≡ WHILE) ⌝ }
     ensures { λ r. ⌜ StatementOver (now (kinds .entry)) (now (long .entry)) n p depth (output (arrays (now (codes .entry)) (now (tokens .entry))) (now (rows .entry))) r (output (arrays (now (codes .exit)) (now (tokens .exit))) (now (rows .exit))) ⌝ }
 {
+    let q = p.cursor;
     let a = begin(long, p, depth, 0);
-    if a.fault != 0 {
+    let w = a.cursor;
+    if w.fault != 0 {
         return a;
     }
-    let e = expression(kinds, long, n, cursor_of(a), 0, codes, tokens);
-    let b = take(kinds, long, n, place_of(e, a.s), token::LOOP);
+    let e = expression(kinds, long, n, w, 0, codes, tokens);
+    let t = expect(kinds, long, n, e, token::LOOP);
+    let b = Listing {
+        cursor: t,
+        statements: a.statements,
+    };
     let c = body(kinds, long, n, b, depth + 1, codes, tokens, rows);
-    let f = take(kinds, long, n, c, token::END);
-    let g = take(kinds, long, n, f, token::LOOP);
-    let i = take(kinds, long, n, g, token::SEMI);
-    finish(rows, i, p.s, statement::WHILE, p.at, p.n, e.n, c.s, c.s);
-    i
+    let x = c.cursor;
+    let i = end_of(kinds, long, n, x, token::LOOP);
+    finish(
+        rows,
+        i,
+        p.statements,
+        statement::WHILE,
+        q.at,
+        q.written,
+        e.written,
+        c.statements,
+        c.statements,
+    );
+    Listing {
+        cursor: i,
+        statements: c.statements,
+    }
 }
 
 // `else S`, or nothing.
@@ -333,20 +361,24 @@ fn else_part(
     kinds: &[u8; limit::TEXT],
     long: &[u8; limit::TEXT],
     n: usize,
-    p: Place,
+    p: Listing,
     depth: usize,
     codes: &mut [u8; limit::TEXT],
     tokens: &mut [u16; limit::TEXT],
     rows: &mut [u16; statement::ROWS],
-) -> Place
-    requires { ⌜ (depth ≤ 17) × AsksPlace n p ⌝ }
+) -> Listing
+    requires { ⌜ (depth ≤ 17) × AsksListing n p ⌝ }
     ensures { λ r. ⌜ ElseOver (now (kinds .entry)) (now (long .entry)) n p depth (output (arrays (now (codes .entry)) (now (tokens .entry))) (now (rows .entry))) r (output (arrays (now (codes .exit)) (now (tokens .exit))) (now (rows .exit))) ⌝ }
 {
-    let at = p.at;
-    if kind_at(kinds, n, at) != token::ELSE {
+    let q = p.cursor;
+    if kind_at(kinds, n, q.at) != token::ELSE {
         return p;
     }
-    let a = take(kinds, long, n, p, token::ELSE);
+    let e = expect(kinds, long, n, q, token::ELSE);
+    let a = Listing {
+        cursor: e,
+        statements: p.statements,
+    };
     body(kinds, long, n, a, depth, codes, tokens, rows)
 }
 
@@ -355,20 +387,20 @@ fn statement(
     kinds: &[u8; limit::TEXT],
     long: &[u8; limit::TEXT],
     n: usize,
-    p: Place,
+    p: Listing,
     depth: usize,
     codes: &mut [u8; limit::TEXT],
     tokens: &mut [u16; limit::TEXT],
     rows: &mut [u16; statement::ROWS],
-) -> Place
-    requires { ⌜ (depth ≤ 17) × AsksPlace n p ⌝ }
+) -> Listing
+    requires { ⌜ (depth ≤ 17) × AsksListing n p ⌝ }
     ensures { λ r. ⌜ StatementOver (now (kinds .entry)) (now (long .entry)) n p depth (output (arrays (now (codes .entry)) (now (tokens .entry))) (now (rows .entry))) r (output (arrays (now (codes .exit)) (now (tokens .exit))) (now (rows .exit))) ⌝ }
 {
-    if p.fault != 0 {
+    let q = p.cursor;
+    if q.fault != 0 {
         return p;
     }
-    let at = p.at;
-    let kind = kind_at(kinds, n, at);
+    let kind = kind_at(kinds, n, q.at);
     if kind == token::NAME {
         return assignment(kinds, long, n, p, depth, codes, tokens, rows);
     }
@@ -384,7 +416,7 @@ fn statement(
     if kind == token::WHILE {
         return while_statement(kinds, long, n, p, depth, codes, tokens, rows);
     }
-    refuse(p, refusal::NO_SENTENCE)
+    halted(p, refusal::NO_SENTENCE)
 }
 
 // A list of statements, at least one.
@@ -392,13 +424,13 @@ pub fn body(
     kinds: &[u8; limit::TEXT],
     long: &[u8; limit::TEXT],
     n: usize,
-    p: Place,
+    p: Listing,
     depth: usize,
     codes: &mut [u8; limit::TEXT],
     tokens: &mut [u16; limit::TEXT],
     rows: &mut [u16; statement::ROWS],
-) -> Place
-    requires { ⌜ (depth ≤ 17) × AsksPlace n p ⌝ }
+) -> Listing
+    requires { ⌜ (depth ≤ 17) × AsksListing n p ⌝ }
     ensures { λ r. ⌜ ReadsLinesOver bodyPart bodyEntries (now (kinds .entry)) (now (long .entry)) n p depth (output (arrays (now (codes .entry)) (now (tokens .entry))) (now (rows .entry))) r (output (arrays (now (codes .exit)) (now (tokens .exit))) (now (rows .exit))) ⌝ }
 {
     let mut a = statement(kinds, long, n, p, depth, codes, tokens, rows);
@@ -409,14 +441,15 @@ pub fn body(
 }
 
 // Whether a further statement follows.
-fn more_statements(kinds: &[u8; limit::TEXT], n: usize, p: Place) -> bool
+fn more_statements(kinds: &[u8; limit::TEXT], n: usize, p: Listing) -> bool
     requires { ⌜ n ≤ 16384 ⌝ }
-    ensures { λ r. ⌜ r ≡ moreStatements (p .fault) (kindIn (now (kinds .entry)) n (p .at)) ⌝ }
+    ensures { λ r. ⌜ r ≡ moreStatements (p .cursor .fault) (kindIn (now (kinds .entry)) n (p .cursor .at)) ⌝ }
 {
-    if p.fault != 0 {
+    let q = p.cursor;
+    if q.fault != 0 {
         return false;
     }
-    begins_statement(kind_at(kinds, n, p.at))
+    begins_statement(kind_at(kinds, n, q.at))
 }
 
 // Whether a statement begins with a token of this kind.

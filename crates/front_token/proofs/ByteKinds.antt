@@ -36,7 +36,8 @@ unfolding is
 kind-is k b r e = rw e (eqb-comm (kindCode (byteKind b)) (kindCode k))
 
 first-three : (k : ByteKind)
-    → leb (kindCode k) (kindCode underscore) ≡ (eqb (kindCode letter) (kindCode k) || (eqb (kindCode digit) (kindCode k) || eqb (kindCode underscore) (kindCode k)))
+    → leb (kindCode k) (kindCode underscore)
+    ≡ (eqb (kindCode letter) (kindCode k) || (eqb (kindCode digit) (kindCode k) || eqb (kindCode underscore) (kindCode k)))
 first-three letter = refl
 first-three digit = refl
 first-three underscore = refl

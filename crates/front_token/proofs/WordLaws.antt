@@ -2,11 +2,11 @@
 use mathlib.Core.Path.{_≡_, refl, sym, _∙_, ap}
 use mathlib.Core.Bool.{Bool, true, false, cond, not, _&&_}
 use mathlib.Core.List.{List, [], _∷_, map}
-use Prim.Native.Nat.{ℕ, zero, suc, _+_, _-_, _≤_, _<_}
+use Prim.Native.Nat.{ℕ, _+_, _-_, _≤_, _<_}
 use native.Mathlib.Omega.{arith}
 use native.Mathlib.Numerals.{add-one}
 use lib.Dec.{eqb}
-use lib.ListN.{length, getD, take, drop, drop-of-length-le, length-take, length-drop, length-map}
+use lib.ListN.{length, getD, take, drop, drop-of-length-le, length-map}
 use lib.Seq.{drop-cons}
 use borrow.Author.Tests.{eqb-false, eq-eqb, ne-eqb}
 use Rattle.base_codes.specs.Token.{NAME}
@@ -17,7 +17,6 @@ use Rattle.spec_language.specs.Lexer.{begins}
 use Rattle.spec_language.proofs.Facts.{clash, and-true-both}
 use Rattle.spec_language.proofs.Lexing.{equal-is, equal-refl}
 use Rattle.spec_language.proofs.Folding.{one-name}
-use Rattle.front_token.specs.Places.{part}
 use Rattle.front_token.specs.Reserved.{spelledKind, reservedKind, keepIf, ofSize}
 
 -- one byte more of a word, u saying that an underscore stands before it, and here that it is one
@@ -68,7 +67,8 @@ begins-take (b ∷ w) [] = refl
 begins-take (b ∷ w) (c ∷ l) = ap (λ (q : Bool). eqb b c && q) (begins-take w l)
 
 -- a reserved word and the rest of the list
-pub word-rest : (w : Word) (ws : List Word) (x : List ℕ) (r s : ℕ) → r ≡ cond (equal (w .bytes) x) (w .kind) s → s ≡ spelledKind ws x → r ≡ spelledKind (w ∷ ws) x
+pub word-rest : (w : Word) (ws : List Word) (x : List ℕ) (r s : ℕ) → r ≡ cond (equal (w .bytes) x) (w .kind) s → s ≡ spelledKind ws x
+    → r ≡ spelledKind (w ∷ ws) x
 unfolding spelledKind
 word-rest w ws x r s e h = e ∙ ap (cond (equal (w .bytes) x) (w .kind)) h
 
@@ -108,7 +108,8 @@ missed b (k ∷ ks) m = let h = missed b ks m in (h .0 .0, rw (ne-eqb b k (h .0 
 pub not-among : (f : List ℕ → ℕ) (p : ℕ → Bool) (w x : List ℕ) → p (f w) ≡ true → p (f x) ≡ false → equal w x ≡ false
 not-among f p w x t h = apart f w x (λ e. clash (sym t ∙ (ap p e ∙ h)))
 
-no-size : (p : ℕ → Bool) (ws : List Word) (x : List ℕ) → p (length x) ≡ false → all p (map (λ (w : Word). length (w .bytes)) ws) ≡ true → NAME ≡ spelledKind ws x
+no-size : (p : ℕ → Bool) (ws : List Word) (x : List ℕ) → p (length x) ≡ false → all p (map (λ (w : Word). length (w .bytes)) ws) ≡ true
+    → NAME ≡ spelledKind ws x
 unfolding spelledKind all
 no-size p [] x f a = refl
 no-size p (w ∷ ws) x f a =

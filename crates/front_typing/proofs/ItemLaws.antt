@@ -19,11 +19,11 @@ use Rattle.base_codes.specs.Item as I
 use Rattle.base_codes.specs.Operation.{SIGN, NOT, operatorOf, countOr, operandsOf}
 use Rattle.base_codes.specs.Types.{tagOf, tagOr}
 use Rattle.base_codes.specs.Limit.{ITEMS}
-use Rattle.front_expressions.specs.Postfix.{Item, itemOf, binaryItem, postfix}
-use Rattle.front_expressions.proofs.Folds.{Steps, postfix-law}
-use Rattle.front_syntax.specs.Lowest.{number, lowestOf, lower}
-use Rattle.front_syntax.specs.Kinded.{OperatorKind, KindedExpr}
-use Rattle.front_syntax.proofs.Lowest.{lower-none, lower-assoc, lowest-append}
+use Rattle.front_layout.specs.Postfix.{Item, itemOf, binaryItem, postfix}
+use Rattle.front_layout.proofs.Folds.{Steps, postfix-law}
+use Rattle.front_offences.specs.Lowest.{number, lowestOf, lower}
+use Rattle.front_offences.specs.Kinded.{OperatorKind, KindedExpr}
+use Rattle.front_offences.proofs.Lowest.{lower-none, lower-assoc, lowest-append}
 use Rattle.front_typing.specs.Operators.{rightOne, rightTwo}
 use Rattle.front_typing.specs.Expressions.{Work, work, pushed, unaryOn, binaryOn, stepWork}
 use Rattle.front_typing.proofs.OperatorLaws.{unary-law, two-operands, binary-law, wrong1-law, wrong2-law}
@@ -59,24 +59,29 @@ module _ (Δ : List Decl) where
   join1 b l a r p = rw (wrong1-law a r p, lowest-append l (wrong1 a r p)) (lower-assoc b (lowestOf l) (lowestOf (wrong1 a r p)))
 
   join2 : (b : ℕ) (l m : List ℕ) (a c r : Option ExprTy) (p : ℕ)
-      → lower (lower (lower b (lowestOf l)) (lowestOf m)) (lowestOf (unless (rightTwo (tagOr a) (tagOr c) (tagOr r)) p)) ≡ lower b (lowestOf (l ++ (m ++ wrong2 a c r p)))
+      → lower (lower (lower b (lowestOf l)) (lowestOf m)) (lowestOf (unless (rightTwo (tagOr a) (tagOr c) (tagOr r)) p))
+      ≡ lower b (lowestOf (l ++ (m ++ wrong2 a c r p)))
   join2 b l m a c r p =
       rw (wrong2-law a c r p, lowest-append l (m ++ wrong2 a c r p), lowest-append m (wrong2 a c r p))
-      (lower-assoc (lower b (lowestOf l)) (lowestOf m) (lowestOf (wrong2 a c r p)) ∙ lower-assoc b (lowestOf l) (lower (lowestOf m) (lowestOf (wrong2 a c r p))))
+      (lower-assoc (lower b (lowestOf l)) (lowestOf m) (lowestOf (wrong2 a c r p))
+      ∙ lower-assoc b (lowestOf l) (lower (lowestOf m) (lowestOf (wrong2 a c r p))))
 
   sign-step : (x : Token) (a : Option ExprTy) (l : List ℕ) (s : List ℕ) (b : ℕ)
-      → itemStep (itemOf SIGN x) (work (tagOr a ∷ s) (lower b (lowestOf l))) ≡ work (tagOr (onOne sumType a) ∷ s) (lower b (lowestOf (l ++ wrong1 a (onOne sumType a) (x .place))))
+      → itemStep (itemOf SIGN x) (work (tagOr a ∷ s) (lower b (lowestOf l)))
+      ≡ work (tagOr (onOne sumType a) ∷ s) (lower b (lowestOf (l ++ wrong1 a (onOne sumType a) (x .place))))
   unfolding itemStep stepWork unaryOn operandsOf countOr unaryType
   sign-step x a l s b = rw (unary-law SIGN O.sign refl a, join1 b l a (onOne sumType a) (x .place))
 
   not-step : (x : Token) (a : Option ExprTy) (l : List ℕ) (s : List ℕ) (b : ℕ)
-      → itemStep (itemOf NOT x) (work (tagOr a ∷ s) (lower b (lowestOf l))) ≡ work (tagOr (onOne logicalType a) ∷ s) (lower b (lowestOf (l ++ wrong1 a (onOne logicalType a) (x .place))))
+      → itemStep (itemOf NOT x) (work (tagOr a ∷ s) (lower b (lowestOf l)))
+      ≡ work (tagOr (onOne logicalType a) ∷ s) (lower b (lowestOf (l ++ wrong1 a (onOne logicalType a) (x .place))))
   unfolding itemStep stepWork unaryOn operandsOf countOr unaryType
   not-step x a l s b = rw (unary-law NOT O.invert refl a, join1 b l a (onOne logicalType a) (x .place))
 
   binary-step : (x : Token) (a c : Option ExprTy) (l m : List ℕ) (s : List ℕ) (b : ℕ) → OperatorKind (x .kind)
       → itemStep (binaryItem x) (work (tagOr c ∷ (tagOr a ∷ s)) (lower (lower b (lowestOf l)) (lowestOf m)))
-      ≡ work (tagOr (onTwo (resultOf (operatorOf (x .kind))) a c) ∷ s) (lower b (lowestOf (l ++ (m ++ wrong2 a c (onTwo (resultOf (operatorOf (x .kind))) a c) (x .place)))))
+      ≡ work (tagOr (onTwo (resultOf (operatorOf (x .kind))) a c) ∷ s)
+      (lower b (lowestOf (l ++ (m ++ wrong2 a c (onTwo (resultOf (operatorOf (x .kind))) a c) (x .place)))))
   unfolding itemStep stepWork binaryOn
   binary-step x a c l m s b h =
       rw (two-operands (x .kind) h, binary-law (x .kind) a c, join2 b l m a c (onTwo (resultOf (operatorOf (x .kind))) a c) (x .place))
@@ -98,11 +103,22 @@ module _ (Δ : List Decl) where
   unfolding typeOf typesIn itemCount number lowest
   steps r =
       record {
-        number = λ x w k f c. before (itemOf I.NUMBER x) k w (work (tagOf (plain integer) ∷ w .stack) (w .lowest)) r (number-step x (w .stack) (w .lowest) (omega arith)) (none-found (tagOf (plain integer) ∷ w .stack) (w .lowest) k r c);
-        bit = λ x w k f c. before (itemOf I.BIT x) k w (work (tagOf (plain std-logic) ∷ w .stack) (w .lowest)) r (bit-step x (w .stack) (w .lowest) (omega arith)) (none-found (tagOf (plain std-logic) ∷ w .stack) (w .lowest) k r c);
-        name = λ x w k f c. before (itemOf I.NAME x) k w (work (tagOr (typeIn (find Δ (x .value))) ∷ w .stack) (w .lowest)) r (name-step x (w .stack) (w .lowest) (omega arith)) (none-found (tagOr (typeIn (find Δ (x .value))) ∷ w .stack) (w .lowest) k r c);
-        sign = λ x a w k f. ((f .0 .1, omega arith), λ c. before (itemOf SIGN x) k (judged a w) (judged (sign x a) w) r (sign-step x (typeOf Δ a) (typesIn Δ a) (w .stack) (w .lowest)) c);
-        negate = λ x a w k f. ((f .0 .1, omega arith), λ c. before (itemOf NOT x) k (judged a w) (judged (negate x a) w) r (not-step x (typeOf Δ a) (typesIn Δ a) (w .stack) (w .lowest)) c);
+        number = λ x w k f c. before (itemOf I.NUMBER x) k w (work (tagOf (plain integer) ∷ w .stack) (w .lowest)) r
+            (number-step x (w .stack) (w .lowest) (omega arith)) (none-found (tagOf (plain integer) ∷ w .stack) (w .lowest) k r c);
+        bit = λ x w k f c. before (itemOf I.BIT x) k w (work (tagOf (plain std-logic) ∷ w .stack) (w .lowest)) r
+            (bit-step x (w .stack) (w .lowest) (omega arith)) (none-found (tagOf (plain std-logic) ∷ w .stack) (w .lowest) k r c);
+        name = λ x w k f c. before (itemOf I.NAME x) k w (work (tagOr (typeIn (find Δ (x .value))) ∷ w .stack) (w .lowest)) r
+            (name-step x (w .stack) (w .lowest) (omega arith)) (none-found (tagOr (typeIn (find Δ (x .value))) ∷ w .stack) (w .lowest) k r c);
+        sign = λ x a w k f. (
+          (f .0 .1, omega arith),
+          λ c. before (itemOf SIGN x) k (judged a w) (judged (sign x a) w) r
+              (sign-step x (typeOf Δ a) (typesIn Δ a) (w .stack) (w .lowest)) c,
+        );
+        negate = λ x a w k f. (
+          (f .0 .1, omega arith),
+          λ c. before (itemOf NOT x) k (judged a w) (judged (negate x a) w) r
+              (not-step x (typeOf Δ a) (typesIn Δ a) (w .stack) (w .lowest)) c,
+        );
         binary = λ x a b w k f. (
           (f .0 .1, omega arith),
           (f .0 .2, omega arith),

@@ -1,10 +1,7 @@
-pub mod Running
-pub mod Places
-pub mod Groups
 pub mod StackLaws
 pub mod StatementLaws
 pub mod OperatorLaws
 pub mod NameLaws
 pub mod ItemLaws
 pub mod RowLaws
-pub mod TypeLaws
+pub mod Exact

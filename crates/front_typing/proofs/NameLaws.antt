@@ -8,7 +8,7 @@ use native.Mathlib.Omega.{arith}
 use native.Mathlib.Decide.{decLt}
 use borrow.Author.Tests.{lt-ltb, le-ltb}
 use lib.Dec.{eqb, ltb, leb·suc-suc}
-use lib.ListN.{length, getD}
+use lib.ListN.{getD}
 use Rattle.spec_grammar.specs.Token.{Token}
 use Rattle.base_codes.specs.Token.{NAME}
 use Rattle.spec_grammar.specs.Tree.{Group, Text}
@@ -20,11 +20,11 @@ use Rattle.base_codes.specs.Limit.{TEXT, NAMES}
 use Rattle.base_codes.proofs.TypeLaws.{declared-type}
 use Rattle.spec_language.specs.Declarations.{Decl, declare, spread, declared, groups, find, typeIn}
 use Rattle.spec_language.specs.Elaboration.{position}
-use Rattle.front_cursor.specs.Tokens.{tokenAt}
-use Rattle.front_syntax.specs.Arrays.{TokensIn, OwnersIn}
-use Rattle.front_syntax.specs.Headings.{Heading, namesOf, groupNames, groupsNames, headings, DeclRow, declsFrom, headingSeen, DeclsIn}
+use Rattle.front_layout.specs.Tokens.{tokenAt}
+use Rattle.front_layout.specs.Arrays.{TokensIn, OwnersIn}
+use Rattle.front_layout.specs.Headings.{Heading, namesOf, groupNames, groupsNames, headings, DeclRow, declsFrom, headingSeen, DeclsIn}
 use Rattle.front_typing.specs.Expressions.{declaredCode, nameCode}
-use Rattle.front_typing.proofs.Places.{index-within}
+use Rattle.front_offences.proofs.Tokens.{kind-inside}
 
 -- the type of a declaration as its heading's number; of the j-th of a list of them
 abbrev shown : ℕ → ℕ
@@ -53,7 +53,8 @@ groups-types : (gs : List Group) → map (λ (h : Heading). h .type) (groupsName
 unfolding groupsNames spread
 groups-types [] = refl
 groups-types (g ∷ gs) =
-    map-append (λ (h : Heading). h .type) (groupNames g (g .names)) (groupsNames gs) ∙ (rw (group-types g (g .names), groups-types gs) (sym (map-append typeOfDecl (declare g (g .names)) (spread gs))))
+    map-append (λ (h : Heading). h .type) (groupNames g (g .names)) (groupsNames gs)
+    ∙ (rw (group-types g (g .names), groups-types gs) (sym (map-append typeOfDecl (declare g (g .names)) (spread gs))))
 
 -- the type at a name's position
 found-type : (Δ : List Decl) (v : ℕ) → codeAt (map typeOfDecl Δ) (position Δ v) ≡ tagOr (typeIn (find Δ v))
@@ -67,7 +68,8 @@ found-type (d ∷ ds) v = go (eqb (d .name .value) v) (found-type ds v)
     go false h = h
 
 -- the types in the array
-array-types : (decls : List ℕ) (m c j : ℕ) → codeAt (map (λ (r : DeclRow). r .type) (declsFrom decls m c)) j ≡ choose (ltb j c) (shown (getD decls (ROW * (m + j) + TYPE) 0)) NONE
+array-types : (decls : List ℕ) (m c j : ℕ) → codeAt (map (λ (r : DeclRow). r .type) (declsFrom decls m c)) j
+    ≡ choose (ltb j c) (shown (getD decls (ROW * (m + j) + TYPE) 0)) NONE
 unfolding codeAt declsFrom
 array-types decls m zero j = rw (le-ltb j 0 (omega arith))
 array-types decls m (suc c) zero = let z : m + 0 ≡ m = omega arith in rw (lt-ltb 0 (suc c) (omega arith), z)
@@ -87,16 +89,17 @@ declared-law ts t decls d v h =
     let p = position (spread (groups t)) v in
     let z : 0 + p ≡ p = omega arith in
     let same : map (λ (r : DeclRow). r .type) (declsFrom decls 0 d) ≡ map typeOfDecl (spread (groups t))
-    = sym (map-map (λ (h : Heading). h .type) (headingSeen ts) (declsFrom decls 0 d)) ∙ (ap (map (λ (h : Heading). h .type)) (h .are) ∙ groups-types (groups t)) in
+    = sym (map-map (λ (h : Heading). h .type) (headingSeen ts) (declsFrom decls 0 d))
+    ∙ (ap (map (λ (h : Heading). h .type)) (h .are) ∙ groups-types (groups t)) in
     declared-within decls d p (h .short) ∙
     (sym (rw z at (array-types decls 0 d p)) ∙
     (ap (λ (l : List ℕ). codeAt l p) same ∙ found-type (spread (groups t)) v))
 
 -- the type of a name at its index
-pub name-law : (ts : List Token) (kinds places owners decls : List ℕ) (n d i : ℕ) (t : Text) → TokensIn ts kinds places n → OwnersIn ts (declared t) owners n → DeclsIn ts (headings t) decls d
+pub name-law : (ts : List Token) (kinds places owners decls : List ℕ) (n d i : ℕ) (t : Text) → TokensIn ts kinds places n → OwnersIn ts (declared t) owners n
+    → DeclsIn ts (headings t) decls d
     → tokenAt ts i .kind ≡ NAME → nameCode owners decls d i ≡ tagOr (typeIn (find (declared t) (tokenAt ts i .value)))
 unfolding nameCode
 name-law ts kinds places owners decls n d i t h o k e =
-    let l : i < length ts = index-within ts i (λ z. omega (arith, z, e)) in
-    let b : i < n = omega (arith, l, h .count) in
+    let b : i < n = kind-inside h i NAME e (omega arith) in
     rw (lt-ltb i TEXT (omega (arith, b, h .short)), o .owner i b e) (declared-law ts t decls d (tokenAt ts i .value) k)

@@ -12,8 +12,8 @@ use Rattle.base_codes.specs.Operation.{binaryCode, unaryFor, operatorOf, codeOr
 use Rattle.base_codes.specs.Types.{NONE, tagOf, tagOr, unaryOf, binaryOf, unaryTypeFor, binaryTypeFor}
 use Rattle.base_codes.proofs.OperationLaws.{binary-code}
 use Rattle.base_codes.proofs.TypeLaws.{tag-there, none-apart, same-tag, after-none, unary-tag, binary-tag, binary-type-no}
-use Rattle.front_syntax.specs.Kinded.{OperatorKind}
-use Rattle.front_syntax.proofs.Operators.{each-operator}
+use Rattle.front_offences.specs.Kinded.{OperatorKind}
+use Rattle.front_offences.proofs.Operators.{each-operator}
 use Rattle.front_typing.specs.Operators as P
 use Rattle.front_typing.specs.Operators.{rightOne, rightTwo, fitsCode}
 

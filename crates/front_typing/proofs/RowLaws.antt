@@ -1,7 +1,7 @@
 -- The rows of statements by position have the lowest offence of the statements. Assumes nothing.
 use mathlib.Core.Path.{_≡_, refl, sym, ap, _∙_}
 use mathlib.Core.Option.{Option, some}
-use mathlib.Core.List.{List, [], _∷_, _++_, map, map-append, append-nil}
+use mathlib.Core.List.{List, [], _∷_, _++_, map, append-nil}
 use Prim.Native.Nat.{ℕ, suc, _+_, _-_, _≤_}
 use native.Mathlib.Omega.{arith}
 use native.Mathlib.Decide.{ℕ-discrete}
@@ -16,44 +16,25 @@ use Rattle.spec_design.specs.Types.{ExprTy, boolean}
 use Rattle.spec_language.specs.Lists.{unless, each, lowest}
 use Rattle.spec_language.specs.Declarations.{Decl, declared, find, typeIn, within, statements}
 use Rattle.spec_language.specs.Typing.{typeOf, typesIn, wants, typesOf}
-use Rattle.front_cursor.specs.Tokens.{tokenAt}
-use Rattle.front_expressions.specs.Postfix.{Item, itemOf, postfix}
-use Rattle.front_expressions.specs.Written.{itemAtIndex}
-use Rattle.front_statements.specs.Entries.{Entry, stmtEntries, bodyEntries, entryItems}
-use Rattle.front_statements.specs.Rows.{Row, Line, seen, linesFrom}
-use Rattle.front_syntax.specs.Lowest.{number, lowestOf, lower, lowestFrom}
-use Rattle.front_syntax.specs.Arrays.{placedFrom, rowIn, rowsFrom, TokensIn, OwnersIn, ItemsIn, RowsIn}
-use Rattle.front_syntax.specs.Headings.{headings, DeclsIn}
-use Rattle.front_syntax.specs.Kinded.{KindedExpr, KindedStmt, KindedBody}
-use Rattle.front_syntax.specs.Entries.{stmtEntry}
-use Rattle.front_syntax.proofs.Lowest.{lowest-append}
-use Rattle.front_syntax.proofs.Named.{IsNamed, postfix-named}
+use Rattle.front_layout.specs.Tokens.{tokenAt}
+use Rattle.front_layout.specs.Postfix.{Item, itemOf, postfix}
+use Rattle.front_layout.specs.Items.{itemAtIndex}
+use Rattle.front_layout.specs.Entries.{Entry, bodyEntries, entryItems, stmtEntry}
+use Rattle.front_layout.specs.Rows.{Row, Line, seen, linesFrom}
+use Rattle.front_offences.specs.Lowest.{number, lowestOf, lower, lowestFrom}
+use Rattle.front_layout.specs.Arrays.{placedFrom, rowIn, rowsFrom, TokensIn, OwnersIn, ItemsIn, RowsIn}
+use Rattle.front_layout.specs.Headings.{headings, DeclsIn}
+use Rattle.front_offences.specs.Kinded.{KindedExpr, KindedStmt, KindedBody}
+use Rattle.front_offences.proofs.Lowest.{lowest-append}
+use Rattle.front_offences.proofs.Named.{IsNamed, postfix-named}
 use Rattle.base_codes.specs.Types.{BOOLEAN, tagOr}
 use Rattle.front_typing.specs.Expressions.{Sources, Work, work, nameAt, placeAt, stepWork, itemWork, itemsWork, topOf}
-use Rattle.front_typing.specs.Statements.{wantedCode, judgedAs, rowCode, statementAt}
-use Rattle.front_typing.proofs.Places.{place-law}
+use Rattle.front_typing.specs.Positions.{wantedCode, judgedAs, rowCode, statementAt}
+use Rattle.front_offences.proofs.Bodies.{entries-are}
+use Rattle.front_offences.proofs.Tokens.{place-is}
 use Rattle.front_typing.proofs.NameLaws.{name-law}
 use Rattle.front_typing.proofs.OperatorLaws.{wants-law}
 use Rattle.front_typing.proofs.ItemLaws.{itemStep, listWork, expr-law}
-
--- Statements and their entries, in text order.
-
-mutual
-  unfolding stmtEntries within stmtEntry
-
-  stmt-entries : (s : Stmt) → stmtEntries s ≡ map stmtEntry (within s)
-  stmt-entries (output x e) = refl
-  stmt-entries (assign x e) = refl
-  stmt-entries null = refl
-  stmt-entries (wait x) = refl
-  stmt-entries (if-then i e a) = ap (λ (l : List Entry). stmtEntry (if-then i e a) ∷ l) (body-entries a)
-  stmt-entries (if-else i e a b) =
-      ap (λ (l : List Entry). stmtEntry (if-else i e a b) ∷ l) (rw (body-entries a, body-entries b) (sym (map-append stmtEntry (statements a) (statements b))))
-  stmt-entries (while w e a) = ap (λ (l : List Entry). stmtEntry (while w e a) ∷ l) (body-entries a)
-
-  pub body-entries : (b : Body) → bodyEntries b ≡ map stmtEntry (statements b)
-  body-entries (only s) = stmt-entries s
-  body-entries (andThen s b) = rw (stmt-entries s, body-entries b) (sym (map-append stmtEntry (within s) (statements b)))
 
 -- a statement's own tokens have their kinds, and its expression its limit
 abbrev Ok : Stmt → Type 0
@@ -111,18 +92,22 @@ wanted-law Δ a e p k h =
     let whole = rw (append-nil (postfix e)) at (expr-law Δ e [] [] 0 k (omega arith)) in
     ap (judgedAs (tagOr a) p) whole ∙ rw (wants-law a (typeOf Δ e) p) (sym (lowest-append (typesIn Δ e) (wants a (typeOf Δ e) p)))
 
-module _ (ts : List Token) (kinds : List ℕ) (t : Text) (A : Sources) (ht : TokensIn ts kinds (A .places) (A .n)) (ho : OwnersIn ts (declared t) (A .owners) (A .n)) (hd : DeclsIn ts (headings t) (A .decls) (A .d)) where
+module _ (ts : List Token) (kinds : List ℕ) (t : Text) (A : Sources) (ht : TokensIn ts kinds (A .places) (A .n))
+    (ho : OwnersIn ts (declared t) (A .owners) (A .n)) (hd : DeclsIn ts (headings t) (A .decls) (A .d)) where
   -- an item by its code and its token's index
-  item-law : (c i : ℕ) (w : Work) → IsNamed (itemOf c (tokenAt ts i)) → stepWork c (nameAt A i) (placeAt A i) w ≡ itemStep (declared t) (itemOf c (tokenAt ts i)) w
+  item-law : (c i : ℕ) (w : Work) → IsNamed (itemOf c (tokenAt ts i)) → stepWork c (nameAt A i) (placeAt A i) w
+      ≡ itemStep (declared t) (itemOf c (tokenAt ts i)) w
   unfolding itemStep
-  item-law c i w h = ap (λ (p : ℕ). stepWork c (nameAt A i) p w) (place-law ts kinds (A .places) (A .n) i ht) ∙ go (ℕ-discrete c 1)
+  item-law c i w h = ap (λ (p : ℕ). stepWork c (nameAt A i) p w) (place-is ht i) ∙ go (ℕ-discrete c 1)
     where
-      go : Dec (c ≡ 1) → stepWork c (nameAt A i) (tokenAt ts i .place) w ≡ stepWork c (tagOr (typeIn (find (declared t) (tokenAt ts i .value)))) (tokenAt ts i .place) w
+      go : Dec (c ≡ 1) → stepWork c (nameAt A i) (tokenAt ts i .place) w
+          ≡ stepWork c (tagOr (typeIn (find (declared t) (tokenAt ts i .value)))) (tokenAt ts i .place) w
       go (yes e) = ap (λ (u : ℕ). stepWork c u (tokenAt ts i .place) w) (name-law ts kinds (A .places) (A .owners) (A .decls) (A .n) (A .d) i t ht ho hd (h e))
       go (no f) = step-other c (nameAt A i) (tagOr (typeIn (find (declared t) (tokenAt ts i .value)))) (tokenAt ts i .place) w f
 
   -- items in the arrays, and those behind them
-  items-law : (is rest : List Item) (m : ℕ) (w : Work) → Each IsNamed is → map (itemAtIndex ts) (placedFrom (A .codes) (A .indices) m (length (is ++ rest))) ≡ is ++ rest
+  items-law : (is rest : List Item) (m : ℕ) (w : Work) → Each IsNamed is → map (itemAtIndex ts) (placedFrom (A .codes) (A .indices) m (length (is ++ rest)))
+      ≡ is ++ rest
       → itemsWork A m (length is) w ≡ listWork (declared t) is w
   unfolding itemsWork listWork placedFrom
   items-law [] rest m w n e = refl
@@ -138,11 +123,12 @@ module _ (ts : List Token) (kinds : List ℕ) (t : Text) (A : Sources) (ht : Tok
   items-rest (i ∷ is) rest m e = let z : m + suc (length is) ≡ m + 1 + length is = omega arith in rw z (items-rest is rest (m + 1) (cons-tail e))
 
   -- a row whose items are these
-  row-law : (r : Row) (is : List Item) (m : ℕ) → r .from ≡ m → r .to ≡ m + length is → m + length is ≤ 16384 → itemsWork A m (length is) (work [] 0) ≡ listWork (declared t) is (work [] 0)
+  row-law : (r : Row) (is : List Item) (m : ℕ) → r .from ≡ m → r .to ≡ m + length is → m + length is ≤ 16384 → itemsWork A m (length is) (work [] 0)
+      ≡ listWork (declared t) is (work [] 0)
       → rowCode A r ≡ judgedAs (wantedCode (r .kind) (nameAt A (r .index))) (tokenAt ts (r .index) .place) (listWork (declared t) is (work [] 0))
   row-law r is m ef et h e =
       let z : m + length is - m ≡ length is = omega arith in
-      rw (et, ef, z, le-leb (m + length is) 16384 h, place-law ts kinds (A .places) (A .n) (r .index) ht, e)
+      rw (et, ef, z, le-leb (m + length is) 16384 h, place-is ht (r .index), e)
 
   target-law : (x : Token) (e : Expr) (i : ℕ) → x .kind ≡ NAME → KindedExpr e → itemCount e ≤ 64 → tokenAt ts i ≡ x
       → judgedAs (nameAt A i) (tokenAt ts i .place) (listWork (declared t) (postfix e) (work [] 0))
@@ -152,7 +138,8 @@ module _ (ts : List Token) (kinds : List ℕ) (t : Text) (A : Sources) (ht : Tok
       (wanted-law (declared t) (typeIn (find (declared t) (x .value))) e (x .place) k h)
 
   condition-law : (x : Token) (e : Expr) (i : ℕ) → KindedExpr e → itemCount e ≤ 64 → tokenAt ts i ≡ x
-      → judgedAs BOOLEAN (tokenAt ts i .place) (listWork (declared t) (postfix e) (work [] 0)) ≡ lowestOf (typesIn (declared t) e ++ wants (some boolean) (typeOf (declared t) e) (x .place))
+      → judgedAs BOOLEAN (tokenAt ts i .place) (listWork (declared t) (postfix e) (work [] 0))
+      ≡ lowestOf (typesIn (declared t) e ++ wants (some boolean) (typeOf (declared t) e) (x .place))
   condition-law x e i k h q = rw q (wanted-law (declared t) (some boolean) e (x .place) k h)
 
   judged-law : (s : Stmt) (k i : ℕ) → Ok s → k ≡ stmtEntry s .kind → tokenAt ts i ≡ stmtEntry s .token
@@ -196,16 +183,18 @@ module _ (ts : List Token) (kinds : List ℕ) (t : Text) (A : Sources) (ht : Tok
       rw (first, rest) (sym (lowest-append (typesOf (declared t) s) (each (typesOf (declared t)) ss)))
 
   -- the statements in the arrays, by position, have the lowest offence of the statements
-  rows-whole : (rows : List ℕ) (es : List Entry) (ss : List Stmt) (s k : ℕ) → es ≡ map stmtEntry ss → Each Ok ss → RowsIn ts es rows s → ItemsIn ts (entryItems es) (A .codes) (A .indices) k
+  rows-whole : (rows : List ℕ) (es : List Entry) (ss : List Stmt) (s k : ℕ) → es ≡ map stmtEntry ss → Each Ok ss → RowsIn ts es rows s
+      → ItemsIn ts (entryItems es) (A .codes) (A .indices) k
       → lowestFrom (statementAt A rows) 0 s ≡ lowestOf (each (typesOf (declared t)) ss)
   rows-whole rows es ss s k e h r i =
       let cs : s ≡ length ss = sym (r .count) ∙ (ap length e ∙ length-map ss stmtEntry) in
       let ck : k ≡ length (entryItems (map stmtEntry ss)) = sym (i .count) ∙ ap (λ (l : List Entry). length (entryItems l)) e in
       let er : map (seen ts) (rowsFrom rows 0 (length ss)) ≡ linesFrom 0 0 (map stmtEntry ss) = rw (cs, e) at (r .are) in
-      let ei : map (itemAtIndex ts) (placedFrom (A .codes) (A .indices) 0 (length (entryItems (map stmtEntry ss)))) ≡ entryItems (map stmtEntry ss) = rw (ck, e) at (i .are) in
+      let ei : map (itemAtIndex ts) (placedFrom (A .codes) (A .indices) 0 (length (entryItems (map stmtEntry ss))))
+      ≡ entryItems (map stmtEntry ss) = rw (ck, e) at (i .are) in
       rw cs (rows-law rows ss 0 0 h er ei (omega (arith, i .short, ck)))
 
   pub statements-law : (rows : List ℕ) (s k : ℕ) → KindedBody (t .body) → Each (λ (e : Expr). itemCount e ≤ 64) (bodyExprs (t .body))
       → RowsIn ts (bodyEntries (t .body)) rows s → ItemsIn ts (entryItems (bodyEntries (t .body))) (A .codes) (A .indices) k
       → lowestFrom (statementAt A rows) 0 s ≡ lowestOf (each (typesOf (declared t)) (statements (t .body)))
-  statements-law rows s k kb l r i = rows-whole rows (bodyEntries (t .body)) (statements (t .body)) s k (body-entries (t .body)) (body-ok (t .body) kb l) r i
+  statements-law rows s k kb l r i = rows-whole rows (bodyEntries (t .body)) (statements (t .body)) s k (entries-are (t .body)) (body-ok (t .body) kb l) r i

@@ -7,7 +7,7 @@ use borrow.Author.Tests.{lt-ltb, le-ltb, eq-eqb, ne-eqb}
 use lib.ListN.{getD, set, length-set}
 use lib.Seq.{getD-set-same}
 use Rattle.spec_language.specs.Lists.{unless}
-use Rattle.front_syntax.specs.Lowest.{lowestOf, lower}
+use Rattle.front_offences.specs.Lowest.{lowestOf, lower}
 use Rattle.base_codes.specs.Operation.{operandsOf}
 use Rattle.base_codes.specs.Types.{NONE, tagOr, unaryTypeFor}
 use Rattle.base_codes.specs.Limit.{ITEMS}
@@ -37,7 +37,8 @@ unary-none a zero c p b m h = record { room = m; says = refl }
 unary-none a (suc n) c p b m h = absurd (omega arith)
 
 unary-top : (a : List ℕ) (n c p b r w : ℕ) → Room a (suc n) → r ≡ tagOr (unaryTypeFor c (getD a n 0))
-    → w ≡ lower b (lowestOf (unless (rightOne (getD a n 0) r) p)) → Says (set a n r) (record { depth = suc n; lowest = w }) (unaryOn c p (stackOf 0 a (suc n)) b)
+    → w ≡ lower b (lowestOf (unless (rightOne (getD a n 0) r) p))
+    → Says (set a n r) (record { depth = suc n; lowest = w }) (unaryOn c p (stackOf 0 a (suc n)) b)
 unfolding unaryOn stackOf
 unary-top a n c p b r w m e q =
     record {
@@ -46,7 +47,8 @@ unary-top a n c p b r w m e q =
     }
 
 pub unary-some : (a : List ℕ) (n c p b r w : ℕ) → Room a n → 1 ≤ n → r ≡ tagOr (unaryTypeFor c (getD a (n - 1) 0))
-    → w ≡ lower b (lowestOf (unless (rightOne (getD a (n - 1) 0) r) p)) → Says (set a (n - 1) r) (record { depth = n; lowest = w }) (unaryOn c p (stackOf 0 a n) b)
+    → w ≡ lower b (lowestOf (unless (rightOne (getD a (n - 1) 0) r) p))
+    → Says (set a (n - 1) r) (record { depth = n; lowest = w }) (unaryOn c p (stackOf 0 a n) b)
 unary-some a zero c p b r w m h e q = absurd (omega arith)
 unary-some a (suc n) c p b r w m h e q = let z : suc n - 1 ≡ n = omega arith in rw z (unary-top a n c p b r w m (rw z at e) (rw z at q))
 
@@ -100,7 +102,8 @@ pub step-unary : {a : List ℕ} {r : Progress} (c t p q n : ℕ) (s : List ℕ) 
 unfolding stepWork
 step-unary c t p q n s b o h k e w = rw (← o, ne-eqb n 0 h, eq-eqb n 1 k, sym e) w
 
-pub step-binary : {a : List ℕ} {r : Progress} (c t p q n : ℕ) (s : List ℕ) (b : ℕ) → n ≡ operandsOf c → (n ≡ 0 → ⊥) → (n ≡ 1 → ⊥) → q ≡ p → Says a r (binaryOn c q s b)
+pub step-binary : {a : List ℕ} {r : Progress} (c t p q n : ℕ) (s : List ℕ) (b : ℕ) → n ≡ operandsOf c → (n ≡ 0 → ⊥) → (n ≡ 1 → ⊥) → q ≡ p
+    → Says a r (binaryOn c q s b)
     → Says a r (stepWork c t p (work s b))
 unfolding stepWork
 step-binary c t p q n s b o h k e w = rw (← o, ne-eqb n 0 h, ne-eqb n 1 k, sym e) w
@@ -120,11 +123,12 @@ module _ (A : Sources) (from to : ℕ) where
   unfolding itemsWork
   next m c w = refl
 
-  pub left-again : (a a′ : List ℕ) (n b m : ℕ) (r : Progress) → Left a n b m → m < to → Says a′ r (itemWork A m (work (stackOf 0 a n) b)) → Left a′ (r .depth) (r .lowest) (m + 1)
+  pub left-again : (a a′ : List ℕ) (n b m : ℕ) (r : Progress) → Left a n b m → m < to → Says a′ r (itemWork A m (work (stackOf 0 a n) b))
+      → Left a′ (r .depth) (r .lowest) (m + 1)
   left-again a a′ n b m r h l q =
       let z : to - m ≡ suc (to - (m + 1)) = omega arith in
       record { room = q .room; same = rw (q .says) (sym (next m (to - (m + 1)) (work (stackOf 0 a n) b)) ∙ (rw z at (h .same))) }
 
-  pub left-stop : (a : List ℕ) (n b m : ℕ) → Left a n b m → to ≤ m → Says a (record { depth = n; lowest = b }) (exprWork A from to)
+  pub left-stop : (a : List ℕ) (r : Progress) (m : ℕ) → Left a (r .depth) (r .lowest) m → to ≤ m → Says a r (exprWork A from to)
   unfolding itemsWork
-  left-stop a n b m h l = let z : to - m ≡ 0 = omega arith in record { room = h .room; says = rw z at (h .same) }
+  left-stop a r m h l = let z : to - m ≡ 0 = omega arith in record { room = h .room; says = rw z at (h .same) }

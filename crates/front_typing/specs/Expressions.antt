@@ -13,8 +13,8 @@ use Rattle.base_codes.specs.Types.{NONE, tagOf, tagOr, declaredType, unaryTypeF
 use Rattle.base_codes.specs.Limit.{TEXT, ITEMS, NAMES}
 use Rattle.spec_grammar.specs.Reader.{choose}
 use Rattle.spec_language.specs.Lists.{unless}
-use Rattle.front_syntax.specs.Lowest.{lowestOf, lower}
-use Rattle.front_syntax.specs.Arrays.{numberIn}
+use Rattle.front_offences.specs.Lowest.{lowestOf, lower}
+use Rattle.front_layout.specs.Arrays.{numberIn}
 use Rattle.front_typing.specs.Operators.{binaryCode, rightOne, rightTwo}
 use Rattle.front_typing.specs.declared.Progress.{Progress}
 use Rattle.front_typing.specs.declared.Judged.{Judged}

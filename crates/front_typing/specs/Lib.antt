@@ -1,4 +1,4 @@
-pub mod Names
 pub mod Operators
 pub mod Expressions
-pub mod Statements
+pub mod Positions
+pub mod Judges

@@ -1,18 +1,20 @@
 // The types of an expression: its postfix items one after the other, on a stack of types.
 ghost use mathlib.Core.Path.{_≡_};
-ghost use Prim.Native.Nat.{_<_, _≤_};
+ghost use Prim.Native.Nat.{_≤_};
 ghost use Rattle.base_codes.specs.Limit.{TEXT, ITEMS};
 ghost use Rattle.base_codes.specs.Stack.{stackOf};
-ghost use Rattle.front_typing.specs.Expressions.{declaredCode, nameCode, operandCode, sources, work, pushed, unaryOn, binaryOn, itemWork, exprWork, topOf, Room, Says, JudgedBy};
+ghost use Rattle.front_layout.specs.Arrays.{numberIn};
+ghost use Rattle.front_typing.specs.Expressions.{declaredCode, nameCode, operandCode, sources, work, pushed, unaryOn, binaryOn, stepWork, exprWork, topOf, Room, Says, JudgedBy};
 use crate::Judged;
 use crate::Progress;
-use crate::names::cell;
+use crate::Span;
 use crate::operators;
 use base_codes::declaration;
 use base_codes::item;
 use base_codes::limit;
 use base_codes::operation;
 use base_codes::types;
+use front_offences::cell;
 
 // A number in a wider type.
 fn wide_owner(x: u8) -> usize
@@ -100,11 +102,11 @@ fn unary(stack: &mut [u8; limit::ITEMS], c: u8, place: u16, depth: usize, lowest
     let i = depth - 1;
     let t = stack[i];
     let r = operation::unary_type(c, t);
-    let wrong = front_syntax::offence(operators::right_one(t, r), place);
+    let wrong = front_offences::offence(operators::right_one(t, r), place);
     stack[i] = r;
     Progress {
         depth,
-        lowest: front_syntax::lower(lowest, wrong),
+        lowest: front_offences::lower(lowest, wrong),
     }
 }
 
@@ -127,45 +129,40 @@ fn binary(
     let t = stack[i];
     let u = stack[j];
     let r = operators::binary(c, t, u);
-    let wrong = front_syntax::offence(operators::right_two(t, u, r), place);
+    let wrong = front_offences::offence(operators::right_two(t, u, r), place);
     stack[i] = r;
     Progress {
         depth: j,
-        lowest: front_syntax::lower(lowest, wrong),
+        lowest: front_offences::lower(lowest, wrong),
     }
 }
 
-// Judges item m.
+// Judges an item by its code and the index of its token.
 fn item(
-    codes: &[u8; limit::TEXT],
-    indices: &[u16; limit::TEXT],
     places: &[u16; limit::TEXT],
     owners: &[u8; limit::TEXT],
     decls: &[u16; declaration::ROWS],
     n: usize,
     d: usize,
-    m: usize,
+    c: u8,
+    i: usize,
     stack: &mut [u8; limit::ITEMS],
-    depth: usize,
-    lowest: usize,
+    p: Progress,
 ) -> Progress
-    requires { ⌜ Room (now stack) depth × (m < TEXT) ⌝ }
+    requires { ⌜ Room (now stack) (p .depth) ⌝ }
     ensures { λ r. ⌜ Says (now (stack .exit)) r
-        (itemWork (sources (now (codes .entry)) (now (indices .entry)) (now (places .entry)) (now (owners .entry)) (now (decls .entry)) n d) m
-        (work (stackOf 0 (now (stack .entry)) depth) lowest)) ⌝ }
+        (stepWork c (nameCode (now (owners .entry)) (now (decls .entry)) d i) (numberIn (now (places .entry)) n i) (work (stackOf 0 (now (stack .entry)) (p .depth)) (p .lowest))) ⌝ }
 {
-    let c = codes[m];
-    let i = wide_index(indices[m]);
     let operands = operation::operands(c);
     if operands == 0 {
         let t = operand_type(owners, decls, d, c, i);
-        return push(stack, t, depth, lowest);
+        return push(stack, t, p.depth, p.lowest);
     }
-    let place = front_syntax::place_at(places, n, i);
+    let place = front_offences::place_at(places, n, i);
     if operands == 1 {
-        return unary(stack, c, place, depth, lowest);
+        return unary(stack, c, place, p.depth, p.lowest);
     }
-    binary(stack, c, place, depth, lowest)
+    binary(stack, c, place, p.depth, p.lowest)
 }
 
 // The type on top of the stack.
@@ -179,7 +176,7 @@ fn top(stack: &[u8; limit::ITEMS], depth: usize) -> u8
     stack[depth - 1]
 }
 
-// Judges the items from one to before another, over a lent stack.
+// Judges the items of an expression, over a lent stack.
 fn run(
     codes: &[u8; limit::TEXT],
     indices: &[u16; limit::TEXT],
@@ -188,36 +185,26 @@ fn run(
     decls: &[u16; declaration::ROWS],
     n: usize,
     d: usize,
-    from: usize,
-    to: usize,
+    span: Span,
     stack: &mut [u8; limit::ITEMS],
 ) -> Progress
-    requires { ⌜ Room (now stack) 0 × (to ≤ TEXT) ⌝ }
+    requires { ⌜ Room (now stack) 0 × (span .to ≤ TEXT) ⌝ }
     ensures { λ r. ⌜ Says (now (stack .exit)) r
-        (exprWork (sources (now (codes .entry)) (now (indices .entry)) (now (places .entry)) (now (owners .entry)) (now (decls .entry)) n d) from to) ⌝ }
+        (exprWork (sources (now (codes .entry)) (now (indices .entry)) (now (places .entry)) (now (owners .entry)) (now (decls .entry)) n d) (span .from) (span .to)) ⌝ }
 {
-    let mut depth: usize = 0;
-    let mut lowest: usize = 0;
-    let mut m = from;
+    let to = span.to;
+    let mut m = span.from;
+    let mut p = Progress {
+        depth: 0,
+        lowest: 0,
+    };
     while m < to {
-        let p = item(
-            codes,
-            indices,
-            places,
-            owners,
-            decls,
-            n,
-            d,
-            m,
-            stack,
-            depth,
-            lowest,
-        );
-        depth = p.depth;
-        lowest = p.lowest;
+        let c = codes[m];
+        let i = wide_index(indices[m]);
+        p = item(places, owners, decls, n, d, c, i, stack, p);
         m += 1;
     }
-    Progress { depth, lowest }
+    p
 }
 
 // Judges an expression.
@@ -229,11 +216,10 @@ pub(crate) fn expression(
     decls: &[u16; declaration::ROWS],
     n: usize,
     d: usize,
-    from: usize,
-    to: usize,
+    span: Span,
 ) -> Judged
-    requires { ⌜ to ≤ TEXT ⌝ }
-    ensures { λ r. ⌜ JudgedBy r (exprWork (sources (now (codes .entry)) (now (indices .entry)) (now (places .entry)) (now (owners .entry)) (now (decls .entry)) n d) from to) ⌝ }
+    requires { ⌜ span .to ≤ TEXT ⌝ }
+    ensures { λ r. ⌜ JudgedBy r (exprWork (sources (now (codes .entry)) (now (indices .entry)) (now (places .entry)) (now (owners .entry)) (now (decls .entry)) n d) (span .from) (span .to)) ⌝ }
 {
     let mut stack = [0u8; limit::ITEMS];
     let p = run(
@@ -244,8 +230,7 @@ pub(crate) fn expression(
         decls,
         n,
         d,
-        from,
-        to,
+        span,
         &mut stack,
     );
     Judged {

@@ -25,7 +25,7 @@ use Rattle.image_runtime.proofs.Whole.{table, opens}
 use Rattle.image_batch.specs.declared.Outcome.{Outcome}
 use Rattle.image_batch.specs.declared.Widths.{Widths}
 use Rattle.image_batch.specs.declared.Progress.{Progress}
-use Rattle.image_batch.specs.Batches.{Batches, Runs}
+use Rattle.image_batch.specs.Batches.{Batches, Due, Runs}
 
 -- a call that is turned back by r
 abbrev pub back : State → Refusal → Outcome
@@ -60,8 +60,10 @@ module _ (b : List ℕ) (s : State) (n : ℕ) (is os : List ℤ) (ns : List ℕ)
         let t = table b x e in
         let z = widths t (opens b x e) in
         ap (λ (o : Opened). rowsOn o b s n is os ns) (opens b x e)
-        ∙ ap (λ (k : ℕ). cond (eqb (length is) (n * k) && (eqb (length os) (n * length (t .signature .outputs)) && eqb (length ns) (n * 3))) (done (callsOf b s (callsIn n k (length (t .signature .outputs)) is os))) (refusal 17 0)) (sym (z .0))
-        ∙ ap (λ (k : ℕ). cond (eqb (length is) (n * w .inputs) && (eqb (length os) (n * k) && eqb (length ns) (n * 3))) (done (callsOf b s (callsIn n (w .inputs) k is os))) (refusal 17 0)) (sym (z .1))
+        ∙ ap (λ (k : ℕ). cond (eqb (length is) (n * k) && (eqb (length os) (n * length (t .signature .outputs)) && eqb (length ns) (n * 3)))
+        (done (callsOf b s (callsIn n k (length (t .signature .outputs)) is os))) (refusal 17 0)) (sym (z .0))
+        ∙ ap (λ (k : ℕ). cond (eqb (length is) (n * w .inputs) && (eqb (length os) (n * k) && eqb (length ns) (n * 3)))
+        (done (callsOf b s (callsIn n (w .inputs) k is os))) (refusal 17 0)) (sym (z .1))
         ∙ ap (λ (y : Bool). cond y called (refusal 17 0)) (sym judged)
 
     -- 17
@@ -69,17 +71,18 @@ module _ (b : List ℕ) (s : State) (n : ℕ) (is os : List ℤ) (ns : List ℕ)
     not-due f = turned-back BadLengths (rows-by ∙ ap (λ (y : Bool). cond y called (refusal 17 0)) f)
 
     -- the lengths
-    pub lengths : q ≡ true → (length is ≡ n * w .inputs) × (length os ≡ n * w .outputs) × (length ns ≡ n * 3)
+    pub lengths : q ≡ true → Due w n is os ns
     lengths f =
         let i = eqb (length is) (n * w .inputs) in
         let o = eqb (length os) (n * w .outputs) in
         let a = eqb (length ns) (n * 3) in
         let z = sym judged ∙ f in
-        let y = and-right i (o && a) z in (
-          eqb-true (length is) (n * w .inputs) (and-left i (o && a) z),
-          eqb-true (length os) (n * w .outputs) (and-left o a y),
-          eqb-true (length ns) (n * 3) (and-right o a y),
-        )
+        let y = and-right i (o && a) z in
+        record {
+          inputs = eqb-true (length is) (n * w .inputs) (and-left i (o && a) z);
+          outputs = eqb-true (length os) (n * w .outputs) (and-left o a y);
+          answers = eqb-true (length ns) (n * 3) (and-right o a y);
+        }
 
     -- the rows
     pub taken : q ≡ true → (p : Progress) (u : List ℤ) (v : List ℕ) → Runs (callsOf b s (callsIn n (w .inputs) (w .outputs) is os)) s p u v

@@ -21,7 +21,8 @@ module _ (l n w : ℕ) where
     where
       on : (b : Bool) → eqb (l / w) n ≡ b → b ≡ eqb l (n * w)
       on true f =
-          sym (eq-eqb l (n * w) (sym (div-add-mod' l w) ∙ ap (λ (x : ℕ). l / w * w + x) e ∙ add-zero (l / w * w) ∙ ap (λ (x : ℕ). x * w) (eqb-true (l / w) n f)))
+          sym (eq-eqb l (n * w) (sym (div-add-mod' l w) ∙ ap (λ (x : ℕ). l / w * w + x) e ∙ add-zero (l / w * w)
+          ∙ ap (λ (x : ℕ). x * w) (eqb-true (l / w) n f)))
       on false f = sym (ne-eqb l (n * w) (λ g. eqb-false (l / w) n f (ap (λ (x : ℕ). x / w) g ∙ mul-div-cancel n h)))
 
 -- three tests in turn

@@ -15,7 +15,6 @@ use Rattle.base_answers.specs.declared.Sections.{Sections}
 use Rattle.base_answers.specs.declared.Advanced.{Advanced}
 use Rattle.base_answers.specs.Answers.{done, isDone, isPerformed}
 use Rattle.base_answers.specs.Numbers.{numbersOf, cycledNumbers}
-use Rattle.spec_semantics.specs.Calls.{Called}
 use Rattle.spec_semantics.specs.Advances.{Advances}
 use Rattle.spec_format.specs.Words.{Bytes}
 use Rattle.spec_format.specs.Signature.{Signature, signatureOf}
@@ -24,14 +23,14 @@ use Rattle.spec_format.specs.Opening.{opened, openOf}
 use Rattle.spec_format.specs.Cycle.{cycleOf, callsOf}
 use Rattle.spec_format.specs.Batch.{callsIn}
 use Rattle.spec_format.proofs.Batch.{After, after-none, after-row, after-all}
-use Rattle.spec_images.proofs.Outcomes.{row-long}
+use Rattle.spec_simulation.proofs.Outcomes.{row-long}
 use Rattle.image_loader.specs.Open.{openAnswer}
 use Rattle.image_checks.proofs.Positions.{signature-placed}
 use Rattle.image_checks.proofs.Opened.{opens-signature}
 use Rattle.image_runtime.proofs.Whole.{table, opens, parts-checked}
 use Rattle.image_batch.specs.declared.Widths.{Widths}
 use Rattle.image_batch.specs.declared.Progress.{Progress}
-use Rattle.image_batch.specs.Batches.{Steps, Runs}
+use Rattle.image_batch.specs.Batches.{Parts, callAt, Steps, Due, Runs}
 
 -- three numbers that are stored one by one
 pub three-set : (l m : List ℕ) → length l ≡ 3 → length m ≡ 3 → set (set (set l 0 (getD m 0 0)) 1 (getD m 1 0)) 2 (getD m 2 0) ≡ m
@@ -45,7 +44,8 @@ three-set l m h g = rw (as-three l h) (sym (as-three m g))
     as-three (x ∷ y ∷ z ∷ w ∷ l) h = absurd (omega arith)
 
 -- the counts of a signature section
-pub section-widths : (s : List ℕ) (i o : ℕ) → i ≡ getD s 0 0 → o ≡ getD s 1 0 → (σ : Signature) → signatureOf s ≡ some σ → (i ≡ length (σ .inputs)) × (o ≡ length (σ .outputs))
+pub section-widths : (s : List ℕ) (i o : ℕ) → i ≡ getD s 0 0 → o ≡ getD s 1 0 → (σ : Signature) → signatureOf s ≡ some σ
+    → (i ≡ length (σ .inputs)) × (o ≡ length (σ .outputs))
 section-widths s i o e f σ h = let p = signature-placed s σ h in (e ∙ p .inputs-count, f ∙ p .outputs-count)
 
 -- and of the image whose signature section it is
@@ -65,16 +65,13 @@ module _ (b : List ℕ) (x : Sections) (e : done x ≡ openAnswer b (openOf b)) 
 part : (x k : ℕ) → x + k - x ≡ k
 part x k = omega arith
 
-module _ (b : List ℕ) (w : Widths) (p : Progress) (is os : List ℤ) (ns : List ℕ) (a : Advanced) (u : List ℤ) (m : List ℕ) (g : Bool) where
-  -- the call of the row
-  abbrev call : Called
-  call = cycleOf b (p .state) (take (w .inputs) (drop (p .input) is)) (take (w .outputs) (drop (p .output) os))
+-- where the next row's parts begin
+abbrev stepped : Widths → Progress → State → Bool → Progress
+stepped w p s f = record { input = p .input + w .inputs; output = p .output + w .outputs; answer = p .answer + 3; performed = f; state = s }
 
-  abbrev stepped : Bool → Progress
-  stepped f = record { input = p .input + w .inputs; output = p .output + w .outputs; answer = p .answer + 3; performed = f; state = a .state }
-
-  step : Advances call a u → m ≡ cycledNumbers (a .answer) → g ≡ isPerformed (a .answer) → (f : Bool) → f ≡ (p .performed || g)
-      → Steps call w p (stepped f) os (putMid (p .output) (w .outputs) os u) ns (putMid (p .answer) 3 ns m)
+module _ (b : List ℕ) (is : List ℤ) {w : Widths} {p : Progress} {os : List ℤ} {ns : List ℕ} {a : Advanced} {u : List ℤ} {m : List ℕ} {g : Bool} where
+  step : Advances (callAt b w p is os) a u → m ≡ cycledNumbers (a .answer) → g ≡ isPerformed (a .answer) → (f : Bool) → f ≡ (p .performed || g)
+      → Steps (callAt b w p is os) w p (stepped w p (a .state) f) os (putMid (p .output) (w .outputs) os u) ns (putMid (p .answer) 3 ns m)
   step k e q f j =
       record {
         input = refl;
@@ -87,9 +84,11 @@ module _ (b : List ℕ) (w : Widths) (p : Progress) (is os : List ℤ) (ns : Lis
       }
 
   -- the same with parts that are told by their ends
-  pub steps : Advances (cycleOf b (p .state) (take (p .input + w .inputs - p .input) (drop (p .input) is)) (take (p .output + w .outputs - p .output) (drop (p .output) os))) a u
+  pub steps : Advances (cycleOf b (p .state) (take (p .input + w .inputs - p .input) (drop (p .input) is))
+      (take (p .output + w .outputs - p .output) (drop (p .output) os))) a u
       → m ≡ cycledNumbers (a .answer) → g ≡ isPerformed (a .answer) → (f : Bool) → f ≡ (p .performed || g)
-      → Steps call w p (stepped f) os (putMid (p .output) (p .output + w .outputs - p .output) os u) ns (putMid (p .answer) (p .answer + 3 - p .answer) ns m)
+      → Steps (callAt b w p is os) w p (stepped w p (a .state) f) os (putMid (p .output) (p .output + w .outputs - p .output) os u) ns
+      (putMid (p .answer) (p .answer + 3 - p .answer) ns m)
   steps h e q f j =
       let x = part (p .input) (w .inputs) in
       let y = part (p .output) (w .outputs) in
@@ -97,72 +96,78 @@ module _ (b : List ℕ) (w : Widths) (p : Progress) (is os : List ℤ) (ns : Lis
 
 -- All rows.
 
-module _ (b : List ℕ) (w : Widths) (s : State) (n : ℕ) (is os : List ℤ) (ns : List ℕ) where
-  -- the invariant of the loop: m rows are to come, and their parts are what is left of inputs, outputs and answers
-  pub record Rest (m : ℕ) (p : Progress) (now : List ℤ) (nums : List ℕ) : Type 0 where
-    pub inputs : p .input + m * w .inputs ≡ length is
-    pub outputs : p .output + m * w .outputs ≡ length os
-    pub numbers : p .answer + m * 3 ≡ length ns
-    pub after : After b s n (w .inputs) (w .outputs) is os m (p .input) (p .output) (p .answer) (p .performed) (p .state) now nums
+-- the invariant of the loop: m rows are to come, and their parts are what is left of inputs, outputs and answers
+pub record Rest (b : List ℕ) (w : Widths) (s : State) (n : ℕ) (is os : List ℤ) (ns : List ℕ) (m : ℕ) (p : Progress) (now : List ℤ)
+    (nums : List ℕ) : Type 0 where
+  pub inputs : p .input + m * w .inputs ≡ length is
+  pub outputs : p .output + m * w .outputs ≡ length os
+  pub numbers : p .answer + m * 3 ≡ length ns
+  pub long : length now ≡ length os
+  pub told : length nums ≡ length ns
+  pub after : After b s n (w .inputs) (w .outputs) is os m (p .input) (p .output) (p .answer) (p .performed) (p .state) now nums
 
-  abbrev pub atFirst : Progress
-  atFirst = record { input = 0; output = 0; answer = 0; performed = false; state = s }
+-- the part of one row of m is there
+room : (m x k l : ℕ) → 0 < m → x + m * k ≡ l → x + k ≤ l
+room zero x k l h e = absurd (omega arith)
+room (suc m) x k l h e = let z = suc-mul m k in let y : x + (m * k + k) ≡ l = ap (λ (y : ℕ). x + y) (sym z) ∙ e in omega arith
 
+moved : (m x k l : ℕ) → x + suc m * k ≡ l → x + k + m * k ≡ l
+moved m x k l e = let z = suc-mul m k in let y : x + (m * k + k) ≡ l = ap (λ (y : ℕ). x + y) (sym z) ∙ e in omega arith
+
+-- a row is as long as its part of k values
+row-as-long : (b : List ℕ) → Bytes b → (t : State) (i now : List ℤ) (x k : ℕ) → x + k ≤ length now → length (cycleOf b t i (take k (drop x now)) .row) ≡ k
+row-as-long b bytes t i now x k h =
+    row-long b bytes t i (take k (drop x now)) ∙ length-take-le k (drop x now) (let z = length-drop x now in omega arith)
+
+module _ {b : List ℕ} {w : Widths} {s : State} {n : ℕ} {is os : List ℤ} {ns : List ℕ} where
   -- before the first row
-  pub rest-first : length is ≡ n * w .inputs → length os ≡ n * w .outputs → length ns ≡ n * 3 → Rest n atFirst os ns
-  rest-first h k l =
+  pub rest-first : Due w n is os ns → Rest b w s n is os ns n (record { input = 0; output = 0; answer = 0; performed = false; state = s }) os ns
+  rest-first h =
       record {
-        inputs = zero-add (n * w .inputs) ∙ sym h;
-        outputs = zero-add (n * w .outputs) ∙ sym k;
-        numbers = zero-add (n * 3) ∙ sym l;
+        inputs = zero-add (n * w .inputs) ∙ sym (h .inputs);
+        outputs = zero-add (n * w .outputs) ∙ sym (h .outputs);
+        numbers = zero-add (n * 3) ∙ sym (h .answers);
+        long = refl;
+        told = refl;
         after = after-none b s n (w .inputs) (w .outputs) is os ns;
       }
 
   -- the next row's parts are there
-  room : (m x k l : ℕ) → 0 < m → x + m * k ≡ l → x + k ≤ l
-  room zero x k l h e = absurd (omega arith)
-  room (suc m) x k l h e = let z = suc-mul m k in let y : x + (m * k + k) ≡ l = ap (λ (y : ℕ). x + y) (sym z) ∙ e in omega arith
-
-  pub rest-room : (m : ℕ) (p : Progress) (now : List ℤ) (nums : List ℕ) → 0 < m → Rest m p now nums → length now ≡ length os → length nums ≡ length ns
-      → (p .input + w .inputs ≤ length is) × (p .output + w .outputs ≤ length now) × (p .answer + 3 ≤ length nums)
-  rest-room m p now nums h r e f = (
-    room m (p .input) (w .inputs) (length is) h (r .inputs),
-    rw e (room m (p .output) (w .outputs) (length os) h (r .outputs)),
-    rw f (room m (p .answer) 3 (length ns) h (r .numbers)),
-  )
-
-  -- the row is as long as its part
-  long : Bytes b → (t : State) (i now : List ℤ) (x : ℕ) → x + w .outputs ≤ length now → length (cycleOf b t i (take (w .outputs) (drop x now)) .row) ≡ w .outputs
-  long bytes t i now x h =
-      row-long b bytes t i (take (w .outputs) (drop x now)) ∙ length-take-le (w .outputs) (drop x now) (let z = length-drop x now in omega arith)
-
-  moved : (m x k l : ℕ) → x + suc m * k ≡ l → x + k + m * k ≡ l
-  moved m x k l e = let z = suc-mul m k in let y : x + (m * k + k) ≡ l = ap (λ (y : ℕ). x + y) (sym z) ∙ e in omega arith
+  pub rest-room : {m : ℕ} {p : Progress} {now : List ℤ} {nums : List ℕ} → Rest b w s n is os ns m p now nums → 0 < m → Parts w p is now nums
+  rest-room {m} {p} r h =
+      record {
+        inputs = room m (p .input) (w .inputs) (length is) h (r .inputs);
+        outputs = rw (r .long) (room m (p .output) (w .outputs) (length os) h (r .outputs));
+        answers = rw (r .told) (room m (p .answer) 3 (length ns) h (r .numbers));
+      }
 
   -- after a row
-  pub rest-again : Bytes b → (m : ℕ) (p q : Progress) (now u : List ℤ) (nums v : List ℕ) → 0 < m → Rest m p now nums → length now ≡ length os → length nums ≡ length ns
-      → Steps (cycleOf b (p .state) (take (w .inputs) (drop (p .input) is)) (take (w .outputs) (drop (p .output) now))) w p q now u nums v → Rest (m - 1) q u v
-  rest-again bytes zero p q now u nums v h r e f t = absurd (omega arith)
-  rest-again bytes (suc m) p q now u nums v h r e f t =
-      let z = rest-room (suc m) p now nums h r e f in
+  pub rest-again : {m : ℕ} {p q : Progress} {now u : List ℤ} {nums v : List ℕ} → Rest b w s n is os ns m p now nums → 0 < m → Bytes b
+      → Steps (callAt b w p is now) w p q now u nums v
+      → length u ≡ length now → length v ≡ length nums → Rest b w s n is os ns (m - 1) q u v
+  rest-again {m = zero} r h bytes t e f = absurd (omega arith)
+  rest-again {m = suc m} {p} {q} {now} {u} {nums} {v} r h bytes t e f =
+      let z = rest-room r h in
       let a =
-      after-row b s n (w .inputs) (w .outputs) is os m (p .input) (p .output) (p .answer) (p .performed) (p .state) now nums (z .1) (z .2)
-      (long bytes (p .state) (take (w .inputs) (drop (p .input) is)) now (p .output) (z .1)) (r .after) in
+      after-row b s n (w .inputs) (w .outputs) is os m (p .input) (p .output) (p .answer) (p .performed) (p .state) now nums (z .outputs) (z .answers)
+      (row-as-long b bytes (p .state) (take (w .inputs) (drop (p .input) is)) now (p .output) (w .outputs) (z .outputs)) (r .after) in
       let less : m ≡ suc m - 1 = omega arith in
-      subst (λ (k : ℕ). Rest k q u v) less
+      subst (λ (k : ℕ). Rest b w s n is os ns k q u v) less
       (record {
         inputs = rw (t .input) (moved m (p .input) (w .inputs) (length is) (r .inputs));
         outputs = rw (t .output) (moved m (p .output) (w .outputs) (length os) (r .outputs));
         numbers = rw (t .answer) (moved m (p .answer) 3 (length ns) (r .numbers));
+        long = e ∙ r .long;
+        told = f ∙ r .told;
         after = rw (t .input, t .output, t .answer, t .performed, t .state, t .rows, t .answers) a;
       })
 
   -- after the last
-  pub rest-end : (m : ℕ) (p : Progress) (now : List ℤ) (nums : List ℕ) → m ≡ 0 → Rest m p now nums → length now ≡ length os → length nums ≡ length ns
+  pub rest-end : {m : ℕ} {p : Progress} {now : List ℤ} {nums : List ℕ} → Rest b w s n is os ns m p now nums → m ≡ 0
       → Runs (callsOf b s (callsIn n (w .inputs) (w .outputs) is os)) s p now nums
-  rest-end m p now nums z q e f =
-      let r : Rest 0 p now nums = rw z at q in
-      let x : p .output ≡ length now = sym (add-zero (p .output)) ∙ ap (λ (k : ℕ). p .output + k) (sym (zero-mul (w .outputs))) ∙ r .outputs ∙ sym e in
-      let y : p .answer ≡ length nums = sym (add-zero (p .answer)) ∙ r .numbers ∙ sym f in
+  rest-end {m} {p} {now} {nums} q z =
+      let r : Rest b w s n is os ns 0 p now nums = rw z at q in
+      let x : p .output ≡ length now = sym (add-zero (p .output)) ∙ ap (λ (k : ℕ). p .output + k) (sym (zero-mul (w .outputs))) ∙ r .outputs ∙ sym (r .long) in
+      let y : p .answer ≡ length nums = sym (add-zero (p .answer)) ∙ r .numbers ∙ sym (r .told) in
       let a = after-all b s n (w .inputs) (w .outputs) is os (p .input) (p .performed) (p .state) now nums (rw (x, y) at (r .after)) in
       record { performed = a .3; state = a .2; rows = a .0; answers = a .1 }

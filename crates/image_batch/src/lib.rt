@@ -3,18 +3,18 @@
 ghost use mathlib.Core.Path.{_≡_};
 ghost use mathlib.Core.Bool.{false, _&&_, _||_};
 ghost use mathlib.Core.Option.{some};
-ghost use Prim.Native.Nat.{_+_, _*_, _≤_};
+ghost use Prim.Native.Nat.{_*_};
 ghost use lib.Dec.{eqb};
-ghost use lib.ListN.{length, take, drop};
+ghost use lib.ListN.{length};
 ghost use Rattle.base_answers.specs.declared.Batched.the-variants.{NotTaken};
 ghost use Rattle.base_answers.specs.Answers.{done, batchTold};
 ghost use Rattle.spec_format.specs.Opening.{opened, openOf};
 ghost use Rattle.spec_format.specs.Signature.{Signature, signatureOf};
 ghost use Rattle.spec_format.specs.Image.{Table};
-ghost use Rattle.spec_format.specs.Cycle.{cycleOf, callsOf};
+ghost use Rattle.spec_format.specs.Cycle.{callsOf};
 ghost use Rattle.spec_format.specs.Batch.{callsIn, batchOf, batchAnswer};
 ghost use Rattle.image_loader.specs.Open.{openAnswer};
-ghost use Rattle.image_batch.specs.Batches.{Batches, Steps, Runs};
+ghost use Rattle.image_batch.specs.Batches.{Batches, Parts, callAt, Steps, Due, Runs};
 use base_answers::Batched;
 use base_answers::Opened;
 use base_answers::Refusal;
@@ -119,9 +119,9 @@ fn row(
     outputs: &mut [i32],
     answers: &mut [u32],
 ) -> Progress
-    requires { ⌜ (done at ≡ openAnswer (now image) (openOf (now image)))
-        × (p .input + width .inputs ≤ length (now inputs)) × (p .output + width .outputs ≤ length (now outputs)) × (p .answer + 3 ≤ length (now answers)) ⌝ }
-    ensures { λ r. ⌜ Steps (cycleOf (now (image .entry)) (p .state) (take (width .inputs) (drop (p .input) (now (inputs .entry)))) (take (width .outputs) (drop (p .output) (now (outputs .entry)))))
+    requires { ⌜ done at ≡ openAnswer (now image) (openOf (now image)) ⌝ }
+    requires { ⌜ Parts width p (now inputs) (now outputs) (now answers) ⌝ }
+    ensures { λ r. ⌜ Steps (callAt (now (image .entry)) width p (now (inputs .entry)) (now (outputs .entry)))
         width p r (now (outputs .entry)) (now (outputs .exit)) (now (answers .entry)) (now (answers .exit)) ⌝ }
 {
     let s = p.state;
@@ -163,8 +163,8 @@ fn rows(
     outputs: &mut [i32],
     answers: &mut [u32],
 ) -> Progress
-    requires { ⌜ (done at ≡ openAnswer (now image) (openOf (now image)))
-        × (length (now inputs) ≡ count * width .inputs) × (length (now outputs) ≡ count * width .outputs) × (length (now answers) ≡ count * 3) ⌝ }
+    requires { ⌜ done at ≡ openAnswer (now image) (openOf (now image)) ⌝ }
+    requires { ⌜ Due width count (now inputs) (now outputs) (now answers) ⌝ }
     ensures { λ r. ⌜ Runs (callsOf (now (image .entry)) s (callsIn count (width .inputs) (width .outputs) (now (inputs .entry)) (now (outputs .entry)))) s r (now (outputs .exit)) (now (answers .exit)) ⌝ }
 {
     let mut p = Progress {
@@ -248,10 +248,11 @@ pub fn advance_rows(
     outputs: &mut [i32],
     answers: &mut [u32],
 ) -> Batched
-    ensures { λ r. ⌜ (batchTold r ≡ batchAnswer (batchOf (now (image .entry)) (now (state .entry)) count (now (inputs .entry)) (now (outputs .entry)) (now (answers .entry)) .answer))
-        × (now (state .exit) ≡ batchOf (now (image .entry)) (now (state .entry)) count (now (inputs .entry)) (now (outputs .entry)) (now (answers .entry)) .state)
-        × (now (outputs .exit) ≡ batchOf (now (image .entry)) (now (state .entry)) count (now (inputs .entry)) (now (outputs .entry)) (now (answers .entry)) .rows)
-        × (now (answers .exit) ≡ batchOf (now (image .entry)) (now (state .entry)) count (now (inputs .entry)) (now (outputs .entry)) (now (answers .entry)) .answers) ⌝ }
+    ensures { λ r. ⌜ (let c = batchOf (now (image .entry)) (now (state .entry)) count (now (inputs .entry)) (now (outputs .entry)) (now (answers .entry)) in
+        (batchTold r ≡ batchAnswer (c .answer))
+        × (now (state .exit) ≡ c .state)
+        × (now (outputs .exit) ≡ c .rows)
+        × (now (answers .exit) ≡ c .answers)) ⌝ }
 {
     let r = cycles(image, *state, count, inputs, outputs, answers);
     if r.performed {

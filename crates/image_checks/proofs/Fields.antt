@@ -11,7 +11,7 @@ use borrow.Author.Tests.{ltb-true, eqb-true, eqb-false, eq-eqb, ne-eqb}
 use Rattle.spec_design.specs.Types.{Ty, ExprTy}
 use Rattle.spec_design.specs.Expression.{Expr}
 use Rattle.spec_design.specs.Statement.{output, variable, null}
-use Rattle.spec_semantics.proofs.Basic.{none-some, some-injective, and-left, or-other}
+use Rattle.spec_semantics.proofs.Basic.{none-some, some-injective, and-left, or-other, cond-case}
 use Rattle.spec_format.specs.Words.{onlyIf, word2At}
 use Rattle.spec_format.specs.Code.{decode}
 use Rattle.spec_format.specs.Signature.{Signature, types}
@@ -21,7 +21,7 @@ use Rattle.spec_format.specs.Image.{Table, RawLine}
 use Rattle.spec_format.specs.Good.{goodLine}
 use Rattle.spec_format.specs.Opening.{isEmpty, lineOf, openLine}
 use Rattle.spec_format.specs.State.{isWait, placeOk}
-use Rattle.spec_format.proofs.Basic.{andThen-some, map-some, onlyIf-some, cond-case}
+use Rattle.spec_format.proofs.Basic.{andThen-some, map-some, onlyIf-some}
 use Rattle.image_checks.specs.Places.{Opens, placeAt}
 use Rattle.image_checks.proofs.Positions.{here}
 use Rattle.image_checks.proofs.Opened.{fieldsOf, fields-at, OpenedLine, opens-count, opens-line}
@@ -69,7 +69,8 @@ module _ (σ : Signature) (n : ℕ) (rs code : List ℕ) (w : RawLine) (l : Line
       → ((w .kind ≡ 0 → ⊥) → P (acts null (w .next)))
       → P l
   by-kind P p0 p1 p2 p3 p4 =
-      line-cases P l (σ .inputs) (types (σ .variables)) (w .kind) (w .target) (take (w .size) (drop (w .offset) code)) (w .next) (w .other) p0 p1 p2 p3 p4 opened-line
+      line-cases P l (σ .inputs) (types (σ .variables)) (w .kind) (w .target) (take (w .size) (drop (w .offset) code)) (w .next)
+      (w .other) p0 p1 p2 p3 p4 opened-line
 
   -- a line is a wait exactly when its kind is 0
   wait-kind : eqb (w .kind) 0 ≡ isWait l
@@ -110,4 +111,5 @@ module _ (s l c : List ℕ) (t : Table) (e : Opens s l c t) where
 
   pub from-wait : (p : ℕ) → (p ≡ 512 → ⊥) → placeOk (t .lines) p ≡ true → word2At l (p * 12 + 6) ≡ from (t .lines) p
   unfolding from placeOk
-  from-wait p f h = rw (ne-eqb p 512 f) (opens-next p (ltb-true p (length (t .lines)) (and-left (ltb p (length (t .lines))) _ (or-other (eqb p 512) _ (ne-eqb p 512 f) h))))
+  from-wait p f h = rw (ne-eqb p 512 f) (opens-next p
+      (ltb-true p (length (t .lines)) (and-left (ltb p (length (t .lines))) _ (or-other (eqb p 512) _ (ne-eqb p 512 f) h))))

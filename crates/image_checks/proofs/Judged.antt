@@ -15,7 +15,7 @@ use Rattle.spec_format.specs.Image.{Table}
 use Rattle.spec_format.specs.State.{stateOk, freshTable}
 use Rattle.spec_semantics.specs.Records.{stateFor, pad}
 use Rattle.spec_format.specs.Cycle.{rowPlace}
-use Rattle.spec_images.proofs.InputRows.{row-right}
+use Rattle.spec_simulation.proofs.InputRows.{row-right}
 use Rattle.image_checks.specs.declared.RowCheck.the-variants.{Right, WrongAt}
 use Rattle.image_checks.specs.Places.{Opens, outputsAt, variablesAt, wrongFrom, slotsAt, initialsAt, typeBytesAt, placeAt}
 use Rattle.image_checks.specs.Answers.{checkOf}

@@ -73,7 +73,8 @@ unfolding openOf encodeTable sectionsFor
 good-opens t g =
     let n = length (t .lines) in
     let ws = rawsOf 0 (t .lines) (t .reaches) in
-    let b : length (rawsBytes ws) ≡ 12 * n = raws-bytes-length ws ∙ ap (λ k. 12 * k) (raws-length (t .signature) n (t .reaches) 0 (t .lines) (t .reaches) (g .lines)) in
+    let b : length (rawsBytes ws) ≡ 12 * n = raws-bytes-length ws
+    ∙ ap (λ k. 12 * k) (raws-length (t .signature) n (t .reaches) 0 (t .lines) (t .reaches) (g .lines)) in
     let e = form1-read (sectionsFor t) (whole-lines (rawsBytes ws) n b (g .some-line) (g .few-lines)) (g .bytes) in
     ap (λ o. unless11 o openSections) (sym e) ∙ table-opens t g
 
@@ -142,7 +143,8 @@ module _ (σ : Signature) (n : ℕ) (rs code : List ℕ) where
 module _ (s l c : List ℕ) (t : Table) (e : Opens s l c t) where
   -- "One 12-byte line per statement": as many lines as the section has
   pub opens-count : length (t .lines) ≡ length l / 12
-  opens-count = lines-placed (t .signature) (length (raws (length l / 12) l)) (t .reaches) c (length l / 12) l 0 0 c (t .lines) refl (opens-parts s l c t e .1) .0
+  opens-count = lines-placed (t .signature) (length (raws (length l / 12) l)) (t .reaches) c (length l / 12) l 0 0 c (t .lines) refl
+      (opens-parts s l c t e .1) .0
 
   -- The line k of the table is opened from its own 12 bytes and its own run of the code section.
   pub opens-line : (k : ℕ) → k < length (t .lines) → OpenedLine (t .signature) (length (t .lines)) (t .reaches) c (fieldsOf l k) (line (t .lines) k)

@@ -14,12 +14,12 @@ use borrow.Author.Tests.{leb-true}
 use Rattle.spec_design.specs.Types.{Ty, std-logic, integer, inType, typeByte, typeOfByte}
 use Rattle.spec_design.specs.Expression.{nth}
 use Rattle.spec_semantics.specs.Rows.{wrongValue}
-use Rattle.spec_semantics.proofs.Basic.{none-some, some-injective, eqb-true, and-left, and-right}
+use Rattle.spec_semantics.proofs.Basic.{none-some, some-injective, eqb-true, and-left, and-right, cond-case}
 use Rattle.spec_format.specs.Words.{word4, word4At}
 use Rattle.spec_semantics.specs.Twos.{signed32}
 use Rattle.spec_format.specs.Signature.{Cell, Signature, types, initials, typeBytes, readTypes, readCell, readCells, atEnd, signatureOf}
 use Rattle.spec_semantics.specs.Records.{slotsOk}
-use Rattle.spec_format.proofs.Basic.{andThen-some, onlyIf-some, cond-case}
+use Rattle.spec_format.proofs.Basic.{andThen-some, onlyIf-some}
 use Rattle.base_signed.specs.Signed.{inTypeByte, inSome}
 use Rattle.image_checks.specs.Places.{outputsAt, variablesAt, wrongFrom, slotsAt, initialsAt, typeBytesAt}
 

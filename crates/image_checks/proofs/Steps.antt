@@ -11,8 +11,8 @@ use mathlib.Core.List.{List, [], _∷_, _++_, append-assoc}
 use lib.ListN.{length, getD, take, drop, set, drop-of-length-le}
 use lib.Seq.{length-take-le, take-suc, take-all, drop-cons, set-at}
 use lib.IntN.{ℤ, pos}
-use lib.Dec.{ltb, leb, eqb}
-use borrow.Author.Tests.{lt-ltb, le-ltb, le-leb, lt-leb, eq-eqb, ne-eqb}
+use lib.Dec.{ltb, eqb}
+use borrow.Author.Tests.{lt-ltb, le-ltb, eq-eqb, ne-eqb}
 use Rattle.spec_semantics.specs.Records.{zeros, pad}
 use Rattle.spec_design.specs.Types.{eqZ}
 use Rattle.base_signed.specs.Signed.{inTypeByte}

@@ -9,7 +9,7 @@ ghost use Rattle.spec_format.specs.Walk.{from};
 ghost use Rattle.image_checks.specs.Places.{Opens};
 use base_codes::image;
 use base_codes::record;
-use base_words::word2;
+use image_words::word2;
 
 // The line where a cycle begins: the first from the beginning, else the one that follows the wait.
 pub fn first_line(lines: &[u8], place: u16) -> usize

@@ -7,9 +7,9 @@ ghost use Rattle.image_checks.specs.Places.{outputsAt, variablesAt, init
 use base_codes::image;
 use base_signed::from_bits;
 use base_signed::in_type;
-use base_words::byte;
-use base_words::wide;
-use base_words::word4;
+use image_words::byte;
+use image_words::wide;
+use image_words::word4;
 
 // The count of inputs (0), outputs (1) or variables (2).
 pub fn count(s: &[u8], k: usize) -> usize

@@ -19,7 +19,7 @@ use base_codes::image;
 use base_codes::limit;
 use base_codes::record;
 use base_signed::equal;
-use base_words::byte;
+use image_words::byte;
 
 // Whether a place is the beginning or a wait's line.
 pub fn place_ok(lines: &[u8], place: u16) -> bool

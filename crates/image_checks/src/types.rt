@@ -10,7 +10,7 @@ use super::signature::count;
 use super::signature::outputs_at;
 use super::signature::variables_at;
 use base_codes::image;
-use base_words::byte;
+use image_words::byte;
 
 // The type bytes of the inputs: that part of the section.
 pub fn input_types<'a>(signature: &'a [u8]) -> &'a [u8]

@@ -25,7 +25,7 @@ use Rattle.spec_format.specs.Good.{within, goodLine, GoodLines}
 use Rattle.spec_format.specs.Opening.{openOf}
 use Rattle.spec_format.specs.Encode.{tableOf, encode}
 use Rattle.spec_format.proofs.Sections.{form1-length}
-use Rattle.spec_images.proofs.Processes.{process-good, encode-opens, encode-bytes}
+use Rattle.spec_simulation.proofs.Processes.{process-good, encode-opens, encode-bytes}
 use Rattle.spec_promises.specs.Compile.{written, compileOf}
 use Rattle.spec_behaviour.specs.Direct.{directFresh, freshText}
 use Rattle.spec_promises.proofs.Size.{valid-fits}
@@ -47,7 +47,8 @@ line-fields p n q (branches e f g) m h r w =
     (omega arith, omega arith, omega arith, omega arith, r)
 
 -- all lines
-lines-fields : (σ : Signature) (n : ℕ) (rs : List ℕ) (p : ℕ) (ls : List Line) (qs : List ℕ) → n ≤ 512 → p + length (linesCode ls) ≤ 65535 → GoodLines σ n rs ls qs
+lines-fields : (σ : Signature) (n : ℕ) (rs : List ℕ) (p : ℕ) (ls : List Line) (qs : List ℕ) → n ≤ 512 → p + length (linesCode ls) ≤ 65535
+    → GoodLines σ n rs ls qs
     → AllTwoBytes (rawsOf p ls qs)
 unfolding GoodLines goodLine rawsOf linesCode
 lines-fields σ n rs p [] qs m h g = tt
@@ -73,7 +74,8 @@ accepted-fits text p e =
     record {
       whole = h;
       bytes = encode-bytes p w h;
-      fields = lines-fields (tableOf p .signature) (length (linesOf (p .body))) (reachesOf (p .body)) 0 (linesOf (p .body)) (reachesOf (p .body)) (g .few-lines) (let r = code-room p h in omega arith) (g .lines);
+      fields = lines-fields (tableOf p .signature) (length (linesOf (p .body))) (reachesOf (p .body)) 0 (linesOf (p .body)) (reachesOf (p .body)) (g .few-lines)
+          (let r = code-room p h in omega arith) (g .lines);
       reads = encode-opens p w h;
     }
 
@@ -95,7 +97,8 @@ written-opens text buffer n e =
     }
 
 -- What `compile` wrote, by its contract: the bytes that it answers open, and start as the text's design does.
-pub compile-opens : (text before after : List ℕ) (r : declared.Compiled) (n : ℕ) → compileTold r ≡ compileOf text before .answer → after ≡ compileOf text before .buffer
+pub compile-opens : (text before after : List ℕ) (r : declared.Compiled) (n : ℕ) → compileTold r ≡ compileOf text before .answer
+    → after ≡ compileOf text before .buffer
     → r ≡ Written n → OpensAs text (take n after)
 compile-opens text before after r n a b w =
     subst (λ (s : List ℕ). OpensAs text (take n s)) (sym b) (written-opens text before n (sym a ∙ ap compileTold w))

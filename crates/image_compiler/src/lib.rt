@@ -5,13 +5,13 @@ ghost use Rattle.spec_design.specs.Process.{Process, WellFormed};
 ghost use Rattle.spec_format.specs.Encode.{encode};
 ghost use Rattle.spec_format.specs.Writing.{writtenInto};
 ghost use Rattle.spec_promises.specs.Compile.{compileOf};
-ghost use Rattle.front_accept.specs.Designs.{Holds};
+ghost use Rattle.base_ir.specs.Arrays.{Holds};
 use base_answers::Compiled;
 use base_answers::Refusal;
 use base_codes::limit;
 use base_codes::statement;
-use front_accept::Front;
-use front_accept::layout::Counts;
+use base_ir::Declared;
+use front_accept::Acceptance;
 use image_encoder::Encoded;
 
 // The image of a design, or refusal 10.
@@ -19,33 +19,13 @@ fn write_image(
     ops: &[u8; limit::TEXT],
     args: &[i32; limit::TEXT],
     lines: &[u16; statement::ROWS],
-    is: [u8; limit::VARIABLES],
-    os: [u8; limit::VARIABLES],
-    vs: [u8; limit::VARIABLES],
-    at_outputs: [i32; limit::VARIABLES],
-    at_variables: [i32; limit::VARIABLES],
-    c: Counts,
+    d: Declared,
     image: &mut [u8],
 ) -> Compiled
-    ensures { λ r. ⌜ ((p : Process) → Holds p (now (ops .entry)) (now (args .entry)) (now (lines .entry)) is os vs «at_outputs» «at_variables» c → WellFormed p
+    ensures { λ r. ⌜ ((p : Process) → Holds p d (now (ops .entry)) (now (args .entry)) (now (lines .entry)) → WellFormed p
         → (compileTold r ≡ writtenInto (encode p) (now (image .entry)) .answer) × (now (image .exit) ≡ writtenInto (encode p) (now (image .entry)) .buffer)) ⌝ }
 {
-    let encoded = image_encoder::write(
-        ops,
-        args,
-        c.operations,
-        lines,
-        c.statements,
-        &is,
-        &os,
-        &vs,
-        &at_outputs,
-        &at_variables,
-        c.inputs,
-        c.outputs,
-        c.variables,
-        image,
-    );
+    let encoded = image_encoder::write(ops, args, lines, d, image);
     match encoded {
         Encoded::Written(n) => Compiled::Written(n),
         Encoded::TooShort(n) => Compiled::NotCompiled(Refusal::BufferTooShort(n)),
@@ -59,35 +39,10 @@ pub fn compile(text: &[u8], image: &mut [u8]) -> Compiled
     let mut ops = [0u8; limit::TEXT];
     let mut args = [0i32; limit::TEXT];
     let mut lines = [0u16; statement::ROWS];
-    let mut is = [0u8; limit::VARIABLES];
-    let mut os = [0u8; limit::VARIABLES];
-    let mut vs = [0u8; limit::VARIABLES];
-    let mut at_outputs = [0i32; limit::VARIABLES];
-    let mut at_variables = [0i32; limit::VARIABLES];
-    let front = front_accept::accept(
-        text,
-        &mut ops,
-        &mut args,
-        &mut lines,
-        &mut is,
-        &mut os,
-        &mut vs,
-        &mut at_outputs,
-        &mut at_variables,
-    );
-    match front {
-        Front::Accepted(c) => write_image(
-            &ops,
-            &args,
-            &lines,
-            is,
-            os,
-            vs,
-            at_outputs,
-            at_variables,
-            c,
-            image,
-        ),
-        Front::Refused(r) => Compiled::NotCompiled(r),
+    let front = front_accept::accept(text, &mut ops, &mut args, &mut lines);
+    let answer = front.answer;
+    match answer {
+        Acceptance::Accepted => write_image(&ops, &args, &lines, front.declared, image),
+        Acceptance::Refused(r) => Compiled::NotCompiled(r),
     }
 }

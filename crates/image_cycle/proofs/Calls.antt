@@ -22,11 +22,11 @@ use Rattle.spec_format.specs.State.{placeOk, stateOk, memoryOf}
 use Rattle.spec_semantics.specs.Records.{stateFor, pad}
 use Rattle.spec_format.specs.Cycle.{rowPlace, rowOf}
 use Rattle.spec_semantics.specs.Calls.{Called}
-use Rattle.spec_images.specs.Outcome.{GoodState, Outcome, row-refused, state-refused, operator-refused, performs}
-use Rattle.spec_images.proofs.InputRows.{row-exactly, row-right}
-use Rattle.spec_images.proofs.States.{state-exactly, memory-back}
+use Rattle.spec_simulation.specs.Outcome.{GoodState, Outcome, row-refused, state-refused, operator-refused, performs}
+use Rattle.spec_simulation.proofs.InputRows.{row-exactly, row-right}
+use Rattle.spec_simulation.proofs.States.{state-exactly, memory-back}
 use Rattle.spec_semantics.proofs.Slots.{pad-length, pad-first}
-use Rattle.spec_images.proofs.Outcomes.{row-outcome}
+use Rattle.spec_simulation.proofs.Outcomes.{row-outcome}
 use Rattle.image_walk.specs.declared.Followed.the-variants.{Reached, Stopped, Spent}
 use Rattle.image_walk.specs.Follow.{Went}
 use Rattle.image_walk.proofs.Walks.{Shows}
@@ -68,12 +68,14 @@ module _ (s l c : List ℕ) (t : Table) (h : Checked s l c t) (x : State) (i o :
 
   -- a wait was reached
   pub reached-moves : (p : ℕ) (n : Counts) (o′ v′ : List ℤ) → went (Reached p (n .lines)) o′ v′ ≡ ranFor t l c (x .place) i (x .outputs) (x .variables)
-      → (p < 65536) × ((a : Advanced) → a ≡ record { state = record { place = p; outputs = o′; variables = v′ }; answer = Performed n } → Moves (rowOf t x i o) a)
+      → (p < 65536) × ((a : Advanced) → a ≡ record { state = record { place = p; outputs = o′; variables = v′ }; answer = Performed n }
+      → Moves (rowOf t x i o) a)
   unfolding stateFor
   reached-moves p n o′ v′ e = on (rowOf t x i o) refl (row-outcome t (h .held .good) x i o)
     where
       on : (r : Called) → rowOf t x i o ≡ r → Outcome t x i o r
-          → (p < 65536) × ((a : Advanced) → a ≡ record { state = record { place = p; outputs = o′; variables = v′ }; answer = Performed n } → Moves (rowOf t x i o) a)
+          → (p < 65536) × ((a : Advanced) → a ≡ record { state = record { place = p; outputs = o′; variables = v′ }; answer = Performed n }
+          → Moves (rowOf t x i o) a)
       on r q (row-refused k m) = none-some k (sym right ∙ row-exactly (t .signature) i (length o) k .1 m)
       on r q (state-refused m g) = absurd (g good)
       on r q (operator-refused number y is m g b z) =
@@ -81,8 +83,11 @@ module _ (s l c : List ℕ) (t : Table) (h : Checked s l c t) (x : State) (i o :
           let f : Reached p (n .lines) ≡ Stopped number y = ap (λ (u : Went). u .answer) e ∙ w in
           absurd (let d : _≡_ {A = ℕ} 0 1 = cc in omega arith)
       on r q (performs p′ τ m g z w y gs lo) =
-          let u : ranFor t l c (x .place) i (x .outputs) (x .variables) ≡ record { answer = Reached p′ (length (τ .way)); outputs = pad 16 (τ .memory .outputs); variables = pad 32 (τ .memory .variables) } = rw z at state-shows in
-          let a : went (Reached p (n .lines)) o′ v′ ≡ record { answer = Reached p′ (length (τ .way)); outputs = pad 16 (τ .memory .outputs); variables = pad 32 (τ .memory .variables) } = e ∙ u in
+          let u : ranFor t l c (x .place) i (x .outputs)
+          (x .variables) ≡ record { answer = Reached p′ (length (τ .way)); outputs = pad 16 (τ .memory .outputs); variables = pad 32 (τ .memory .variables) } =
+          rw z at state-shows in
+          let a : went (Reached p (n .lines)) o′ v′ ≡ record
+          { answer = Reached p′ (length (τ .way)); outputs = pad 16 (τ .memory .outputs); variables = pad 32 (τ .memory .variables) } = e ∙ u in
           let b : Reached p (n .lines) ≡ Reached p′ (length (τ .way)) = ap (λ (k : Went). k .answer) a in
           let pe : p ≡ p′ = cc in
           let ne : n .lines ≡ length (τ .way) = cc in
@@ -160,17 +165,23 @@ module _ (t : Table) (x : State) (i o : List ℤ) where
           absurd (let d : _≡_ {A = ℕ} 0 1 = cc in omega arith)
 
   -- 15
-  pub state-moves : rowPlace (t .signature) i (length o) ≡ none → stateOk t x ≡ false → (a : Advanced) → a ≡ record { state = x; answer = NotPerformed BadState }
+  pub state-moves : rowPlace (t .signature) i (length o) ≡ none → stateOk t x ≡ false → (a : Advanced)
+      → a ≡ record { state = x; answer = NotPerformed BadState }
       → Moves (rowOf t x i o) a
   unfolding rowOf
   state-moves z f a ea = rw (z, f) (record { answer = ap (λ (u : Advanced). cycleTold (u .answer)) ea; state = ap (λ (u : Advanced). u .state) ea })
 
   -- the row that is left with answer and state: by cases on what the row came to
-  pub row-shown : GoodTable t → rowPlace (t .signature) i (length o) ≡ none → (a r : Advanced) (u : List ℤ) → Moves (rowOf t x i o) a → r ≡ a → u ≡ rowAfter (cycleTold (a .answer)) (a .state .outputs) o
+  pub row-shown : GoodTable t → rowPlace (t .signature) i (length o) ≡ none → (a r : Advanced) (u : List ℤ) → Moves (rowOf t x i o) a → r ≡ a
+      → u ≡ rowAfter (cycleTold (a .answer)) (a .state .outputs) o
       → (cycleTold (r .answer) ≡ cycleAnswer (rowOf t x i o .answer)) × (r .state ≡ rowOf t x i o .state) × (u ≡ rowOf t x i o .row)
   unfolding stateFor
-  row-shown g right a r u m e f =
-      (ap (λ (k : Advanced). cycleTold (k .answer)) e ∙ m .answer, ap (λ (k : Advanced). k .state) e ∙ m .state, f ∙ rw (m .answer, m .state) (on (rowOf t x i o) (row-outcome t g x i o)))
+  row-shown g right a r u m e f = (
+    ap (λ (k : Advanced). cycleTold (k .answer)) e ∙ m .answer,
+    ap (λ (k : Advanced). k .state) e ∙ m .state,
+    f
+        ∙ rw (m .answer, m .state) (on (rowOf t x i o) (row-outcome t g x i o)),
+  )
     where
       on : (c : Called) → Outcome t x i o c → rowAfter (cycleAnswer (c .answer)) (c .state .outputs) o ≡ c .row
       on c (row-refused k m) = refl

@@ -1,6 +1,6 @@
 -- The lines that the code follows are those of the table, for as many lines as the first line's reach and one more, over the signature's type bytes.
 -- Assumes nothing.
-use Prim.Native.Nat.{ℕ, zero, suc, _+_, _*_, _-_, _≤_, _<_}
+use Prim.Native.Nat.{ℕ, suc, _+_, _*_, _-_, _<_}
 use native.Mathlib.Omega.{arith}
 use mathlib.Core.Path.{_≡_, refl, sym, ap, _∙_}
 use mathlib.Core.Logic.{_⊎_, inl, inr}
@@ -21,9 +21,9 @@ use Rattle.spec_semantics.specs.Records.{pad}
 use Rattle.spec_format.proofs.Lines.{raw-place}
 use Rattle.spec_simulation.specs.Walked.{WaitAt}
 use Rattle.spec_simulation.proofs.Walked.{from-inside}
-use Rattle.spec_images.proofs.States.{place-exactly, types-length}
-use Rattle.spec_images.proofs.Tables.{good-ranked}
-use Rattle.spec_images.specs.Outcome.{Typed}
+use Rattle.spec_simulation.proofs.States.{place-exactly, types-length}
+use Rattle.spec_simulation.proofs.Tables.{good-ranked}
+use Rattle.spec_simulation.specs.Outcome.{Typed}
 use Rattle.image_evaluator.proofs.Evaluation.{types-of-bytes}
 use Rattle.image_walk.proofs.Walks.{Shows, follow-walk}
 use Rattle.image_checks.proofs.Positions.{type-bytes-length}
@@ -51,7 +51,8 @@ module _ (s l c : List ℕ) (t : Table) (h : Checked s l c t) (p : ℕ) (ok : pl
       ap (λ (w : RawLine). w .reach) (line-fields l c t (h .held) r (from (t .lines) p) from-line)
       ∙ raw-place (begins l c t (h .held) r (from (t .lines) p) from-line) (line (t .lines) (from (t .lines) p)) (reach (t .reaches) (from (t .lines) p)) .2
 
-  types-first : (k kinds : List ℕ) (n : ℕ) → (n ≡ length (t .signature .variables)) × (k ≡ typeBytes (types (t .signature .variables)) ++ drop (length (t .signature .variables)) kinds)
+  types-first : (k kinds : List ℕ) (n : ℕ)
+      → (n ≡ length (t .signature .variables)) × (k ≡ typeBytes (types (t .signature .variables)) ++ drop (length (t .signature .variables)) kinds)
       → take n k ≡ typeBytes (types (t .signature .variables))
   types-first k kinds n e =
       rw (e .1) (take-at (typeBytes (types (t .signature .variables))) (drop (length (t .signature .variables)) kinds) n
@@ -59,8 +60,10 @@ module _ (s l c : List ℕ) (t : Table) (h : Checked s l c t) (p : ℕ) (ok : pl
 
   pub run-read : (x limit n : ℕ) (o v : List ℤ) (is k kinds vs : List ℕ) (r : Followed) (o′ v′ : List ℤ)
       → x ≡ from (t .lines) p → limit ≡ word2At l (x * 12 + 10) + 1 → is ≡ typeBytes (t .signature .inputs)
-      → (n ≡ length (t .signature .variables)) × (k ≡ typeBytes (types (t .signature .variables)) ++ drop (length (t .signature .variables)) kinds) → vs ≡ take n k
-      → (r ≡ followAt l c is vs i limit x 0 o v .answer) × ((o′ ≡ followAt l c is vs i limit x 0 o v .outputs) × (v′ ≡ followAt l c is vs i limit x 0 o v .variables))
+      → (n ≡ length (t .signature .variables)) × (k ≡ typeBytes (types (t .signature .variables)) ++ drop (length (t .signature .variables)) kinds)
+      → vs ≡ take n k
+      → (r ≡ followAt l c is vs i limit x 0 o v .answer)
+      × ((o′ ≡ followAt l c is vs i limit x 0 o v .outputs) × (v′ ≡ followAt l c is vs i limit x 0 o v .variables))
       → _≡_ {A = Went} (record { answer = r; outputs = o′; variables = v′ }) (ranFor t l c p i o v)
   unfolding ranFor
   run-read x limit n o v is k kinds vs r o′ v′ ex el ei ek ev f =

@@ -20,7 +20,8 @@ pub record Checked (s l c : List ℕ) (t : Table) : Type 0 where
 -- the lines followed from the place p on, over the input row i, the output slots o and the variable slots v
 unfoldable pub ranFor : Table → List ℕ → List ℕ → ℕ → List ℤ → List ℤ → List ℤ → Went
 ranFor t l c p i o v =
-    followAt l c (typeBytes (t .signature .inputs)) (typeBytes (types (t .signature .variables))) i (suc (reach (t .reaches) (from (t .lines) p))) (from (t .lines) p) 0 o v
+    followAt l c (typeBytes (t .signature .inputs)) (typeBytes (types (t .signature .variables))) i (suc (reach (t .reaches) (from (t .lines) p)))
+    (from (t .lines) p) 0 o v
 
 -- where the lines lead, and the slots as they are left
 abbrev pub went : Followed → List ℤ → List ℤ → Went

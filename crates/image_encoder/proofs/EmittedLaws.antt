@@ -7,7 +7,7 @@ use mathlib.Core.Option.{Option, some}
 use mathlib.Core.List.{List, [], _∷_, _++_, append-assoc, append-nil}
 use lib.ListN.{length, getD, set, length-append}
 use lib.Seq.{sets}
-use lib.Dec.{eqb, ltb}
+use lib.Dec.{eqb}
 use lib.IntN.{ℤ, pos}
 use Rattle.spec_design.specs.Types.{Ty, ExprTy}
 use Rattle.spec_design.specs.Expression.{Leaf, int, bit, input, variable, Unary, sign, invert, Binary, plus, minus, equal, unequal, less, at-most, greater, at-least, and, or, xor, times, divide, modulo, remainder, Expr, leaf, unary, binary, leafType, unaryType, binaryType, typeOf}
@@ -17,9 +17,7 @@ use Rattle.spec_format.specs.Words as Words
 use Rattle.spec_format.specs.Image.{raw, rawBytes}
 use Rattle.spec_format.specs.Code.{Operation, push, apply1, apply2, post, operationBytes, code}
 use Rattle.spec_design.specs.Process.{fits}
-use Rattle.spec_format.proofs.Decoding.{given-some, given2-some}
-use Rattle.spec_format.proofs.Lines.{fits-type}
-use Rattle.spec_format.proofs.Encoded.{operation-append, named-below}
+use Rattle.spec_format.proofs.Encoded.{operation-append}
 use Rattle.base_ir.specs.Operations.{Op, op, leafOp, ops}
 use Rattle.base_codes.specs.Operation.{INTEGER, STD-LOGIC, INPUT, VARIABLE, unaryCode, binaryCode, widthOf}
 use Rattle.base_codes.specs.Types.{tagOf}
@@ -27,6 +25,7 @@ use Rattle.base_ir.specs.Arrays.{opsFrom}
 use Rattle.base_ir.proofs.Laid.{unaryOp, binaryOp, ops-laid}
 use Rattle.image_encoder.specs.Emitted.{opBytes, codeFrom, widthFrom}
 use Rattle.image_flow.proofs.Sets.{sets-append}
+use Rattle.spec_semantics.proofs.Typed.{fits-type, given-some, given2-some, named-below}
 
 -- bytes stored behind others
 pub put-after : (l : List ℕ) {m n : List ℕ} (at : ℕ) (us vs : List ℕ) → m ≡ sets l at us → n ≡ sets m (at + length us) vs → n ≡ sets l at (us ++ vs)
@@ -42,7 +41,8 @@ flatBytes (o ∷ os) = opBytes (o .code) (o .arg) ++ flatBytes os
 pub flat-append : (a b : List Op) → flatBytes (a ++ b) ≡ flatBytes a ++ flatBytes b
 unfolding flatBytes
 flat-append [] b = refl
-flat-append (o ∷ a) b = ap (λ (l : List ℕ). opBytes (o .code) (o .arg) ++ l) (flat-append a b) ∙ sym (append-assoc (opBytes (o .code) (o .arg)) (flatBytes a) (flatBytes b))
+flat-append (o ∷ a) b = ap (λ (l : List ℕ). opBytes (o .code) (o .arg) ++ l) (flat-append a b)
+    ∙ sym (append-assoc (opBytes (o .code) (o .arg)) (flatBytes a) (flatBytes b))
 
 pub code-flat : (codes : List ℕ) (args : List ℤ) (m c : ℕ) → codeFrom codes args m c ≡ flatBytes (opsFrom codes args m c)
 unfolding codeFrom flatBytes opsFrom
@@ -109,24 +109,34 @@ module _ (is vs : List Ty) (hi : length is ≤ 256) (hv : length vs ≤ 256) whe
   behind w a o i k e =
       ap (λ (l : List ℕ). (w ++ operationBytes a) ++ l) (flat-append (o ∷ []) k ∙ ap (λ (l : List ℕ). l ++ flatBytes k) e)
       ∙ (sym (append-assoc (w ++ operationBytes a) (operationBytes (i ∷ [])) (flatBytes k))
-      ∙ ap (λ (l : List ℕ). l ++ flatBytes k) (append-assoc w (operationBytes a) (operationBytes (i ∷ [])) ∙ ap (λ (l : List ℕ). w ++ l) (sym (operation-append a (i ∷ [])))))
+      ∙ ap (λ (l : List ℕ). l ++ flatBytes k) (append-assoc w (operationBytes a) (operationBytes (i ∷ []))
+      ∙ ap (λ (l : List ℕ). w ++ l) (sym (operation-append a (i ∷ [])))))
 
   joined : (w : List ℕ) (a b : List Operation) → (w ++ operationBytes a) ++ operationBytes b ≡ w ++ operationBytes (a ++ b)
   joined w a b = append-assoc w (operationBytes a) (operationBytes b) ∙ ap (λ (l : List ℕ). w ++ l) (sym (operation-append a b))
 
   -- the bytes so far, the code of an expression, and the bytes of the operations behind it
   flat-steps : (q : List ℕ)
-      → Steps leafOp unaryOp binaryOp (λ (e : Expr) (w : List ℕ). (t : ExprTy) × (typeOf is vs e ≡ some t)) (λ (e : Expr) (w : List ℕ). w ++ operationBytes (post e)) (λ (k : List Op) (w : List ℕ). w ++ flatBytes k ≡ q)
+      → Steps leafOp unaryOp binaryOp (λ (e : Expr) (w : List ℕ). (t : ExprTy) × (typeOf is vs e ≡ some t))
+      (λ (e : Expr) (w : List ℕ). w ++ operationBytes (post e)) (λ (k : List Op) (w : List ℕ). w ++ flatBytes k ≡ q)
   unfolding typeOf post
   flat-steps q =
       record {
         leaf = λ l w k f c.
             ap (λ (z : List ℕ). w ++ z) (flat-append (leafOp l ∷ []) k ∙ ap (λ (z : List ℕ). z ++ flatBytes k) (leaf-flat l (f .0) (f .1)))
             ∙ (sym (append-assoc w (operationBytes (push l ∷ [])) (flatBytes k)) ∙ c);
-        unary = λ o s a w k f. ((s, given-some (unaryType o) s (f .0) (typeOf is vs a) (f .1) .0), λ c. behind w (post a) (unaryOp o s) (apply1 o) k (unary-flat o (pos (tagOf s))) ∙ c);
+        unary = λ o s a w k f. (
+          (s, given-some (unaryType o) s (f .0) (typeOf is vs a) (f .1) .0),
+          λ c. behind w (post a) (unaryOp o s) (apply1 o) k
+              (unary-flat o (pos (tagOf s))) ∙ c,
+        );
         binary = λ o s a b w k f.
-            let p = given2-some (binaryType o) s (f .0) (typeOf is vs a) (typeOf is vs b) (f .1) in
-            ((s, p .0), (s, p .1), λ c. behind (w ++ operationBytes (post a)) (post b) (binaryOp o s) (apply2 o) k (binary-flat o (pos (tagOf s))) ∙ (ap (λ (l : List ℕ). l ++ flatBytes k) (joined w (post a) (post b ++ (apply2 o ∷ []))) ∙ c));
+            let p = given2-some (binaryType o) s (f .0) (typeOf is vs a) (typeOf is vs b) (f .1) in (
+              (s, p .0),
+              (s, p .1),
+              λ c. behind (w ++ operationBytes (post a)) (post b) (binaryOp o s) (apply2 o) k (binary-flat o (pos (tagOf s)))
+                  ∙ (ap (λ (l : List ℕ). l ++ flatBytes k) (joined w (post a) (post b ++ (apply2 o ∷ []))) ∙ c),
+            );
       }
 
   -- the bytes of an expression's operations are its code
@@ -140,7 +150,8 @@ module _ (is vs : List Ty) (hi : length is ≤ 256) (hv : length vs ≤ 256) whe
 
 -- STORES
 
-pub put-two : (l : List ℕ) (at : ℕ) {m k : List ℕ} {b₀ b₁ v₀ v₁ : ℕ} → b₀ ≡ v₀ → b₁ ≡ v₁ → m ≡ set l at b₀ → k ≡ set m (at + 1) b₁ → k ≡ sets l at (v₀ ∷ v₁ ∷ [])
+pub put-two : (l : List ℕ) (at : ℕ) {m k : List ℕ} {b₀ b₁ v₀ v₁ : ℕ} → b₀ ≡ v₀ → b₁ ≡ v₁ → m ≡ set l at b₀ → k ≡ set m (at + 1) b₁
+    → k ≡ sets l at (v₀ ∷ v₁ ∷ [])
 put-two l at {m} {k} {b₀} {b₁} {v₀} {v₁} e g p q =
     put-after l at (v₀ ∷ []) (v₁ ∷ []) (p ∙ ap (λ (w : ℕ). set l at w) e) (q ∙ ap (λ (w : ℕ). set m (at + 1) w) g)
 
@@ -150,12 +161,14 @@ put-four l at {m} {n} {o} {k} {b₀} {b₁} {b₂} {b₃} {v₀} {v₁} {v₂} {
     let z : at + 3 ≡ at + 2 + 1 = omega arith in
     put-after l at (v₀ ∷ v₁ ∷ []) (v₂ ∷ v₃ ∷ []) (put-two l at e₀ e₁ p₀ p₁) (put-two n (at + 2) e₂ e₃ p₂ (p₃ ∙ ap (λ (i : ℕ). set o i b₃) z))
 
-pub put-cell : (l : List ℕ) (at kind : ℕ) {m k : List ℕ} {w v : ℕ} → m ≡ set l at kind → k ≡ sets m (at + 1) (Words.bytes4 w) → w ≡ v → k ≡ sets l at (kind ∷ Words.bytes4 v)
+pub put-cell : (l : List ℕ) (at kind : ℕ) {m k : List ℕ} {w v : ℕ} → m ≡ set l at kind → k ≡ sets m (at + 1) (Words.bytes4 w) → w ≡ v
+    → k ≡ sets l at (kind ∷ Words.bytes4 v)
 put-cell l at kind {m} {k} {w} {v} p q e = put-after l at (kind ∷ []) (Words.bytes4 v) p (q ∙ ap (λ (i : ℕ). sets m (at + 1) (Words.bytes4 i)) e)
 
 pub put-line : (l : List ℕ) (at kind target offset size next other reach : ℕ) {m n o p q r s : List ℕ} → m ≡ set l at kind → n ≡ set m (at + 1) target
     → o ≡ sets n (at + 2) (Words.bytes2 offset) → p ≡ sets o (at + 4) (Words.bytes2 size) → q ≡ sets p (at + 6) (Words.bytes2 next)
-    → r ≡ sets q (at + 8) (Words.bytes2 other) → s ≡ sets r (at + 10) (Words.bytes2 reach) → s ≡ sets l at (rawBytes (raw kind target offset size next other reach))
+    → r ≡ sets q (at + 8) (Words.bytes2 other) → s ≡ sets r (at + 10) (Words.bytes2 reach)
+    → s ≡ sets l at (rawBytes (raw kind target offset size next other reach))
 put-line l at kind target offset size next other reach a b c d e f g =
     put-after l at (kind ∷ target ∷ (Words.bytes2 offset ++ (Words.bytes2 size ++ (Words.bytes2 next ++ Words.bytes2 other)))) (Words.bytes2 reach)
     (put-after l at (kind ∷ target ∷ (Words.bytes2 offset ++ (Words.bytes2 size ++ Words.bytes2 next))) (Words.bytes2 other)

@@ -16,8 +16,6 @@ use Rattle.spec_semantics.proofs.Basic.{and-left, and-right}
 use Rattle.spec_format.specs.Code.{code}
 use Rattle.spec_format.specs.Lines.{Line, waits, acts, branches, lines, line, next}
 use Rattle.spec_format.specs.Image.{RawLine, raw, rawOf, rawsOf, lineCode, linesCode}
-use Rattle.spec_format.proofs.Lines.{fits-type}
-use Rattle.spec_format.proofs.Encoded.{named-below}
 use Rattle.spec_simulation.proofs.Lines.{Each}
 use Rattle.base_ir.specs.Operations.{Op, ops}
 use Rattle.base_ir.specs.Entries.{entries, entryOps}
@@ -26,6 +24,7 @@ use Rattle.base_ir.proofs.Held.{Own, at-first, at-rest, at-output, at-variable,
 use Rattle.image_flow.specs.Followers.{Links, otherOf}
 use Rattle.image_encoder.specs.Emitted.{widthFrom, runWidth, kindByte, lineAt, linesFrom}
 use Rattle.image_encoder.proofs.EmittedLaws.{flatBytes, flat-append, code-flat, width-code, code-is}
+use Rattle.spec_semantics.proofs.Typed.{fits-type, named-below}
 
 -- LINES
 
@@ -35,7 +34,8 @@ pub record RowFits (codes rows : List ℕ) (y : ℕ) (l : Line) : Type 0 where
   pub fields : (p q : ℕ) → lineAt (rowIn rows y) p (length (lineCode l)) (next l) (otherOf l) q ≡ rawOf p l q
 
 -- the bytes of a statement's own operations
-own-size : (codes : List ℕ) (args : List ℤ) (rows : List ℕ) {k t : ℕ} (own : List Op) {j m i e : ℕ} → Own codes args rows k t own j m i e → m + length own ≤ 16384 → (c : List ℕ) → flatBytes own ≡ c
+own-size : (codes : List ℕ) (args : List ℤ) (rows : List ℕ) {k t : ℕ} (own : List Op) {j m i e : ℕ} → Own codes args rows k t own j m i e
+    → m + length own ≤ 16384 → (c : List ℕ) → flatBytes own ≡ c
     → runWidth codes (rowIn rows j .from) (rowIn rows j .to) ≡ length c
 own-size codes args rows {k} {t} own {j} {m} {i} {e} o b c h =
     let z : min (m + length own) 16384 - m ≡ length own = omega arith in
@@ -61,7 +61,8 @@ seq-room : (a b : Stmt) → length (entryOps (entries (seq a b))) ≡ length (en
 unfolding entries
 seq-room a b = ap length (entry-ops-append (entries a) (entries b)) ∙ length-append (entryOps (entries a)) (entryOps (entries b))
 
-else-room : (e : Expr) (a b : Stmt) → length (entryOps (entries (if-else e a b))) ≡ length (ops e) + (length (entryOps (entries a)) + length (entryOps (entries b)))
+else-room : (e : Expr) (a b : Stmt) → length (entryOps (entries (if-else e a b))) ≡ length
+    (ops e) + (length (entryOps (entries a)) + length (entryOps (entries b)))
 unfolding entryOps entries
 else-room e a b = length-append (ops e) (entryOps (entries a ++ entries b)) ∙ ap (λ (n : ℕ). length (ops e) + n) (seq-room a b)
 
@@ -79,7 +80,8 @@ module _ (codes : List ℕ) (args : List ℤ) (rows : List ℕ) (is os vs : List
   plain-row own l o b h g =
       record { size = own-size codes args rows own o b (lineCode l) h; fields = λ p q. own-fields o p (length (lineCode l)) (next l) (otherOf l) q ∙ g p q }
 
-  act-row : (a : Act) (j m f : ℕ) → At codes args rows (act a) j m → typedAct is os vs a ≡ true → m + length (entryOps (entries (act a))) ≤ 16384 → RowFits codes rows j (acts a f)
+  act-row : (a : Act) (j m f : ℕ) → At codes args rows (act a) j m → typedAct is os vs a ≡ true → m + length (entryOps (entries (act a))) ≤ 16384
+      → RowFits codes rows j (acts a f)
   unfolding typedAct entryOps entries lineCode rawOf flatBytes
   act-row (output k e) j m f h t b =
       let q = fits-type is vs e (plainly (nth os k)) t in
@@ -99,12 +101,14 @@ module _ (codes : List ℕ) (args : List ℤ) (rows : List ℕ) (is os vs : List
   unfolding lineCode rawOf flatBytes
   wait-row j m f h b = plain-row [] (waits f) (at-wait h) (omega arith) refl (λ p r. refl)
 
-  branch-row : {k i u : ℕ} (e : Expr) (j m f g : ℕ) → kindByte k ≡ 3 → Own codes args rows k 0 (ops e) j m i u → fits is vs e (some boolean) ≡ true → m + length (ops e) ≤ 16384 → RowFits codes rows j (branches e f g)
+  branch-row : {k i u : ℕ} (e : Expr) (j m f g : ℕ) → kindByte k ≡ 3 → Own codes args rows k 0 (ops e) j m i u → fits is vs e (some boolean) ≡ true
+      → m + length (ops e) ≤ 16384 → RowFits codes rows j (branches e f g)
   unfolding lineCode rawOf
   branch-row {k} e j m f g d o t b =
       plain-row (ops e) (branches e f g) o b (code-is is vs hi hv e (some boolean) t) (λ p r. ap (λ (w : ℕ). raw w 0 p (length (code e)) f g r) d)
 
-  pub each-row : (s : Stmt) (j m f : ℕ) → At codes args rows s j m → typed is os vs s ≡ true → m + length (entryOps (entries s)) ≤ 16384 → Each (λ y l. RowFits codes rows y l) s j f
+  pub each-row : (s : Stmt) (j m f : ℕ) → At codes args rows s j m → typed is os vs s ≡ true → m + length (entryOps (entries s)) ≤ 16384
+      → Each (λ y l. RowFits codes rows y l) s j f
   unfolding Each typed
   each-row (act a) j m f h t b = act-row a j m f h t b
   each-row wait j m f h t b = wait-row j m f h (omega arith)
@@ -149,22 +153,26 @@ module _ (codes : List ℕ) (args : List ℤ) (rows : List ℕ) (is os vs : List
   unfolding flatBytes linesCode lineCode
   wait-code f = refl
 
-  branch-code : (e : Expr) (f g : ℕ) (x : List Op) (ls : List Line) → fits is vs e (some boolean) ≡ true → flatBytes x ≡ linesCode ls → flatBytes (ops e ++ x) ≡ linesCode (branches e f g ∷ ls)
+  branch-code : (e : Expr) (f g : ℕ) (x : List Op) (ls : List Line) → fits is vs e (some boolean) ≡ true → flatBytes x ≡ linesCode ls
+      → flatBytes (ops e ++ x) ≡ linesCode (branches e f g ∷ ls)
   unfolding linesCode lineCode
-  branch-code e f g x ls t h = flat-append (ops e) x ∙ ap (λ (l : List ℕ). l ++ flatBytes x) (code-is is vs hi hv e (some boolean) t) ∙ ap (λ (l : List ℕ). code e ++ l) h
+  branch-code e f g x ls t h = flat-append (ops e) x ∙ ap (λ (l : List ℕ). l ++ flatBytes x) (code-is is vs hi hv e (some boolean) t)
+      ∙ ap (λ (l : List ℕ). code e ++ l) h
 
   pub lines-code : (s : Stmt) (n f : ℕ) → typed is os vs s ≡ true → flatBytes (entryOps (entries s)) ≡ linesCode (lines s n f)
   unfolding typed entryOps entries lines
   lines-code (act a) n f t = act-code a f t
   lines-code wait n f t = wait-code f
-  lines-code (if-then e a) n f t = branch-code e (suc n) f _ _ (and-left (fits is vs e (some boolean)) _ t) (lines-code a (suc n) f (and-right (fits is vs e (some boolean)) _ t))
+  lines-code (if-then e a) n f t = branch-code e (suc n) f _ _ (and-left (fits is vs e (some boolean)) _ t)
+      (lines-code a (suc n) f (and-right (fits is vs e (some boolean)) _ t))
   lines-code (if-else e a b) n f t =
       let q = and-right (fits is vs e (some boolean)) _ t in
       branch-code e (suc n) (suc n + size a) _ _ (and-left (fits is vs e (some boolean)) _ t)
       (ap flatBytes (entry-ops-append (entries a) (entries b)) ∙ flat-append (entryOps (entries a)) (entryOps (entries b))
       ∙ both (lines-code a (suc n) f (and-left (typed is os vs a) _ q)) (lines-code b (suc n + size a) f (and-right (typed is os vs a) _ q))
       ∙ sym (lines-code-append (lines a (suc n) f) (lines b (suc n + size a) f)))
-  lines-code (while e a) n f t = branch-code e (suc n) f _ _ (and-left (fits is vs e (some boolean)) _ t) (lines-code a (suc n) n (and-right (fits is vs e (some boolean)) _ t))
+  lines-code (while e a) n f t = branch-code e (suc n) f _ _ (and-left (fits is vs e (some boolean)) _ t)
+      (lines-code a (suc n) n (and-right (fits is vs e (some boolean)) _ t))
   lines-code (seq a b) n f t =
       ap flatBytes (entry-ops-append (entries a) (entries b)) ∙ flat-append (entryOps (entries a)) (entryOps (entries b))
       ∙ both (lines-code a n (n + size a) (and-left (typed is os vs a) _ t)) (lines-code b (n + size a) f (and-right (typed is os vs a) _ t))
@@ -173,8 +181,10 @@ module _ (codes : List ℕ) (args : List ℤ) (rows : List ℕ) (is os vs : List
   -- LINES: by position from the arrays, and from the list of lines
 
   pub raws-from : (x : Links) (r : List ℕ) (t : List Line) (qs : List ℕ)
-      → ((y : ℕ) → y < length t → RowFits codes rows y (line t y)) → ((y : ℕ) → y < length t → getD (x .next) y 0 ≡ next (line t y)) → ((y : ℕ) → y < length t → getD (x .other) y 0 ≡ otherOf (line t y))
-      → ((y : ℕ) → y < length t → getD r y 0 ≡ getD qs y 0) → length qs ≡ length t → (j c p : ℕ) → j + c ≡ length t → linesFrom codes rows x r j c p ≡ rawsOf p (drop j t) (drop j qs)
+      → ((y : ℕ) → y < length t → RowFits codes rows y (line t y)) → ((y : ℕ) → y < length t → getD (x .next) y 0 ≡ next (line t y))
+      → ((y : ℕ) → y < length t → getD (x .other) y 0 ≡ otherOf (line t y))
+      → ((y : ℕ) → y < length t → getD r y 0 ≡ getD qs y 0) → length qs ≡ length t → (j c p : ℕ) → j + c ≡ length t
+      → linesFrom codes rows x r j c p ≡ rawsOf p (drop j t) (drop j qs)
   unfolding linesFrom rawsOf
   raws-from x r t qs fit nx ot re e j zero p h =
       let q : length t ≤ j = omega arith in
@@ -186,8 +196,10 @@ module _ (codes : List ℕ) (args : List ℤ) (rows : List ℕ) (is os vs : List
       let d : drop j t ≡ line t j ∷ drop (suc j) t = drop-cons t j (waits 0) (omega arith) in
       let d′ : drop j qs ≡ getD qs j 0 ∷ drop (suc j) qs = drop-cons qs j 0 (omega arith) in
       rw (d, d′) (made (f .size) (f .fields p (getD qs j 0)) (nx j (omega arith)) (ot j (omega arith)) (re j (omega arith))
-      (ap (λ (i : ℕ). linesFrom codes rows x r i c (p + length (lineCode (line t j)))) z ∙ raws-from x r t qs fit nx ot re e (suc j) c (p + length (lineCode (line t j))) (omega arith)))
+      (ap (λ (i : ℕ). linesFrom codes rows x r i c (p + length (lineCode (line t j)))) z
+      ∙ raws-from x r t qs fit nx ot re e (suc j) c (p + length (lineCode (line t j))) (omega arith)))
     where
-      made : {w n f f′ g g′ q q′ : ℕ} {a : RawLine} {b : List RawLine} → w ≡ n → lineAt (rowIn rows j) p n f′ g′ q′ ≡ a → f ≡ f′ → g ≡ g′ → q ≡ q′ → linesFrom codes rows x r (j + 1) c (p + n) ≡ b
+      made : {w n f f′ g g′ q q′ : ℕ} {a : RawLine} {b : List RawLine} → w ≡ n → lineAt (rowIn rows j) p n f′ g′ q′ ≡ a → f ≡ f′ → g ≡ g′ → q ≡ q′
+          → linesFrom codes rows x r (j + 1) c (p + n) ≡ b
           → lineAt (rowIn rows j) p w f g q ∷ linesFrom codes rows x r (j + 1) c (p + w) ≡ a ∷ b
       made {w} {n} {f} {f′} {g} {g′} {q} {q′} {a} {b} e₁ e₂ e₃ e₄ e₅ e₆ = rw (e₁, e₃, e₄, e₅, e₂, e₆)

@@ -12,7 +12,7 @@ use Rattle.spec_format.specs.Image.{raw, rawBytes, rawsBytes}
 use Rattle.base_ir.specs.Arrays.{rowIn}
 use Rattle.image_flow.specs.Followers.{links}
 use Rattle.base_codes.specs.Operation.{widthOf}
-use Rattle.image_encoder.specs.Emitted.{opBytes, codeFrom, widthFrom, runWidth, kindByte, lineAt, linesFrom, typesFrom, cellsFrom, signatureFrom, headerOf}
+use Rattle.image_encoder.specs.Emitted.{opBytes, codeFrom, widthFrom, runWidth, kindByte, lineAt, linesFrom, typesFrom, cellsFrom, signatureWith, headerOf}
 use Rattle.image_flow.proofs.Sets.{sets-append}
 use Rattle.image_encoder.proofs.EmittedLaws.{put-after, width-op}
 
@@ -27,9 +27,11 @@ pub types-again : (types l : List ℕ) {m : List ℕ} (at k n : ℕ) {b : ℕ} �
 unfolding typesFrom
 types-again types l {m} at k n {b} h e g =
     let z : n - k ≡ suc (n - (k + 1)) = omega arith in
-    rw z (again l m (at + k) (at + (k + 1)) (getD types k 0 ∷ []) (typesFrom types (k + 1) (n - (k + 1))) (g ∙ ap (λ (w : ℕ). set l (at + k) w) e) (omega arith))
+    rw z (again l m (at + k) (at + (k + 1)) (getD types k 0 ∷ []) (typesFrom types (k + 1) (n - (k + 1))) (g ∙ ap (λ (w : ℕ). set l (at + k) w) e)
+    (omega arith))
 
-pub types-done : (types l l₀ : List ℕ) (at k n : ℕ) → n ≤ k → sets l (at + k) (typesFrom types k (n - k)) ≡ sets l₀ (at + 0) (typesFrom types 0 (n - 0)) → l ≡ sets l₀ at (typesFrom types 0 n)
+pub types-done : (types l l₀ : List ℕ) (at k n : ℕ) → n ≤ k → sets l (at + k) (typesFrom types k (n - k)) ≡ sets l₀ (at + 0) (typesFrom types 0 (n - 0))
+    → l ≡ sets l₀ at (typesFrom types 0 n)
 unfolding typesFrom
 types-done types l l₀ at k n h e =
     let z : n - k ≡ 0 = omega arith in
@@ -39,18 +41,22 @@ types-done types l l₀ at k n h e =
 
 -- n types with values
 
-pub cells-again : (types : List ℕ) (values : List ℤ) (l : List ℕ) {m : List ℕ} (at k n : ℕ) {b : ℕ} {v : ℤ} → k < n → b ≡ getD types k 0 → v ≡ getD values k (pos 0)
+pub cells-again : (types : List ℕ) (values : List ℤ) (l : List ℕ) {m : List ℕ} (at k n : ℕ) {b : ℕ} {v : ℤ} → k < n → b ≡ getD types k 0
+    → v ≡ getD values k (pos 0)
     → m ≡ sets l (at + 5 * k) (b ∷ bytes4 (unsigned32 v))
     → sets m (at + 5 * (k + 1)) (cellsFrom types values (k + 1) (n - (k + 1))) ≡ sets l (at + 5 * k) (cellsFrom types values k (n - k))
 unfolding cellsFrom
 cells-again types values l {m} at k n {b} {v} h e d g =
     let z : n - k ≡ suc (n - (k + 1)) = omega arith in
-    rw z (again l m (at + 5 * k) (at + 5 * (k + 1)) (getD types k 0 ∷ bytes4 (unsigned32 (getD values k (pos 0)))) (cellsFrom types values (k + 1) (n - (k + 1))) (g ∙ same e d) (omega arith))
+    rw z (again l m (at + 5 * k) (at + 5 * (k + 1)) (getD types k 0 ∷ bytes4 (unsigned32 (getD values k (pos 0))))
+    (cellsFrom types values (k + 1) (n - (k + 1))) (g ∙ same e d) (omega arith))
   where
     same : {b b′ : ℕ} {v v′ : ℤ} → b ≡ b′ → v ≡ v′ → sets l (at + 5 * k) (b ∷ bytes4 (unsigned32 v)) ≡ sets l (at + 5 * k) (b′ ∷ bytes4 (unsigned32 v′))
-    same {b} {b′} {v} {v′} p q = ap (λ (w : ℕ). sets l (at + 5 * k) (w ∷ bytes4 (unsigned32 v))) p ∙ ap (λ (w : ℤ). sets l (at + 5 * k) (b′ ∷ bytes4 (unsigned32 w))) q
+    same {b} {b′} {v} {v′} p q = ap (λ (w : ℕ). sets l (at + 5 * k) (w ∷ bytes4 (unsigned32 v))) p
+        ∙ ap (λ (w : ℤ). sets l (at + 5 * k) (b′ ∷ bytes4 (unsigned32 w))) q
 
-pub cells-done : (types : List ℕ) (values : List ℤ) (l l₀ : List ℕ) (at k n : ℕ) → n ≤ k → sets l (at + 5 * k) (cellsFrom types values k (n - k)) ≡ sets l₀ (at + 5 * 0) (cellsFrom types values 0 (n - 0))
+pub cells-done : (types : List ℕ) (values : List ℤ) (l l₀ : List ℕ) (at k n : ℕ) → n ≤ k
+    → sets l (at + 5 * k) (cellsFrom types values k (n - k)) ≡ sets l₀ (at + 5 * 0) (cellsFrom types values 0 (n - 0))
     → l ≡ sets l₀ at (cellsFrom types values 0 n)
 unfolding cellsFrom
 cells-done types values l l₀ at k n h e =
@@ -61,7 +67,8 @@ cells-done types values l l₀ at k n h e =
 
 -- the code of n operations
 
-pub code-again : (codes : List ℕ) (args : List ℤ) (l : List ℕ) {m : List ℕ} (p i n : ℕ) {c w : ℕ} {z : ℤ} → i < n → c ≡ getD codes i 0 → z ≡ getD args i (pos 0) → m ≡ sets l p (opBytes c z)
+pub code-again : (codes : List ℕ) (args : List ℤ) (l : List ℕ) {m : List ℕ} (p i n : ℕ) {c w : ℕ} {z : ℤ} → i < n → c ≡ getD codes i 0 → z ≡ getD args i (pos 0)
+    → m ≡ sets l p (opBytes c z)
     → w ≡ widthOf c → sets m (p + w) (codeFrom codes args (i + 1) (n - (i + 1))) ≡ sets l p (codeFrom codes args i (n - i))
 unfolding codeFrom
 code-again codes args l {m} p i n {c} {w} {z} h e d g f =
@@ -70,7 +77,8 @@ code-again codes args l {m} p i n {c} {w} {z} h e d g f =
     (g ∙ ap (λ (q : ℕ). sets l p (opBytes q z)) e ∙ ap (λ (q : ℤ). sets l p (opBytes (getD codes i 0) q)) d)
     (ap (λ (q : ℕ). p + q) (f ∙ ap (λ (q : ℕ). widthOf q) e ∙ width-op (getD codes i 0) (getD args i (pos 0)))))
 
-pub code-done : (codes : List ℕ) (args : List ℤ) (l l₀ : List ℕ) (p p₀ i n : ℕ) → n ≤ i → sets l p (codeFrom codes args i (n - i)) ≡ sets l₀ p₀ (codeFrom codes args 0 (n - 0))
+pub code-done : (codes : List ℕ) (args : List ℤ) (l l₀ : List ℕ) (p p₀ i n : ℕ) → n ≤ i
+    → sets l p (codeFrom codes args i (n - i)) ≡ sets l₀ p₀ (codeFrom codes args 0 (n - 0))
     → l ≡ sets l₀ p₀ (codeFrom codes args 0 n)
 unfolding codeFrom
 code-done codes args l l₀ p p₀ i n h e =
@@ -80,7 +88,8 @@ code-done codes args l l₀ p p₀ i n h e =
 
 -- the bytes of a run of operations counted
 
-pub width-again : (codes : List ℕ) (i n : ℕ) (a v w : ℕ) → i < n → v ≡ widthOf (getD codes i 0) → a + widthFrom codes i (n - i) ≡ w → a + v + widthFrom codes (i + 1) (n - (i + 1)) ≡ w
+pub width-again : (codes : List ℕ) (i n : ℕ) (a v w : ℕ) → i < n → v ≡ widthOf (getD codes i 0) → a + widthFrom codes i (n - i) ≡ w
+    → a + v + widthFrom codes (i + 1) (n - (i + 1)) ≡ w
 unfolding widthFrom
 width-again codes i n a v w h e g =
     let z : n - i ≡ suc (n - (i + 1)) = omega arith in
@@ -96,16 +105,20 @@ width-done codes i n f a h e =
 
 -- n lines
 
-pub lines-again : (codes rows next other r l : List ℕ) {m : List ℕ} (at j n p : ℕ) {w a b q f g : ℕ} → j < n → a ≡ getD rows (6 * j + 2) 0 → b ≡ getD rows (6 * j + 3) 0 → w ≡ runWidth codes a b
+pub lines-again : (codes rows next other r l : List ℕ) {m : List ℕ} (at j n p : ℕ) {w a b q f g : ℕ} → j < n → a ≡ getD rows (6 * j + 2) 0
+    → b ≡ getD rows (6 * j + 3) 0 → w ≡ runWidth codes a b
     → f ≡ getD next j 0 → g ≡ getD other j 0 → q ≡ getD r j 0 → m ≡ sets l (at + 12 * j) (rawBytes (lineAt (rowIn rows j) p w f g q))
-    → sets m (at + 12 * (j + 1)) (rawsBytes (linesFrom codes rows (links next other) r (j + 1) (n - (j + 1)) (p + w))) ≡ sets l (at + 12 * j) (rawsBytes (linesFrom codes rows (links next other) r j (n - j) p))
+    → sets m (at + 12 * (j + 1)) (rawsBytes (linesFrom codes rows (links next other) r (j + 1) (n - (j + 1)) (p + w))) ≡ sets l (at + 12 * j)
+    (rawsBytes (linesFrom codes rows (links next other) r j (n - j) p))
 unfolding linesFrom rawsBytes
 lines-again codes rows next other r l {m} at j n p {w} {a} {b} {q} {f} {g} h ea eb ew ef eg eq e =
     let z : n - j ≡ suc (n - (j + 1)) = omega arith in
     let w′ : w ≡ runWidth codes (getD rows (6 * j + 2) 0) (getD rows (6 * j + 3) 0) = ew ∙ both ea eb in
     rw z (ap (λ (i : ℕ). sets m (at + 12 * (j + 1)) (rawsBytes (linesFrom codes rows (links next other) r (j + 1) (n - (j + 1)) (p + i)))) w′
-    ∙ again l m (at + 12 * j) (at + 12 * (j + 1)) (rawBytes (lineAt (rowIn rows j) p (runWidth codes (getD rows (6 * j + 2) 0) (getD rows (6 * j + 3) 0)) (getD next j 0) (getD other j 0) (getD r j 0)))
-    (rawsBytes (linesFrom codes rows (links next other) r (j + 1) (n - (j + 1)) (p + runWidth codes (getD rows (6 * j + 2) 0) (getD rows (6 * j + 3) 0)))) (e ∙ same w′ ef eg eq) (omega arith))
+    ∙ again l m (at + 12 * j) (at + 12 * (j + 1))
+    (rawBytes (lineAt (rowIn rows j) p (runWidth codes (getD rows (6 * j + 2) 0) (getD rows (6 * j + 3) 0)) (getD next j 0) (getD other j 0) (getD r j 0)))
+    (rawsBytes (linesFrom codes rows (links next other) r (j + 1) (n - (j + 1)) (p + runWidth codes (getD rows (6 * j + 2) 0) (getD rows (6 * j + 3) 0))))
+    (e ∙ same w′ ef eg eq) (omega arith))
   where
     both : {a a′ b b′ : ℕ} → a ≡ a′ → b ≡ b′ → runWidth codes a b ≡ runWidth codes a′ b′
     both {a} {a′} {b} {b′} u v = ap (λ (i : ℕ). runWidth codes i b) u ∙ ap (λ (i : ℕ). runWidth codes a′ i) v
@@ -119,7 +132,8 @@ lines-again codes rows next other r l {m} at j n p {w} {a} {b} {q} {f} {g} h ea 
         ∙ ap (λ (i : ℕ). sets l (at + 12 * j) (rawBytes (lineAt (rowIn rows j) p w′ f′ g′ i))) v
 
 pub lines-done : (codes rows next other r l l₀ : List ℕ) (at j n p : ℕ) → n ≤ j
-    → sets l (at + 12 * j) (rawsBytes (linesFrom codes rows (links next other) r j (n - j) p)) ≡ sets l₀ (at + 12 * 0) (rawsBytes (linesFrom codes rows (links next other) r 0 (n - 0) 0))
+    → sets l (at + 12 * j) (rawsBytes (linesFrom codes rows (links next other) r j (n - j) p)) ≡ sets l₀ (at + 12 * 0)
+    (rawsBytes (linesFrom codes rows (links next other) r 0 (n - 0) 0))
     → l ≡ sets l₀ at (rawsBytes (linesFrom codes rows (links next other) r 0 n 0))
 unfolding linesFrom rawsBytes
 lines-done codes rows next other r l l₀ at j n p h e =
@@ -130,8 +144,10 @@ lines-done codes rows next other r l l₀ at j n p h e =
 
 -- the header's numbers
 
-pub header-made : (l : List ℕ) (s k c : ℕ) {m₁ m₂ m₃ m₄ m₅ m₆ m₇ m₈ : List ℕ} → m₁ ≡ sets l 0 (bytes2 1) → m₂ ≡ sets m₁ 2 (bytes2 3) → m₃ ≡ sets m₂ 4 (bytes4 28) → m₄ ≡ sets m₃ 8 (bytes4 s)
-    → m₅ ≡ sets m₄ 12 (bytes4 (28 + s)) → m₆ ≡ sets m₅ 16 (bytes4 k) → m₇ ≡ sets m₆ 20 (bytes4 (28 + s + k)) → m₈ ≡ sets m₇ 24 (bytes4 c) → m₈ ≡ sets l 0 (headerOf s k c)
+pub header-made : (l : List ℕ) (s k c : ℕ) {m₁ m₂ m₃ m₄ m₅ m₆ m₇ m₈ : List ℕ} → m₁ ≡ sets l 0 (bytes2 1) → m₂ ≡ sets m₁ 2 (bytes2 3)
+    → m₃ ≡ sets m₂ 4 (bytes4 28) → m₄ ≡ sets m₃ 8 (bytes4 s)
+    → m₅ ≡ sets m₄ 12 (bytes4 (28 + s)) → m₆ ≡ sets m₅ 16 (bytes4 k) → m₇ ≡ sets m₆ 20 (bytes4 (28 + s + k)) → m₈ ≡ sets m₇ 24 (bytes4 c)
+    → m₈ ≡ sets l 0 (headerOf s k c)
 header-made l s k c e₁ e₂ e₃ e₄ e₅ e₆ e₇ e₈ =
     put-after l 0 (bytes2 1 ++ (bytes2 3 ++ (bytes4 28 ++ (bytes4 s ++ (bytes4 (28 + s) ++ (bytes4 k ++ bytes4 (28 + s + k))))))) (bytes4 c)
     (put-after l 0 (bytes2 1 ++ (bytes2 3 ++ (bytes4 28 ++ (bytes4 s ++ (bytes4 (28 + s) ++ bytes4 k))))) (bytes4 (28 + s + k))
@@ -162,7 +178,7 @@ cells-length l v k (suc c) = let h = cells-length l v (k + 1) c in omega arith
 
 pub signature-made : (l is os vs : List ℕ) (ao av : List ℤ) (i o v : ℕ) {m₁ m₂ m₃ m₄ m₅ m₆ : List ℕ} → m₁ ≡ set l 28 i → m₂ ≡ set m₁ 29 o → m₃ ≡ set m₂ 30 v
     → m₄ ≡ sets m₃ 31 (typesFrom is 0 i) → m₅ ≡ sets m₄ (31 + i) (cellsFrom os ao 0 o) → m₆ ≡ sets m₅ (31 + i + 5 * o) (cellsFrom vs av 0 v)
-    → m₆ ≡ sets l 28 (signatureFrom is os vs ao av i o v)
+    → m₆ ≡ sets l 28 (signatureWith is os vs ao av i o v)
 signature-made l is os vs ao av i o v {m₁} {m₂} {m₃} {m₄} {m₅} {m₆} e₁ e₂ e₃ e₄ e₅ e₆ =
     let t = types-length is 0 i in
     let c = cells-length os ao 0 o in

@@ -21,12 +21,13 @@ use Rattle.spec_format.proofs.Writing.{fits-written, short-written}
 use Rattle.spec_format.proofs.Encoded.{raws-length}
 use Rattle.spec_simulation.proofs.Lines.{linesOf-length, linesOf-line}
 use Rattle.spec_simulation.proofs.Reaches.{reachesOf-length}
-use Rattle.base_ir.specs.Arrays.{BodyIn, NamesIn}
+use Rattle.base_ir.specs.declared.Declared.{Declared}
+use Rattle.base_ir.specs.Arrays.{TypesIn, ValuesIn, BodyIn, NamesIn, Holds}
 use Rattle.base_ir.proofs.Held.{entries-size, at-whole}
 use Rattle.image_encoder.specs.declared.Encoded.the-variants.{Written, TooShort}
 use Rattle.image_flow.specs.Followers.{Links, stored, Followed}
 use Rattle.image_flow.specs.Reaches.{Reached}
-use Rattle.image_encoder.specs.Emitted.{codeFrom, widthFrom, runWidth, linesFrom, typesFrom, cellsFrom, signatureFrom, headerOf}
+use Rattle.image_encoder.specs.Emitted.{codeFrom, widthFrom, runWidth, linesFrom, typesFrom, cellsFrom, signatureWith, signatureFrom, signatureSize, linesSize, headerOf}
 use Rattle.image_encoder.specs.Outcome.{encodedTold, LinesStored, Encodes}
 use Rattle.image_flow.proofs.Sets.{getD-sets-in}
 use Rattle.image_flow.proofs.ReachesLaws.{link-next-is, link-other-is}
@@ -65,7 +66,8 @@ types-held [] l k e = refl
 types-held (t ∷ ts) l k e =
     let p = take-cons l k (length ts) 0 (typeByte t) (map typeByte ts) e in cons-both (p .0 ∙ type-same t) (types-held ts l (k + 1) (p .1))
 
-cells-held : (ss : List Slot) (l : List ℕ) (z : List ℤ) (k : ℕ) → take (length ss) (drop k l) ≡ map typeByte (slotTypes ss) → take (length ss) (drop k z) ≡ initials ss
+cells-held : (ss : List Slot) (l : List ℕ) (z : List ℤ) (k : ℕ) → take (length ss) (drop k l) ≡ map typeByte (slotTypes ss)
+    → take (length ss) (drop k z) ≡ initials ss
     → cellsFrom l z k (length ss) ≡ cellBytes (cells ss)
 unfolding cellsFrom cellBytes
 cells-held [] l z k e g = refl
@@ -73,36 +75,48 @@ cells-held (s ∷ ss) l z k e g =
     let p = take-cons l k (length ss) 0 (typeByte (s .type)) (map typeByte (slotTypes ss)) e in
     let q = take-cons z k (length ss) (pos 0) (s .initial) (initials ss) g in
     cons-both (p .0 ∙ type-same (s .type))
-    (ap (λ (w : ℤ). bytes4 (unsigned32 w) ++ cellsFrom l z (k + 1) (length ss)) (q .0) ∙ ap (λ (w : List ℕ). bytes4 (unsigned32 (s .initial)) ++ w) (cells-held ss l z (k + 1) (p .1) (q .1)))
+    (ap (λ (w : ℤ). bytes4 (unsigned32 w) ++ cellsFrom l z (k + 1) (length ss)) (q .0)
+    ∙ ap (λ (w : List ℕ). bytes4 (unsigned32 (s .initial)) ++ w) (cells-held ss l z (k + 1) (p .1) (q .1)))
 
 cells-count : (l : List Slot) → length (cells l) ≡ length l
 cells-count [] = refl
 cells-count (s ∷ l) = ap suc (cells-count l)
 
 -- the signature of the declarations
-signature-held : {p : Process} {is os vs : List ℕ} {ao av : List ℤ} {i o v : ℕ} → NamesIn p is os vs ao av i o v → signatureFrom is os vs ao av i o v ≡ signatureBytes (signatureFor p)
+signature-of : (p : Process) (is os vs : List ℕ) (ao av : List ℤ) (i o v : ℕ) → TypesIn (sourceTypes (p .inputs)) is i → TypesIn (slotTypes (p .outputs)) os o
+    → TypesIn (slotTypes (p .variables)) vs v
+    → ValuesIn (initials (p .outputs)) ao o → ValuesIn (initials (p .variables)) av v → signatureWith is os vs ao av i o v ≡ signatureBytes (signatureFor p)
 unfolding signatureBytes signatureFor
-signature-held {p} {is} {os} {vs} {ao} {av} {i} {o} {v} h =
-    let ei : length (sourceTypes (p .inputs)) ≡ i = h .inputs .0 in
-    let eo : length (p .outputs) ≡ o = sym (length-map (p .outputs) (λ (s : Slot). s .type)) ∙ h .outputs .0 in
-    let ev : length (p .variables) ≡ v = sym (length-map (p .variables) (λ (s : Slot). s .type)) ∙ h .variables .0 in
-    let t : typesFrom is 0 i ≡ typeBytes (sourceTypes (p .inputs)) = by-types (sourceTypes (p .inputs)) is i ei (h .inputs .1) in
-    let c : cellsFrom os ao 0 o ≡ cellBytes (cells (p .outputs)) = by-cells (p .outputs) os ao o eo (h .outputs .1) (h .first-outputs .1) in
-    let d : cellsFrom vs av 0 v ≡ cellBytes (cells (p .variables)) = by-cells (p .variables) vs av v ev (h .variables .1) (h .first-variables .1) in
+signature-of p is os vs ao av i o v hi ho hv fo fv =
+    let ei : length (sourceTypes (p .inputs)) ≡ i = hi .0 in
+    let eo : length (p .outputs) ≡ o = sym (length-map (p .outputs) (λ (s : Slot). s .type)) ∙ ho .0 in
+    let ev : length (p .variables) ≡ v = sym (length-map (p .variables) (λ (s : Slot). s .type)) ∙ hv .0 in
+    let t : typesFrom is 0 i ≡ typeBytes (sourceTypes (p .inputs)) = by-types (sourceTypes (p .inputs)) is i ei (hi .1) in
+    let c : cellsFrom os ao 0 o ≡ cellBytes (cells (p .outputs)) = by-cells (p .outputs) os ao o eo (ho .1) (fo .1) in
+    let d : cellsFrom vs av 0 v ≡ cellBytes (cells (p .variables)) = by-cells (p .variables) vs av v ev (hv .1) (fv .1) in
     cons-both (sym ei) (cons-both (sym eo ∙ sym (cells-count (p .outputs))) (cons-both (sym ev ∙ sym (cells-count (p .variables)))
-    (ap (λ (w : List ℕ). w ++ (cellsFrom os ao 0 o ++ cellsFrom vs av 0 v)) t ∙ ap (λ (w : List ℕ). typeBytes (sourceTypes (p .inputs)) ++ (w ++ cellsFrom vs av 0 v)) c
+    (ap (λ (w : List ℕ). w ++ (cellsFrom os ao 0 o ++ cellsFrom vs av 0 v)) t
+    ∙ ap (λ (w : List ℕ). typeBytes (sourceTypes (p .inputs)) ++ (w ++ cellsFrom vs av 0 v)) c
     ∙ ap (λ (w : List ℕ). typeBytes (sourceTypes (p .inputs)) ++ (cellBytes (cells (p .outputs)) ++ w)) d)))
   where
     by-types : (ts : List Ty) (l : List ℕ) (n : ℕ) → length ts ≡ n → take n l ≡ map typeByte ts → typesFrom l 0 n ≡ typeBytes ts
     by-types ts l n e g = ap (λ (k : ℕ). typesFrom l 0 k) (sym e) ∙ types-held ts l 0 (ap (λ (k : ℕ). take k l) e ∙ g)
 
-    by-cells : (ss : List Slot) (l : List ℕ) (z : List ℤ) (n : ℕ) → length ss ≡ n → take n l ≡ map typeByte (slotTypes ss) → take n z ≡ initials ss → cellsFrom l z 0 n ≡ cellBytes (cells ss)
+    by-cells : (ss : List Slot) (l : List ℕ) (z : List ℤ) (n : ℕ) → length ss ≡ n → take n l ≡ map typeByte (slotTypes ss) → take n z ≡ initials ss
+        → cellsFrom l z 0 n ≡ cellBytes (cells ss)
     by-cells ss l z n e g f =
         ap (λ (k : ℕ). cellsFrom l z 0 k) (sym e) ∙ cells-held ss l z 0 (ap (λ (k : ℕ). take k l) e ∙ g) (ap (λ (k : ℕ). take k z) e ∙ f)
 
+signature-held : {p : Process} {d : Declared} → NamesIn p d → signatureFrom d ≡ signatureBytes (signatureFor p)
+signature-held {p} {d} h =
+    signature-of p (d .inputs .types) (d .outputs .types) (d .variables .types) (d .outputs .values) (d .variables .values) (d .inputs .count)
+    (d .outputs .count) (d .variables .count)
+    (h .inputs) (h .outputs) (h .variables) (h .first-outputs) (h .first-variables)
+
 -- THE BODY
 
-few-types : (p : Process) → WellFormed p → (length (sourceTypes (p .inputs)) ≤ 256) × (length (slotTypes (p .outputs)) ≤ 256) × (length (slotTypes (p .variables)) ≤ 256)
+few-types : (p : Process) → WellFormed p
+    → (length (sourceTypes (p .inputs)) ≤ 256) × (length (slotTypes (p .outputs)) ≤ 256) × (length (slotTypes (p .variables)) ≤ 256)
 few-types p w =
     let a = length-map (p .inputs) (λ (s : Source). s .type) in
     let b = length-map (p .outputs) (λ (s : Slot). s .type) in
@@ -116,7 +130,8 @@ body-count : {p : Process} {codes : List ℕ} {args : List ℤ} {rows : List ℕ
 body-count {p} b = sym (entries-size (p .body)) ∙ b .lines .count
 
 -- the lines section, from the followers and reaches that were stored
-pub body-lines : (codes rows : List ℕ) (n at : ℕ) (x₀ x : Links) (r₀ r before after : List ℕ) → n ≤ length (x₀ .next) → n ≤ length (x₀ .other) → n ≤ length r₀ → Followed rows n x₀ x → Reached rows n x r₀ r
+pub body-lines : (codes rows : List ℕ) (n at : ℕ) (x₀ x : Links) (r₀ r before after : List ℕ) → n ≤ length (x₀ .next) → n ≤ length (x₀ .other) → n ≤ length r₀
+    → Followed rows n x₀ x → Reached rows n x r₀ r
     → after ≡ sets before at (rawsBytes (linesFrom codes rows x r 0 n 0)) → LinesStored codes rows n at before after
 body-lines codes rows n at x₀ x r₀ r before after hn ho hr fol rea e p args k b w =
     let s = p .body in
@@ -132,9 +147,11 @@ body-lines codes rows n at x₀ x r₀ r before after hn ho hr fol rea e p args 
     let os = b .code .short in
     let fit : (y : ℕ) → y < length t → RowFits codes rows y (line t y) =
     λ y l. linesOf-line (λ y l. RowFits codes rows y l) s
-    (each-row codes args rows (sourceTypes (p .inputs)) (slotTypes (p .outputs)) (slotTypes (p .variables)) (few .0) (few .1) (few .2) s 0 0 0 held (w .typed) (omega arith)) y (rw (linesOf-length s) at l) in
+    (each-row codes args rows (sourceTypes (p .inputs)) (slotTypes (p .outputs)) (slotTypes (p .variables)) (few .0) (few .1) (few .2) s 0 0 0 held (w .typed)
+    (omega arith)) y (rw (linesOf-length s) at l) in
     let re : (y : ℕ) → y < length t → getD r y 0 ≡ getD (reachesOf s) y 0 = λ y l. rw rs (in-run r₀ (reachesOf s) y (omega arith) (omega arith)) in
-    let lines-are = raws-from codes args rows (sourceTypes (p .inputs)) (slotTypes (p .outputs)) (slotTypes (p .variables)) (few .0) (few .1) (few .2) x r t (reachesOf s) fit
+    let lines-are = raws-from codes args rows (sourceTypes (p .inputs)) (slotTypes (p .outputs)) (slotTypes (p .variables)) (few .0) (few .1) (few .2) x r t
+    (reachesOf s) fit
     (λ y l. rw xs (link-next-is t x₀ y l (omega arith))) (λ y l. rw xs (link-other-is t x₀ y l (omega arith))) re qn 0 n 0 (omega arith) in
     e ∙ ap (λ (q : List _). sets before at (rawsBytes q)) lines-are
   where
@@ -142,25 +159,29 @@ body-lines codes rows n at x₀ x r₀ r before after hn ho hr fol rea e p args 
     in-run l vs y h b = let z : 0 + y ≡ y = omega arith in ap (λ (i : ℕ). getD (sets l 0 vs) i 0) (sym z) ∙ getD-sets-in l 0 vs y 0 h (omega arith)
 
 -- the code section
-code-held : {p : Process} {codes : List ℕ} {args : List ℤ} {rows : List ℕ} {k n : ℕ} → BodyIn p codes args rows k n → WellFormed p → codeFrom codes args 0 k ≡ linesCode (linesOf (p .body))
+code-held : {p : Process} {codes : List ℕ} {args : List ℤ} {rows : List ℕ} {k n : ℕ} → BodyIn p codes args rows k n → WellFormed p
+    → codeFrom codes args 0 k ≡ linesCode (linesOf (p .body))
 unfolding linesOf
 code-held {p} {codes} {args} {rows} {k} {n} b w =
     let few = few-types p w in
     code-flat codes args 0 k ∙ ap flatBytes (b .code .are)
-    ∙ lines-code codes args rows (sourceTypes (p .inputs)) (slotTypes (p .outputs)) (slotTypes (p .variables)) (few .0) (few .1) (few .2) (p .body) 0 0 (w .typed)
+    ∙ lines-code codes args rows (sourceTypes (p .inputs)) (slotTypes (p .outputs)) (slotTypes (p .variables)) (few .0) (few .1) (few .2) (p .body) 0 0
+    (w .typed)
 
 -- THE WHOLE
 
 -- an image from its three sections
-encode-is : (p : Process) → encode p ≡ headerOf (length (signatureBytes (signatureFor p))) (length (rawsBytes (rawsOf 0 (linesOf (p .body)) (reachesOf (p .body))))) (length (linesCode (linesOf (p .body))))
+encode-is : (p : Process) → encode p ≡ headerOf (length (signatureBytes (signatureFor p)))
+    (length (rawsBytes (rawsOf 0 (linesOf (p .body)) (reachesOf (p .body))))) (length (linesCode (linesOf (p .body))))
     ++ (signatureBytes (signatureFor p) ++ (rawsBytes (rawsOf 0 (linesOf (p .body)) (reachesOf (p .body))) ++ linesCode (linesOf (p .body))))
 unfolding encode encodeTable form1 sectionsFor tableOf image pairs joined
-encode-is p = ap (λ (w : List ℕ). headerOf (length (signatureBytes (signatureFor p))) (length (rawsBytes (rawsOf 0 (linesOf (p .body)) (reachesOf (p .body))))) (length (linesCode (linesOf (p .body))))
+encode-is p = ap (λ (w : List ℕ). headerOf (length (signatureBytes (signatureFor p))) (length (rawsBytes (rawsOf 0 (linesOf (p .body)) (reachesOf (p .body)))))
+    (length (linesCode (linesOf (p .body))))
     ++ (signatureBytes (signatureFor p) ++ (rawsBytes (rawsOf 0 (linesOf (p .body)) (reachesOf (p .body))) ++ w))) (append-nil (linesCode (linesOf (p .body))))
 
 -- how long the sections are
-signature-length : (is os vs : List ℕ) (ao av : List ℤ) (i o v : ℕ) → length (signatureFrom is os vs ao av i o v) ≡ 3 + i + 5 * o + 5 * v
-signature-length is os vs ao av i o v =
+with-length : (is os vs : List ℕ) (ao av : List ℤ) (i o v : ℕ) → length (signatureWith is os vs ao av i o v) ≡ 3 + i + 5 * o + 5 * v
+with-length is os vs ao av i o v =
     let a = types-length is 0 i in
     let b = cells-length os ao 0 o in
     let c = cells-length vs av 0 v in
@@ -168,7 +189,12 @@ signature-length is os vs ao av i o v =
     let e = length-append (cellsFrom os ao 0 o) (cellsFrom vs av 0 v) in
     omega arith
 
-lines-length : {p : Process} {codes : List ℕ} {args : List ℤ} {rows : List ℕ} {k n : ℕ} → BodyIn p codes args rows k n → length (rawsBytes (rawsOf 0 (linesOf (p .body)) (reachesOf (p .body)))) ≡ 12 * n
+signature-length : (d : Declared) → length (signatureFrom d) ≡ signatureSize d
+signature-length d = with-length (d .inputs .types) (d .outputs .types) (d .variables .types) (d .outputs .values) (d .variables .values) (d .inputs .count)
+    (d .outputs .count) (d .variables .count)
+
+lines-length : {p : Process} {codes : List ℕ} {args : List ℤ} {rows : List ℕ} {k n : ℕ} → BodyIn p codes args rows k n
+    → length (rawsBytes (rawsOf 0 (linesOf (p .body)) (reachesOf (p .body)))) ≡ 12 * n
 lines-length {p} b =
     let l = linesOf-length (p .body) in
     let c = body-count b in
@@ -179,15 +205,19 @@ code-length : (codes : List ℕ) (args : List ℤ) (k c : ℕ) → k ≤ 16384 �
 code-length codes args k c h e =
     let z : min k 16384 - 0 ≡ k = omega arith in sym (width-code codes args 0 k) ∙ ap (λ (n : ℕ). widthFrom codes 0 n) (sym z) ∙ sym e
 
--- the image, with its sections as the arrays give them
-image-held : {p : Process} {codes : List ℕ} {args : List ℤ} {rows : List ℕ} {k n : ℕ} {is os vs : List ℕ} {ao av : List ℤ} {i o v : ℕ} (c : ℕ) → BodyIn p codes args rows k n
-    → NamesIn p is os vs ao av i o v → WellFormed p → c ≡ runWidth codes 0 k
-    → encode p ≡ headerOf (3 + i + 5 * o + 5 * v) (12 * n) c ++ (signatureFrom is os vs ao av i o v ++ (rawsBytes (rawsOf 0 (linesOf (p .body)) (reachesOf (p .body))) ++ codeFrom codes args 0 k))
-image-held {p} {codes} {args} {rows} {k} {n} {is} {os} {vs} {ao} {av} {i} {o} {v} c b h w e =
-    encode-is p ∙ same (sym (signature-held h)) (sym (code-held b w)) (signature-length is os vs ao av i o v) (lines-length b) (code-length codes args k c (b .code .short) e)
+-- the image, with its sections as they are held
+image-held : {p : Process} {codes : List ℕ} {args : List ℤ} {rows : List ℕ} {d : Declared} (c : ℕ) → Holds p d codes args rows → WellFormed p
+    → c ≡ runWidth codes 0 (d .operations)
+    → encode p ≡ headerOf (signatureSize d) (linesSize d) c
+    ++ (signatureFrom d ++ (rawsBytes (rawsOf 0 (linesOf (p .body)) (reachesOf (p .body))) ++ codeFrom codes args 0 (d .operations)))
+image-held {p} {codes} {args} {rows} {d} c h w e =
+    encode-is p ∙ same (sym (signature-held (h .declared))) (sym (code-held (h .body) w)) (signature-length d) (lines-length (h .body))
+    (code-length codes args (d .operations) c (h .body .code .short) e)
   where
-    same : {s s′ d d′ : List ℕ} {a l c : ℕ} → s ≡ s′ → d ≡ d′ → length s′ ≡ a → length (rawsBytes (rawsOf 0 (linesOf (p .body)) (reachesOf (p .body)))) ≡ l → length d′ ≡ c
-        → headerOf (length s) (length (rawsBytes (rawsOf 0 (linesOf (p .body)) (reachesOf (p .body))))) (length d) ++ (s ++ (rawsBytes (rawsOf 0 (linesOf (p .body)) (reachesOf (p .body))) ++ d))
+    same : {s s′ d d′ : List ℕ} {a l c : ℕ} → s ≡ s′ → d ≡ d′ → length s′ ≡ a → length (rawsBytes (rawsOf 0 (linesOf (p .body)) (reachesOf (p .body)))) ≡ l
+        → length d′ ≡ c
+        → headerOf (length s) (length (rawsBytes (rawsOf 0 (linesOf (p .body)) (reachesOf (p .body)))))
+        (length d) ++ (s ++ (rawsBytes (rawsOf 0 (linesOf (p .body)) (reachesOf (p .body))) ++ d))
         ≡ headerOf a l c ++ (s′ ++ (rawsBytes (rawsOf 0 (linesOf (p .body)) (reachesOf (p .body))) ++ d′))
     same {s} {s′} {d} {d′} {a} {l} {c} e₁ e₂ e₃ e₄ e₅ = rw (e₁, e₂, e₃, e₄, e₅)
 
@@ -199,7 +229,8 @@ image-length a l c s r d e f g =
     omega arith
 
 -- the bytes one behind another
-image-stored : (b : List ℕ) {m₁ m₂ m₃ m₄ : List ℕ} (a l c : ℕ) (s r d : List ℕ) → length s ≡ a → length r ≡ l → m₁ ≡ sets b 0 (headerOf a l c) → m₂ ≡ sets m₁ 28 s → m₃ ≡ sets m₂ (28 + a) r
+image-stored : (b : List ℕ) {m₁ m₂ m₃ m₄ : List ℕ} (a l c : ℕ) (s r d : List ℕ) → length s ≡ a → length r ≡ l → m₁ ≡ sets b 0 (headerOf a l c)
+    → m₂ ≡ sets m₁ 28 s → m₃ ≡ sets m₂ (28 + a) r
     → m₄ ≡ sets m₃ (28 + a + l) d → m₄ ≡ sets b 0 (headerOf a l c ++ (s ++ (r ++ d)))
 image-stored b {m₁} {m₂} {m₃} {m₄} a l c s r d es er e₁ e₂ e₃ e₄ =
     let x = length-append s r in
@@ -211,7 +242,8 @@ image-stored b {m₁} {m₂} {m₃} {m₄} a l c s r d es er e₁ e₂ e₃ e₄
     ∙ ap (λ (w : List ℕ). sets b 0 (headerOf a l c ++ w)) (append-assoc s r d)
 
 -- the answer, where there is room and where there is not
-written : (i b a : List ℕ) (n : ℕ) → length i ≡ n → n ≤ length b → a ≡ sets b 0 i → (encodedTold (Written n) ≡ writtenInto i b .answer) × (a ≡ writtenInto i b .buffer)
+written : (i b a : List ℕ) (n : ℕ) → length i ≡ n → n ≤ length b → a ≡ sets b 0 i
+    → (encodedTold (Written n) ≡ writtenInto i b .answer) × (a ≡ writtenInto i b .buffer)
 written i b a n e h g =
     let z : 0 + length i ≡ length i = omega arith in
     rw (fits-written i b (omega arith)) (ap done (sym e), g ∙ sets-eq i b 0 (omega arith) ∙ ap (λ (k : ℕ). i ++ drop k b) z)
@@ -219,24 +251,31 @@ written i b a n e h g =
 short : (i b : List ℕ) (n : ℕ) → length i ≡ n → length b < n → (encodedTold (TooShort n) ≡ writtenInto i b .answer) × (b ≡ writtenInto i b .buffer)
 short i b n e h = rw (short-written i b (omega arith)) (ap (refusal 10) (sym e), refl)
 
-module _ (codes : List ℕ) (args : List ℤ) (k : ℕ) (rows : List ℕ) (n : ℕ) (is os vs : List ℕ) (ao av : List ℤ) (i o v : ℕ) where
+module _ (codes : List ℕ) (args : List ℤ) (rows : List ℕ) (d : Declared) where
   -- The buffer is too short.
-  pub write-short : (b : List ℕ) (c : ℕ) → c ≡ runWidth codes 0 k → length b < 28 + (3 + i + 5 * o + 5 * v) + 12 * n + c
-      → Encodes codes args k rows n is os vs ao av i o v b b (TooShort (28 + (3 + i + 5 * o + 5 * v) + 12 * n + c))
-  write-short b c e h p body names w =
-      let l = image-length (3 + i + 5 * o + 5 * v) (12 * n) c (signatureFrom is os vs ao av i o v) (rawsBytes (rawsOf 0 (linesOf (p .body)) (reachesOf (p .body)))) (codeFrom codes args 0 k) (signature-length is os vs ao av i o v) (lines-length body) (code-length codes args k c (body .code .short) e) in
-      short (encode p) b _ (ap length (image-held c body names w e) ∙ l) h
+  pub write-short : (b : List ℕ) {s : ℕ} (c : ℕ) → s ≡ signatureSize d → c ≡ runWidth codes 0 (d .operations) → length b < 28 + s + linesSize d + c
+      → Encodes codes args rows d b b (TooShort (28 + s + linesSize d + c))
+  write-short b {s} c q e h p held w =
+      let l = image-length (signatureSize d) (linesSize d) c (signatureFrom d) (rawsBytes (rawsOf 0 (linesOf (p .body)) (reachesOf (p .body))))
+      (codeFrom codes args 0 (d .operations)) (signature-length d) (lines-length (held .body))
+      (code-length codes args (d .operations) c (held .body .code .short) e) in
+      short (encode p) b (28 + s + linesSize d + c) (ap length (image-held c held w e) ∙ (l ∙ ap (λ (k : ℕ). 28 + k + linesSize d + c) (sym q))) h
 
   -- The image is stored.
-  pub write-done : (b : List ℕ) {m₁ m₂ m₃ m₄ : List ℕ} (c : ℕ) → c ≡ runWidth codes 0 k → 28 + (3 + i + 5 * o + 5 * v) + 12 * n + c ≤ length b
-      → m₁ ≡ sets b 0 (headerOf (3 + i + 5 * o + 5 * v) (12 * n) c) → m₂ ≡ sets m₁ 28 (signatureFrom is os vs ao av i o v) → LinesStored codes rows n (28 + (3 + i + 5 * o + 5 * v)) m₂ m₃
-      → m₄ ≡ sets m₃ (28 + (3 + i + 5 * o + 5 * v) + 12 * n) (codeFrom codes args 0 k)
-      → Encodes codes args k rows n is os vs ao av i o v b m₄ (Written (28 + (3 + i + 5 * o + 5 * v) + 12 * n + c))
-  write-done b {m₁} {m₂} {m₃} {m₄} c e h e₁ e₂ e₃ e₄ p body names w =
-      let s = signature-length is os vs ao av i o v in
-      let r = lines-length body in
-      let l = image-length (3 + i + 5 * o + 5 * v) (12 * n) c (signatureFrom is os vs ao av i o v) (rawsBytes (rawsOf 0 (linesOf (p .body)) (reachesOf (p .body)))) (codeFrom codes args 0 k) s r (code-length codes args k c (body .code .short) e) in
-      let held = image-held c body names w e in
-      written (encode p) b m₄ _ (ap length held ∙ l) h
-      (image-stored b (3 + i + 5 * o + 5 * v) (12 * n) c (signatureFrom is os vs ao av i o v) (rawsBytes (rawsOf 0 (linesOf (p .body)) (reachesOf (p .body)))) (codeFrom codes args 0 k) s r e₁ e₂
-      (e₃ p args k body w) e₄ ∙ ap (λ (q : List ℕ). sets b 0 q) (sym held))
+  pub write-done : (b : List ℕ) {m₁ m₂ m₃ m₄ : List ℕ} {s : ℕ} (c : ℕ) → s ≡ signatureSize d → c ≡ runWidth codes 0 (d .operations)
+      → 28 + s + linesSize d + c ≤ length b
+      → m₁ ≡ sets b 0 (headerOf s (linesSize d) c) → m₂ ≡ sets m₁ 28 (signatureFrom d) → LinesStored codes rows (d .statements) (28 + s) m₂ m₃
+      → m₄ ≡ sets m₃ (28 + s + linesSize d) (codeFrom codes args 0 (d .operations)) → Encodes codes args rows d b m₄ (Written (28 + s + linesSize d + c))
+  write-done b {m₁} {m₂} {m₃} {m₄} {s} c q e h e₁ e₂ e₃ e₄ p held w =
+      let f : length (signatureFrom d) ≡ s = signature-length d ∙ sym q in
+      let r = lines-length (held .body) in
+      let l = image-length s (linesSize d) c (signatureFrom d) (rawsBytes (rawsOf 0 (linesOf (p .body)) (reachesOf (p .body))))
+      (codeFrom codes args 0 (d .operations)) f r
+      (code-length codes args (d .operations) c (held .body .code .short) e) in
+      let is = image-held c held w e ∙ ap (λ (k : ℕ). headerOf k
+      (linesSize d) c ++ (signatureFrom d ++ (rawsBytes (rawsOf 0 (linesOf (p .body)) (reachesOf (p .body))) ++ codeFrom codes args 0 (d .operations))))
+      (sym q) in
+      written (encode p) b m₄ (28 + s + linesSize d + c) (ap length is ∙ l) h
+      (image-stored b s (linesSize d) c (signatureFrom d) (rawsBytes (rawsOf 0 (linesOf (p .body)) (reachesOf (p .body))))
+      (codeFrom codes args 0 (d .operations)) f r e₁ e₂
+      (e₃ p args (d .operations) (held .body) w) e₄ ∙ ap (λ (k : List ℕ). sets b 0 k) (sym is))

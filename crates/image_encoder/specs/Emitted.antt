@@ -1,7 +1,7 @@
 -- The bytes of an image by position: what the arrays of a design and the lines' followers and reaches come to. Assumes nothing.
 use mathlib.Core.Bool.{cond}
 use mathlib.Core.List.{List, [], _∷_, _++_}
-use Prim.Native.Nat.{ℕ, zero, suc, _+_, _-_, _%_, min}
+use Prim.Native.Nat.{ℕ, zero, suc, _+_, _-_, _*_, _%_, min}
 use lib.IntN.{ℤ, pos}
 use lib.ListN.{getD}
 use lib.Dec.{eqb}
@@ -9,6 +9,7 @@ use Rattle.base_codes.specs.Statement as S
 use Rattle.base_codes.specs.Limit as L
 use Rattle.base_codes.specs.Image as M
 use Rattle.base_codes.specs.Operation.{INTEGER, widthOf}
+use Rattle.base_ir.specs.declared.Declared.{Declared}
 use Rattle.base_ir.specs.Arrays.{Row, rowIn}
 use Rattle.spec_format.specs.Words.{bytes2, bytes4}
 use Rattle.spec_semantics.specs.Twos.{unsigned32}
@@ -59,10 +60,23 @@ cellsFrom types values k zero = []
 cellsFrom types values k (suc c) = getD types k 0 ∷ (bytes4 (unsigned32 (getD values k (pos 0))) ++ cellsFrom types values (k + 1) c)
 
 -- "bytes for the counts of data inputs .., outputs, variables ..; a type byte per input ..; for each output, then variable, type and .. initial value"
-abbrev pub signatureFrom : List ℕ → List ℕ → List ℕ → List ℤ → List ℤ → ℕ → ℕ → ℕ → List ℕ
-signatureFrom is os vs atOutputs atVariables i o v =
+abbrev pub signatureWith : List ℕ → List ℕ → List ℕ → List ℤ → List ℤ → ℕ → ℕ → ℕ → List ℕ
+signatureWith is os vs atOutputs atVariables i o v =
     i ∷ o ∷ v ∷ (typesFrom is 0 i ++ (cellsFrom os atOutputs 0 o ++ cellsFrom vs atVariables 0 v))
+
+abbrev pub signatureFrom : Declared → List ℕ
+signatureFrom d =
+    signatureWith (d .inputs .types) (d .outputs .types) (d .variables .types) (d .outputs .values) (d .variables .values) (d .inputs .count)
+    (d .outputs .count) (d .variables .count)
+
+-- how many bytes these are, and those of the lines
+abbrev pub signatureSize : Declared → ℕ
+signatureSize d = M.COUNTS + d .inputs .count + M.SLOT * d .outputs .count + M.SLOT * d .variables .count
+
+abbrev pub linesSize : Declared → ℕ
+linesSize d = M.LINE * d .statements
 
 -- "Two-byte form 1, two-byte count 3, then pairs of four-byte offset and length", of sections of these lengths; "the first starts at byte 28, no gaps"
 abbrev pub headerOf : ℕ → ℕ → ℕ → List ℕ
-headerOf s l c = bytes2 M.FORM-1 ++ (bytes2 M.THREE ++ (bytes4 M.HEADER ++ (bytes4 s ++ (bytes4 (M.HEADER + s) ++ (bytes4 l ++ (bytes4 (M.HEADER + s + l) ++ bytes4 c))))))
+headerOf s l c = bytes2 M.FORM-1 ++ (bytes2 M.THREE
+    ++ (bytes4 M.HEADER ++ (bytes4 s ++ (bytes4 (M.HEADER + s) ++ (bytes4 l ++ (bytes4 (M.HEADER + s + l) ++ bytes4 c))))))

@@ -9,7 +9,8 @@ use lib.Dec.{leb}
 use Rattle.base_answers.specs.Answers.{Told, done, refusal}
 use Rattle.base_codes.specs.Limit as L
 use Rattle.spec_design.specs.Process.{Process, WellFormed}
-use Rattle.base_ir.specs.Arrays.{BodyIn, NamesIn}
+use Rattle.base_ir.specs.declared.Declared.{Declared}
+use Rattle.base_ir.specs.Arrays.{BodyIn, Holds}
 use Rattle.spec_format.specs.Lines.{linesOf, reachesOf}
 use Rattle.spec_format.specs.Image.{rawsOf, rawsBytes}
 use Rattle.spec_format.specs.Encode.{encode}
@@ -28,12 +29,14 @@ LinesStored codes rows n at before after =
     (p : Process) (args : List ℤ) (k : ℕ) → BodyIn p codes args rows k n → WellFormed p
     → after ≡ sets before at (rawsBytes (rawsOf 0 (linesOf (p .body)) (reachesOf (p .body))))
 
--- of every process that the arrays hold: the answer, and the buffer as it is left
-abbrev pub Encodes : List ℕ → List ℤ → ℕ → List ℕ → ℕ → List ℕ → List ℕ → List ℕ → List ℤ → List ℤ → ℕ → ℕ → ℕ → List ℕ → List ℕ → Encoded → Type 0
-Encodes codes args k rows n is os vs atOutputs atVariables i o v before after answer =
-    (p : Process) → BodyIn p codes args rows k n → NamesIn p is os vs atOutputs atVariables i o v → WellFormed p
+-- of every process that is held: the answer, and the buffer as it is left
+abbrev pub Encodes : List ℕ → List ℤ → List ℕ → Declared → List ℕ → List ℕ → Encoded → Type 0
+Encodes codes args rows d before after answer =
+    (p : Process) → Holds p d codes args rows → WellFormed p
     → (encodedTold answer ≡ writtenInto (encode p) before .answer) × (after ≡ writtenInto (encode p) before .buffer)
 
 -- "Limits": counts that a design can have; a text of 16,384 bytes has no more operations. Other counts get no byte written and 0 bytes needed
-abbrev pub countsOk : ℕ → ℕ → ℕ → ℕ → ℕ → Bool
-countsOk k n i o v = leb k L.TEXT && (leb n L.STATEMENTS && (leb i L.INPUTS && (leb o L.OUTPUTS && leb v L.VARIABLES)))
+abbrev pub countsOk : Declared → Bool
+countsOk d =
+    leb (d .operations) L.TEXT && (leb (d .statements) L.STATEMENTS &&
+    (leb (d .inputs .count) L.INPUTS && (leb (d .outputs .count) L.OUTPUTS && leb (d .variables .count) L.VARIABLES)))

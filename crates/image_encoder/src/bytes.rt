@@ -10,7 +10,7 @@ ghost use Rattle.spec_format.specs.Image.{raw, rawBytes};
 ghost use Rattle.image_encoder.specs.Emitted.{opBytes};
 use base_codes::image;
 use base_codes::operation;
-use base_words::byte_of;
+use image_words::byte_of;
 
 // Stores a byte, unless the place is past the end.
 pub(crate) fn put(image: &mut [u8], at: usize, b: u8)

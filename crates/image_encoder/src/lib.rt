@@ -2,11 +2,13 @@
 ghost use mathlib.Core.Path.{_≡_};
 ghost use mathlib.Core.Bool.{false};
 ghost use Prim.Native.Nat.{_<_, _≤_};
+ghost use Rattle.base_ir.specs.Arrays.{Bounded};
 ghost use Rattle.image_encoder.specs.declared.Encoded.the-variants.{TooShort};
 ghost use Rattle.image_encoder.specs.Outcome.{LinesStored, Encodes, countsOk};
 use base_codes::image;
 use base_codes::limit;
 use base_codes::statement;
+use base_ir::Declared;
 
 mod bytes;
 mod sections;
@@ -39,93 +41,59 @@ fn put_body(
 fn write_counted(
     codes: &[u8; limit::TEXT],
     args: &[i32; limit::TEXT],
-    k: usize,
     rows: &[u16; statement::ROWS],
-    n: usize,
-    is: &[u8],
-    os: &[u8],
-    vs: &[u8],
-    at_outputs: &[i32],
-    at_variables: &[i32],
-    i: usize,
-    o: usize,
-    v: usize,
+    d: Declared,
     image: &mut [u8],
 ) -> Encoded
-    requires { ⌜ (k ≤ 16384) × (n ≤ 512) × (i ≤ 16) × (o ≤ 16) × (v ≤ 32) ⌝ }
-    ensures { λ r. ⌜ Encodes (now (codes .entry)) (now (args .entry)) k (now (rows .entry)) n (now (is .entry)) (now (os .entry)) (now (vs .entry)) (now («at_outputs» .entry)) (now («at_variables» .entry)) i o v (now (image .entry)) (now (image .exit)) r ⌝ }
+    requires { ⌜ Bounded d ⌝ }
+    ensures { λ r. ⌜ Encodes (now (codes .entry)) (now (args .entry)) (now (rows .entry)) d (now (image .entry)) (now (image .exit)) r ⌝ }
 {
-    let s = image::COUNTS + i + image::SLOT * o + image::SLOT * v;
-    let l = image::LINE * n;
-    let c = sections::run_width(codes, 0, k);
+    let s = sections::signature_size(d);
+    let l = image::LINE * d.statements;
+    let c = sections::run_width(codes, 0, d.operations);
     let size = image::HEADER + s + l + c;
     if image.len() < size {
         return Encoded::TooShort(size);
     }
     sections::put_header(image, s, l, c);
-    sections::put_signature(image, is, os, vs, at_outputs, at_variables, i, o, v);
-    put_body(image, image::HEADER + s, codes, rows, n);
-    sections::put_code(image, image::HEADER + s + l, codes, args, k);
+    sections::put_signature(image, d);
+    put_body(image, image::HEADER + s, codes, rows, d.statements);
+    sections::put_code(image, image::HEADER + s + l, codes, args, d.operations);
     Encoded::Written(size)
 }
 
-// Whether these counts are within the limits.
-fn within(k: usize, n: usize, i: usize, o: usize, v: usize) -> bool
-    ensures { λ r. ⌜ r ≡ countsOk k n i o v ⌝ }
+// Whether its counts are within the limits.
+fn within(d: Declared) -> bool
+    ensures { λ r. ⌜ r ≡ countsOk d ⌝ }
 {
-    if limit::TEXT < k {
+    if limit::TEXT < d.operations {
         return false;
     }
-    if limit::STATEMENTS < n {
+    if limit::STATEMENTS < d.statements {
         return false;
     }
-    if limit::INPUTS < i {
+    if limit::INPUTS < d.inputs.count {
         return false;
     }
-    if limit::OUTPUTS < o {
+    if limit::OUTPUTS < d.outputs.count {
         return false;
     }
-    v <= limit::VARIABLES
+    d.variables.count <= limit::VARIABLES
 }
 
-// Encodes a design of k operations, n statements, i inputs, o outputs and v variables; counts past the limits are those of no design, and nothing is
-// written for them.
+// Encodes a design; counts past the limits are those of no design, and nothing is written for them.
 pub fn write(
     codes: &[u8; limit::TEXT],
     args: &[i32; limit::TEXT],
-    k: usize,
     rows: &[u16; statement::ROWS],
-    n: usize,
-    is: &[u8],
-    os: &[u8],
-    vs: &[u8],
-    at_outputs: &[i32],
-    at_variables: &[i32],
-    i: usize,
-    o: usize,
-    v: usize,
+    d: Declared,
     image: &mut [u8],
 ) -> Encoded
-    ensures { λ r. ⌜ Encodes (now (codes .entry)) (now (args .entry)) k (now (rows .entry)) n (now (is .entry)) (now (os .entry)) (now (vs .entry)) (now («at_outputs» .entry)) (now («at_variables» .entry)) i o v (now (image .entry)) (now (image .exit)) r
-        × (countsOk k n i o v ≡ false → (r ≡ TooShort 0) × (now (image .exit) ≡ now (image .entry))) ⌝ }
+    ensures { λ r. ⌜ Encodes (now (codes .entry)) (now (args .entry)) (now (rows .entry)) d (now (image .entry)) (now (image .exit)) r
+        × (countsOk d ≡ false → (r ≡ TooShort 0) × (now (image .exit) ≡ now (image .entry))) ⌝ }
 {
-    if within(k, n, i, o, v) {
-        return write_counted(
-            codes,
-            args,
-            k,
-            rows,
-            n,
-            is,
-            os,
-            vs,
-            at_outputs,
-            at_variables,
-            i,
-            o,
-            v,
-            image,
-        );
+    if within(d) {
+        return write_counted(codes, args, rows, d, image);
     }
     Encoded::TooShort(0)
 }

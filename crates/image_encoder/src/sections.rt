@@ -5,10 +5,10 @@ ghost use lib.IntN.{pos};
 ghost use lib.ListN.{getD};
 ghost use lib.Seq.{sets};
 ghost use Rattle.base_codes.specs.Image.{HEADER};
-ghost use Rattle.base_ir.specs.Arrays.{rowIn};
+ghost use Rattle.base_ir.specs.Arrays.{rowIn, Bounded};
 ghost use Rattle.spec_format.specs.Image.{rawBytes, rawsBytes};
 ghost use Rattle.image_flow.specs.Followers.{links};
-ghost use Rattle.image_encoder.specs.Emitted.{codeFrom, runWidth, kindByte, lineAt, linesFrom, typesFrom, cellsFrom, signatureFrom, headerOf};
+ghost use Rattle.image_encoder.specs.Emitted.{codeFrom, runWidth, kindByte, lineAt, linesFrom, typesFrom, cellsFrom, signatureFrom, signatureSize, headerOf};
 use crate::bytes::put;
 use crate::bytes::put_cell;
 use crate::bytes::put_line;
@@ -19,6 +19,8 @@ use base_codes::image;
 use base_codes::limit;
 use base_codes::operation::width;
 use base_codes::statement;
+use base_ir::Declared;
+use base_ir::Names;
 use image_flow::number;
 
 // The value at an index, or 0 past the end.
@@ -50,7 +52,7 @@ fn put_types(image: &mut [u8], at: usize, types: &[u8], n: usize)
 {
     let mut k = 0;
     while k < n {
-        put(image, at + k, base_words::byte(types, k));
+        put(image, at + k, image_words::byte(types, k));
         k += 1;
     }
 }
@@ -65,39 +67,57 @@ fn put_cells(image: &mut [u8], at: usize, types: &[u8], values: &[i32], n: usize
         put_cell(
             image,
             at + image::SLOT * k,
-            base_words::byte(types, k),
+            image_words::byte(types, k),
             value(values, k),
         );
         k += 1;
     }
 }
 
-// The signature section.
-pub(crate) fn put_signature(
-    image: &mut [u8],
-    is: &[u8],
-    os: &[u8],
-    vs: &[u8],
-    at_outputs: &[i32],
-    at_variables: &[i32],
-    i: usize,
-    o: usize,
-    v: usize,
-)
-    requires { ⌜ (i ≤ 16) × (o ≤ 16) × (v ≤ 32) ⌝ }
-    ensures { λ _. ⌜ now (image .exit) ≡ sets (now (image .entry)) HEADER (signatureFrom (now (is .entry)) (now (os .entry)) (now (vs .entry)) (now («at_outputs» .entry)) (now («at_variables» .entry)) i o v) ⌝ }
+// The types of declared names.
+fn put_typed(image: &mut [u8], at: usize, names: Names)
+    requires { ⌜ (at < 1000) × (names .count ≤ 32) ⌝ }
+    ensures { λ _. ⌜ now (image .exit) ≡ sets (now (image .entry)) at (typesFrom (names .types) 0 (names .count)) ⌝ }
 {
-    put(image, image::INPUT_COUNT, i as u8);
-    put(image, image::OUTPUT_COUNT, o as u8);
-    put(image, image::VARIABLE_COUNT, v as u8);
-    put_types(image, image::INPUT_TYPES, is, i);
-    put_cells(image, image::INPUT_TYPES + i, os, at_outputs, o);
-    put_cells(
+    let types = names.types;
+    put_types(image, at, &types, names.count);
+}
+
+// Their types and initial values.
+fn put_valued(image: &mut [u8], at: usize, names: Names)
+    requires { ⌜ (at < 1000) × (names .count ≤ 32) ⌝ }
+    ensures { λ _. ⌜ now (image .exit) ≡ sets (now (image .entry)) at (cellsFrom (names .types) (names .values) 0 (names .count)) ⌝ }
+{
+    let types = names.types;
+    let values = names.values;
+    put_cells(image, at, &types, &values, names.count);
+}
+
+// How many bytes the signature section has.
+pub(crate) fn signature_size(d: Declared) -> usize
+    requires { ⌜ Bounded d ⌝ }
+    ensures { λ r. ⌜ r ≡ signatureSize d ⌝ }
+{
+    image::COUNTS + d.inputs.count + image::SLOT * d.outputs.count + image::SLOT * d.variables.count
+}
+
+// The signature section.
+pub(crate) fn put_signature(image: &mut [u8], d: Declared)
+    requires { ⌜ Bounded d ⌝ }
+    ensures { λ _. ⌜ now (image .exit) ≡ sets (now (image .entry)) HEADER (signatureFrom d) ⌝ }
+{
+    let inputs = d.inputs;
+    let outputs = d.outputs;
+    let variables = d.variables;
+    put(image, image::INPUT_COUNT, inputs.count as u8);
+    put(image, image::OUTPUT_COUNT, outputs.count as u8);
+    put(image, image::VARIABLE_COUNT, variables.count as u8);
+    put_typed(image, image::INPUT_TYPES, inputs);
+    put_valued(image, image::INPUT_TYPES + inputs.count, outputs);
+    put_valued(
         image,
-        image::INPUT_TYPES + i + image::SLOT * o,
-        vs,
-        at_variables,
-        v,
+        image::INPUT_TYPES + inputs.count + image::SLOT * outputs.count,
+        variables,
     );
 }
 

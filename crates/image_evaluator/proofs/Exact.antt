@@ -34,7 +34,8 @@ typed-fine none v st k p e = fault-fine 13 p e
 typed-fine (some t) (fine x) st k p e = (t, x, refl, e)
 typed-fine (some t) (fault q) st k p e = fault-fine q p e
 
-onto-same : {X : Type 0} (b : Bool) (v : Out X) (st : List X) (k : List X → Out X) (p : X) → onto (cond b v (fault 13)) st k ≡ fine p → (b ≡ true) × (onto v st k ≡ fine p)
+onto-same : {X : Type 0} (b : Bool) (v : Out X) (st : List X) (k : List X → Out X) (p : X) → onto (cond b v (fault 13)) st k ≡ fine p
+    → (b ≡ true) × (onto v st k ≡ fine p)
 unfolding onto
 onto-same true v st k p e = (refl, e)
 onto-same false v st k p e = fault-fine 13 p e
@@ -102,7 +103,8 @@ module _ {X : Type 0} (is vs : List Ty) (A : Algebra X) where
       → (s ≡ code e) × (typeOf is vs e ≡ some t) → items e ≤ m
   unfolding code
   few m s ops e t h b k =
-      let q : operations (length (code e)) (code e) ≡ some (post e) = operations-bytes (post e) (length (code e)) (typed-codable is vs e t (k .1)) (omega arith) in
+      let q : operations (length (code e)) (code e) ≡ some (post e) =
+      operations-bytes (post e) (length (code e)) (typed-codable is vs e t (k .1)) (omega arith) in
       let z : ops ≡ post e = some-injective ops (post e) (sym h ∙ ap (λ r. operations (length r) r) (k .0) ∙ q) in
       omega (arith, post-items e, ap length z)
 

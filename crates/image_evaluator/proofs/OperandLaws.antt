@@ -95,7 +95,8 @@ module _ (is vs : List ℕ) (i v : List ℤ) (s : List ℕ) (k : ℕ) (st : List
   unfolding leafType leafValue
   int-same = go (leb (k + 5) (length s))
     where
-      go : (b : Bool) → leafOf (machineFor is vs i v) (cond b (some (int (signed32 (word4At s (k + 1))))) none) ≡ leafOf operators (cond b (some (int (signed32 (word4At s (k + 1))))) none)
+      go : (b : Bool) → leafOf (machineFor is vs i v) (cond b (some (int (signed32 (word4At s (k + 1))))) none) ≡ leafOf operators
+          (cond b (some (int (signed32 (word4At s (k + 1))))) none)
       go true = refl
       go false = refl
 

@@ -93,7 +93,8 @@ module _ {X : Type 0} (M : Machine X) (m : ℕ) where
       by (yes b) ih =
           rw (lt-ltb at (length s) b)
           (fetched (fetchAt s at)
-          (sym (ap (λ o. andThen o (λ p. Option·map (λ l. p .0 ∷ l) (operations f (p .1)))) (fetch-read s at)) ∙ sym (ap (operations (suc f)) (drop-cons s at 0 b)) ∙ e))
+          (sym (ap (λ o. andThen o (λ p. Option·map (λ l. p .0 ∷ l) (operations f (p .1)))) (fetch-read s at))
+          ∙ sym (ap (operations (suc f)) (drop-cons s at 0 b)) ∙ e))
         where
           one : (i : Operation) (j : ℕ) (l : List Operation) → operations f (drop j s) ≡ some l → i ∷ l ≡ is
               → resume (applied M m i j st) (λ k u. runAt M m f s k u) ≡ run M is st

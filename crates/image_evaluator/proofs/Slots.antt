@@ -15,7 +15,7 @@ use Rattle.spec_semantics.specs.Evaluation.{evaluate}
 use Rattle.spec_semantics.specs.Names.{leafReadsVariable, readsVariable}
 use Rattle.spec_semantics.proofs.Basic.{false-true, none-some, eqb-true}
 use Rattle.spec_semantics.proofs.Names.{depends-only}
-use Rattle.spec_format.proofs.Encoded.{nth-below}
+use Rattle.spec_semantics.proofs.Typed.{nth-below}
 
 plainly-some : (o : Option Ty) (t : ExprTy) → plainly o ≡ some t → (u : Ty) × (o ≡ some u)
 unfolding plainly

@@ -149,7 +149,8 @@ unary-more a t (suc n) at o h = let e : suc n - 1 ≡ n = omega arith in rw e
 
 pub binary-more : (a : List ℤ) (t : List ℕ) (n at : ℕ) (o : Option Binary) → 2 ≤ n
     → binaryNext o at (cellsOf a t n)
-    ≡ pushed (binaryOf o (typeOn (getD t (n - 1 - 1) 0), getD a (n - 1 - 1) (pos 0)) (typeOn (getD t (n - 1) 0), getD a (n - 1) (pos 0))) at (cellsOf a t (n - 1 - 1))
+    ≡ pushed (binaryOf o (typeOn (getD t (n - 1 - 1) 0), getD a (n - 1 - 1) (pos 0)) (typeOn (getD t (n - 1) 0), getD a (n - 1) (pos 0)))
+    at (cellsOf a t (n - 1 - 1))
 unfolding cellsOf
 binary-more a t zero at o h = absurd (omega arith)
 binary-more a t (suc zero) at o h = absurd (omega arith)

@@ -19,7 +19,7 @@ pub(crate) fn integer(code: &[u8], at: usize) -> Evaluated
     ensures { λ r. ⌜ r ≡ evaluatedOf (leafOf operators (intAt (now (code .entry)) at)) ⌝ }
 {
     if at + operation::width(operation::INTEGER) <= code.len() {
-        let v = base_signed::from_bits(base_words::word4(code, at + 1));
+        let v = base_signed::from_bits(image_words::word4(code, at + 1));
         Evaluated::Value(Found {
             kind: types::INTEGER,
             value: v,
@@ -79,7 +79,7 @@ pub(crate) fn named(code: &[u8], at: usize, kinds: &[u8], row: &[i32]) -> Evalua
     if code.len() < at + operation::width(operation::INPUT) {
         return Evaluated::Fault(refusal::BAD_LINE);
     }
-    let k = base_words::wide(code[at + 1]) as usize;
+    let k = image_words::wide(code[at + 1]) as usize;
     if kinds.len() <= k {
         return Evaluated::Fault(refusal::BAD_LINE);
     }

@@ -201,7 +201,8 @@ module _ (codes : List ℕ) (args : List ℤ) (rows : List ℕ) where
       ∙ getD-set-same (x .next) (j + 1) (j + 1 + size a) 0 (let q = u .nexts in omega arith) in
       let n′ : getD (y .other) (j + 1) 0 ≡ f = getD-set-other (set (x .other) (j + 1) f) j (j + 1) f 0 (λ q. omega arith)
       ∙ getD-set-same (x .other) (j + 1) f 0 (let q = u .others in omega arith) in
-      let g : opened (rowIn rows j) j f x ≡ y = opened-then (rowIn rows j) j f x (ap (λ (q : Row). q .kind) o) (ap (λ (q : Row). q .other) o ∙ sym (ap (λ (q : Row). q .end) o))
+      let g : opened (rowIn rows j) j f x ≡ y =
+      opened-then (rowIn rows j) j f x (ap (λ (q : Row). q .kind) o) (ap (λ (q : Row). q .other) o ∙ sym (ap (λ (q : Row). q .end) o))
       ∙ ap (λ (k : ℕ). link (link x (j + 1) k f) j (j + 1) f) (ap (λ (q : Row). q .end) o) in
       ap (λ (q : Links). followed rows (j + 1) (size a) q) g ∙ ih (j + 1) (m + length (ops e)) f y (w .1) v n n′
       ∙ stored-block j f x e a (j + 1 + size a) f f f ∙ ap (λ (k : ℕ). stored j (branches e k f ∷ lines a k f) x) z
@@ -346,7 +347,8 @@ module _ (codes : List ℕ) (args : List ℤ) (rows : List ℕ) where
       (sets-set-first (x .other) 0 0 (map otherOf (lines s 0 0)) (let q = other-length s 0 0 in omega arith))
 
 -- one statement, from what the code reads
-pub step-made : (rows : List ℕ) (j : ℕ) (x y z : Links) (kind second end block after f : ℕ) → kind ≡ getD rows (6 * j) 0 → second ≡ getD rows (6 * j + 4) 0 → end ≡ getD rows (6 * j + 5) 0
+pub step-made : (rows : List ℕ) (j : ℕ) (x y z : Links) (kind second end block after f : ℕ) → kind ≡ getD rows (6 * j) 0 → second ≡ getD rows (6 * j + 4) 0
+    → end ≡ getD rows (6 * j + 5) 0
     → block ≡ getD (x .next) j 0 → after ≡ getD (x .other) j 0 → f ≡ cond (eqb end block) after end → y ≡ cond (eqb end block) x (link x end block after)
     → z ≡ cond (eqb kind 3) (ifLinks second end j f y) (cond (eqb kind 5) (whileLinks end j f y) (link y j f 0)) → z ≡ stepAt rows j x
 unfolding stepAt opened rested
@@ -363,7 +365,8 @@ unfolding followed
 followed-end rows j n x h = let z : n - j ≡ 0 = omega arith in rw z
 
 -- the pass has come to the end
-pub followed-done : (rows : List ℕ) (n j : ℕ) (x y z : Links) → n ≤ j → followed rows j (n - j) z ≡ followed rows 0 (n - 0) y → y ≡ link x 0 n 0 → Followed rows n x z
+pub followed-done : (rows : List ℕ) (n j : ℕ) (x y z : Links) → n ≤ j → followed rows j (n - j) z ≡ followed rows 0 (n - 0) y → y ≡ link x 0 n 0
+    → Followed rows n x z
 followed-done rows n j x y z h i g codes args s b a e p q =
     let d : n - 0 ≡ n = omega arith in
     let r : Room x (size s) = record { nexts = omega arith; others = omega arith } in

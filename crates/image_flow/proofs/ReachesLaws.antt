@@ -35,7 +35,8 @@ plain-kind e a b = rw e (a, b)
 branch-kind : {k i : ℕ} → k ≡ i → eqb i 0 ≡ false → isBranch i ≡ true → (eqb k 0 ≡ false) × (isBranch k ≡ true)
 branch-kind e a b = rw e (a, b)
 
-each-kind : (codes : List ℕ) (args : List ℤ) (rows : List ℕ) (s : Stmt) (j m f : ℕ) → At codes args rows s j m → Each (λ y l. KindOf (getD rows (6 * y) 0) l) s j f
+each-kind : (codes : List ℕ) (args : List ℤ) (rows : List ℕ) (s : Stmt) (j m f : ℕ) → At codes args rows s j m
+    → Each (λ y l. KindOf (getD rows (6 * y) 0) l) s j f
 unfolding Each
 each-kind codes args rows (act (output k e)) j m f h = plain-kind (ap (λ (r : Row). r .kind) (at-output h .line)) refl refl
 each-kind codes args rows (act (variable k e)) j m f h = plain-kind (ap (λ (r : Row). r .kind) (at-variable h .line)) refl refl
@@ -47,19 +48,25 @@ each-kind codes args rows (if-then e a) j m f h =
     (branch-kind (ap (λ (r : Row). r .kind) (w .0 .line)) refl refl, each-kind codes args rows a (suc j) _ f (rw z at (w .1)))
 each-kind codes args rows (if-else e a b) j m f h =
     let w = at-else h in
-    let z : j + 1 ≡ suc j = omega arith in
-    (branch-kind (ap (λ (r : Row). r .kind) (w .0 .line)) refl refl, each-kind codes args rows a (suc j) _ f (rw z at (w .1 .0)), each-kind codes args rows b (suc j + size a) _ f (rw z at (w .1 .1)))
+    let z : j + 1 ≡ suc j = omega arith in (
+      branch-kind (ap (λ (r : Row). r .kind) (w .0 .line)) refl refl,
+      each-kind codes args rows a (suc j) _ f (rw z at (w .1 .0)),
+      each-kind codes args rows b
+          (suc j + size a) _ f (rw z at (w .1 .1)),
+    )
 each-kind codes args rows (while e a) j m f h =
     let w = at-while h in
     let z : j + 1 ≡ suc j = omega arith in
     (branch-kind (ap (λ (r : Row). r .kind) (w .0 .line)) refl refl, each-kind codes args rows a (suc j) _ j (rw z at (w .1)))
-each-kind codes args rows (seq a b) j m f h = (each-kind codes args rows a j m (j + size a) (at-first h), each-kind codes args rows b (j + size a) _ f (at-rest h))
+each-kind codes args rows (seq a b) j m f h =
+    (each-kind codes args rows a j m (j + size a) (at-first h), each-kind codes args rows b (j + size a) _ f (at-rest h))
 
 -- the equation's right side from the arrays, where it is small enough
 up-is : (v w : ℕ) → suc v ≡ w → w ≤ 65535 → upOne v ≡ w
 up-is v w e h = rw (lt-ltb v 65535 (omega arith)) (let z : v + 1 ≡ suc v = omega arith in z ∙ e)
 
-by-line : (k f g : ℕ) (l : Line) (r : List ℕ) (w : ℕ) → KindOf k l → f ≡ next l → g ≡ otherOf l → reachOf r l ≡ w → w ≤ 65535 → reachBy k (getD r f 0) (getD r g 0) ≡ w
+by-line : (k f g : ℕ) (l : Line) (r : List ℕ) (w : ℕ) → KindOf k l → f ≡ next l → g ≡ otherOf l → reachOf r l ≡ w → w ≤ 65535
+    → reachBy k (getD r f 0) (getD r g 0) ≡ w
 unfolding reachBy
 by-line k f g (waits f′) r w h p q e b = rw h e
 by-line k f g (acts a f′) r w h p q e b = rw (h .0, h .1, p) (up-is (getD r f′ 0) w e b)
@@ -70,13 +77,15 @@ pub link-next-is : (t : List Line) (x : Links) (j : ℕ) → j < length t → le
 link-next-is t x j h b =
     let z : 0 + j ≡ j = omega arith in
     let m = length-map t next in
-    ap (λ (i : ℕ). getD (stored 0 t x .next) i 0) (sym z) ∙ getD-sets-in (x .next) 0 (map next t) j 0 (omega arith) (omega arith) ∙ List·getD-map next t j (waits 0)
+    ap (λ (i : ℕ). getD (stored 0 t x .next) i 0) (sym z) ∙ getD-sets-in (x .next) 0 (map next t) j 0 (omega arith) (omega arith)
+    ∙ List·getD-map next t j (waits 0)
 
 pub link-other-is : (t : List Line) (x : Links) (j : ℕ) → j < length t → length t ≤ length (x .other) → getD (stored 0 t x .other) j 0 ≡ otherOf (line t j)
 link-other-is t x j h b =
     let z : 0 + j ≡ j = omega arith in
     let m = length-map t otherOf in
-    ap (λ (i : ℕ). getD (stored 0 t x .other) i 0) (sym z) ∙ getD-sets-in (x .other) 0 (map otherOf t) j 0 (omega arith) (omega arith) ∙ List·getD-map otherOf t j (waits 0)
+    ap (λ (i : ℕ). getD (stored 0 t x .other) i 0) (sym z) ∙ getD-sets-in (x .other) 0 (map otherOf t) j 0 (omega arith) (omega arith)
+    ∙ List·getD-map otherOf t j (waits 0)
 
 -- SWEEPS
 
@@ -123,10 +132,12 @@ module _ (rows : List ℕ) (x : Links) (t : List Line) (r : List ℕ) (w : Ranke
     pub here : (y : ℕ) → i ≤ y → y < length t → reach r y ≤ k → reach q y ≡ reach r y
     pub room : length t ≤ length q
 
-  elsewhere : (j y v : ℕ) (q : List ℕ) → ((y ≡ j → ⊥) → getD q y 0 ≡ getD r y 0) → (y ≡ j → getD (set q j v) y 0 ≡ getD r y 0) → getD (set q j v) y 0 ≡ getD r y 0
+  elsewhere : (j y v : ℕ) (q : List ℕ) → ((y ≡ j → ⊥) → getD q y 0 ≡ getD r y 0) → (y ≡ j → getD (set q j v) y 0 ≡ getD r y 0)
+      → getD (set q j v) y 0 ≡ getD r y 0
   elsewhere j y v q f g =
       ⊎-elim (λ (lt : y < j). getD-set-other q j y v 0 (λ e. omega arith) ∙ f (λ e. omega arith))
-      (λ (le : j ≤ y). ⊎-elim (λ (lt : j < y). getD-set-other q j y v 0 (λ e. omega arith) ∙ f (λ e. omega arith)) (λ (ge : y ≤ j). g (omega arith)) (below-or j y))
+      (λ (le : j ≤ y). ⊎-elim (λ (lt : j < y). getD-set-other q j y v 0 (λ e. omega arith) ∙ f (λ e. omega arith)) (λ (ge : y ≤ j). g (omega arith))
+      (below-or j y))
       (below-or y j)
 
   later : (j y : ℕ) → j ≤ y → (y ≡ j → ⊥) → suc j ≤ y
@@ -210,8 +221,10 @@ no-change true false e = (e, sym e)
 no-change false true e = (refl, refl)
 no-change false false e = (refl, sym e)
 
-pub sweeping-again : (rows : List ℕ) (x : Links) (n j : ℕ) (before now after : List ℕ) (changed c : Bool) (v u : ℕ) → 0 < j → Sweeping rows x n j before now changed
-    → v ≡ reachAt rows x (j - 1) now → u ≡ getD now (j - 1) 0 → c ≡ (changed || not (eqb u v)) → after ≡ set now (j - 1) v → Sweeping rows x n (j - 1) before after c
+pub sweeping-again : (rows : List ℕ) (x : Links) (n j : ℕ) (before now after : List ℕ) (changed c : Bool) (v u : ℕ) → 0 < j
+    → Sweeping rows x n j before now changed
+    → v ≡ reachAt rows x (j - 1) now → u ≡ getD now (j - 1) 0 → c ≡ (changed || not (eqb u v)) → after ≡ set now (j - 1) v
+    → Sweeping rows x n (j - 1) before after c
 unfolding sweep
 sweeping-again rows x n zero before now after changed c v u h s e f g a = absurd (omega arith)
 sweeping-again rows x n (suc j) before now after changed c v u h s e f g a =
@@ -226,7 +239,8 @@ sweeping-again rows x n (suc j) before now after changed c v u h s e f g a =
     })
 
 -- the sweep at its end
-pub sweeping-end : (rows : List ℕ) (x : Links) (n j : ℕ) (before now : List ℕ) (changed : Bool) → j ≤ 0 → Sweeping rows x n j before now changed → Swept rows x n before now changed
+pub sweeping-end : (rows : List ℕ) (x : Links) (n j : ℕ) (before now : List ℕ) (changed : Bool) → j ≤ 0 → Sweeping rows x n j before now changed
+    → Swept rows x n before now changed
 unfolding sweep
 sweeping-end rows x n zero before now changed h s = record { are = s .rest; still = s .same }
 sweeping-end rows x n (suc j) before now changed h s = absurd (omega arith)
@@ -246,6 +260,7 @@ pub left-falls : (k l : ℕ) (changed : Bool) → 0 < k → l ≡ cond changed (
 left-falls k l true h e = omega arith
 left-falls k l false h e = omega arith
 
-pub sweeps-next : (rows : List ℕ) (x : Links) (n k l : ℕ) (r q : List ℕ) (moved : Bool) → 0 < k → l ≡ cond moved (k - 1) 0 → q ≡ sweep rows x n r → (moved ≡ false → q ≡ r)
+pub sweeps-next : (rows : List ℕ) (x : Links) (n k l : ℕ) (r q : List ℕ) (moved : Bool) → 0 < k → l ≡ cond moved (k - 1) 0 → q ≡ sweep rows x n r
+    → (moved ≡ false → q ≡ r)
     → sweeps rows x n l q ≡ sweeps rows x n k r
 sweeps-next rows x n k l r q moved h g e s = ap (λ (i : ℕ). sweeps rows x n i q) g ∙ sweeps-again rows x n k r q moved h e s

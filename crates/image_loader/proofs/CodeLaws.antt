@@ -18,12 +18,12 @@ use Rattle.base_codes.specs.Types.{NONE, tagOf, tagOr, typeAfter}
 use Rattle.base_codes.specs.Limit.{ITEMS}
 use Rattle.base_codes.proofs.OperationLaws.{one-operand, two-operands, no-operands}
 use Rattle.base_codes.proofs.TypeLaws.{tag-type, tag-there, same-tag, unary-type-is, binary-type-is}
-use Rattle.spec_semantics.proofs.Basic.{none-some, fault-fine, some-injective, fine-injective}
+use Rattle.spec_semantics.proofs.Basic.{none-some, fault-fine, some-injective, fine-injective, cond-case}
 use Rattle.spec_format.specs.Words.{Bytes, word4At, onlyIf}
 use Rattle.spec_semantics.specs.Twos.{signed32}
 use Rattle.spec_format.specs.Code.{Operation, push, apply1, apply2, Taken, readInt, bitOf, readBit, readName, applying, operator, readOperation, operations, Machine, onto, run, runOperations, runCode, withType, typed, trees, valueOf, decode}
 use Rattle.spec_format.proofs.Words.{word4-small, signed-range, byte-at}
-use Rattle.spec_format.proofs.Basic.{andThen-some, map-some, cond-case}
+use Rattle.spec_format.proofs.Basic.{andThen-some, map-some}
 use Rattle.spec_format.proofs.Coding.{operations-any}
 use Rattle.image_loader.specs.Code.{tagAt, codeType, leafTag, pushed, unaryStep, binaryStep, stepAt}
 use Rattle.image_loader.proofs.SectionLaws.{word-drop}

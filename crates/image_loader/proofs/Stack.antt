@@ -51,7 +51,8 @@ binary-none k zero a h z = record { same = refl; depth = omega arith; size = z }
 binary-none k (suc zero) a h z = record { same = refl; depth = omega arith; size = z }
 binary-none k (suc (suc d)) a h z = absurd (omega arith)
 
-pub binary-differ : (k d : ℕ) (a : List ℕ) → 1 < d → (getD a (d - 1 - 1) 0 ≡ getD a (d - 1) 0 → ⊥) → length a ≡ ITEMS → Stepped (binaryStep k (stackOf 0 a d)) d a 0
+pub binary-differ : (k d : ℕ) (a : List ℕ) → 1 < d → (getD a (d - 1 - 1) 0 ≡ getD a (d - 1) 0 → ⊥) → length a ≡ ITEMS
+    → Stepped (binaryStep k (stackOf 0 a d)) d a 0
 unfolding binaryStep stackOf
 binary-differ k zero a h n z = absurd (omega arith)
 binary-differ k (suc zero) a h n z = absurd (omega arith)
@@ -61,7 +62,8 @@ binary-differ k (suc (suc d)) a h n z =
     let q : getD a d 0 ≡ getD a (suc d) 0 → ⊥ = rw (m, m′) at n in
     record { same = rw (ne-eqb (getD a d 0) (getD a (suc d) 0) q); depth = omega arith; size = z }
 
-pub binary-some : (k d : ℕ) (a : List ℕ) {b : List ℕ} {t r : ℕ} → 1 < d → getD a (d - 1 - 1) 0 ≡ getD a (d - 1) 0 → t ≡ tagOr (binaryTypeFor k (getD a (d - 1 - 1) 0))
+pub binary-some : (k d : ℕ) (a : List ℕ) {b : List ℕ} {t r : ℕ} → 1 < d → getD a (d - 1 - 1) 0 ≡ getD a (d - 1) 0
+    → t ≡ tagOr (binaryTypeFor k (getD a (d - 1 - 1) 0))
     → Stepped (pushed t (stackOf 0 a (d - 1 - 1))) (d - 1 - 1) b r → Stepped (binaryStep k (stackOf 0 a d)) d b r
 unfolding binaryStep stackOf
 binary-some k zero a h n e p = absurd (omega arith)

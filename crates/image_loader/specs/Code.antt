@@ -1,4 +1,4 @@
--- The code of a line, checked by place on a stack of types by number (document 01, "Image, form 1"). `codeType` is by `decode` of the crate `format`;
+-- The code of a line, checked by place on a stack of types by number (document 01, "Image, form 1"). `codeType` is by `decode` of the crate spec_format;
 -- `code-tags` and `rest-turn` tie the stack to it. Assumes nothing.
 use mathlib.Core.Bool.{cond}
 use mathlib.Core.Option.{Option, none, some, bind}

@@ -1,4 +1,4 @@
--- What is checked of a line by its fields (document 01, "Image, form 1"). `kind-any` ties the tests to `lineOf` and `goodLine` of the crate `format`.
+-- What is checked of a line by its fields (document 01, "Image, form 1"). `kind-any` ties the tests to `lineOf` and `goodLine` of the crate spec_format.
 -- Assumes nothing.
 use mathlib.Core.Bool.{Bool, false, cond}
 use mathlib.Core.List.{List}

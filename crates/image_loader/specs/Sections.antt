@@ -1,5 +1,5 @@
 -- The sections of an image by their places: 28 bytes of header, then the three lengths that it gives (document 01, "Image, form 1").
--- `sections-read` ties the tests to `sectionsOf` of the crate `format`. Assumes nothing.
+-- `sections-read` ties the tests to `sectionsOf` of the crate spec_format. Assumes nothing.
 use mathlib.Core.Bool.{Bool, true, false, _&&_}
 use mathlib.Core.Option.{Option, none, some}
 use mathlib.Core.List.{List}

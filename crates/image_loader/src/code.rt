@@ -22,7 +22,7 @@ fn input_type(signature: &[u8], k: usize) -> u8
     ensures { λ r. ⌜ r ≡ tagAt (inputTypes (now (signature .entry))) k ⌝ }
 {
     if k < count(signature, image::INPUTS) {
-        return base_words::byte(signature, image::COUNTS + k);
+        return image_words::byte(signature, image::COUNTS + k);
     }
     types::NONE
 }
@@ -33,7 +33,7 @@ pub(crate) fn output_type(signature: &[u8], k: usize) -> u8
     ensures { λ r. ⌜ r ≡ tagAt (outputTypes (now (signature .entry))) k ⌝ }
 {
     if k < count(signature, image::OUTPUTS) {
-        return base_words::byte(
+        return image_words::byte(
             signature,
             image::COUNTS + count(signature, image::INPUTS) + image::SLOT * k,
         );
@@ -50,7 +50,7 @@ pub(crate) fn variable_type(signature: &[u8], k: usize) -> u8
         let first = image::COUNTS
             + count(signature, image::INPUTS)
             + image::SLOT * count(signature, image::OUTPUTS);
-        return base_words::byte(signature, first + image::SLOT * k);
+        return image_words::byte(signature, first + image::SLOT * k);
     }
     types::NONE
 }
@@ -144,9 +144,10 @@ fn operate(
     requires { ⌜ at < length (now s) ⌝ }
     requires { ⌜ depth < ITEMS ⌝ }
     requires { ⌜ length (now stack) ≡ ITEMS ⌝ }
-    ensures { λ r. ⌜ Stepped (stepAt (inputTypes (now (signature .entry))) (variableTypes (now (signature .entry))) (now (s .entry)) at (getD (now (s .entry)) at 0) (stackOf 0 (now (stack .entry)) depth)) depth (now (stack .exit)) r ⌝ }
+    ensures { λ r. ⌜ (let g = now (signature .entry) in let l = now (s .entry) in
+        Stepped (stepAt (inputTypes g) (variableTypes g) l at (getD l at 0) (stackOf 0 (now (stack .entry)) depth)) depth (now (stack .exit)) r) ⌝ }
 {
-    let k = base_words::byte(s, at);
+    let k = image_words::byte(s, at);
     let operands = operation::operands(k);
     if operands == 0 {
         let t = leaf_type(signature, s, at, k);
@@ -175,7 +176,7 @@ fn run(signature: &[u8], s: &[u8], stack: &mut [u8; limit::ITEMS]) -> u8
         if next == 0 {
             return types::NONE;
         }
-        at += operation::width(base_words::byte(s, at));
+        at += operation::width(image_words::byte(s, at));
         depth = next;
         left -= 1;
     }

@@ -26,7 +26,7 @@ fn short(s: &[u8], at: usize) -> usize
     ensures { λ r. ⌜ r ≡ word2At (now (s .entry)) at ⌝ }
     ensures { λ r. ⌜ r < 65536 ⌝ }
 {
-    base_words::word2(s, at) as usize
+    image_words::word2(s, at) as usize
 }
 
 // The larger of two numbers.
@@ -124,7 +124,7 @@ fn line_fits(signature: &[u8], lines: &[u8], code: &[u8], n: usize, x: usize, p:
     let size = short(lines, at + image::LINE_CODE_SIZE);
     if short(lines, at + image::LINE_CODE) == p {
         if size <= code.len() - p {
-            let kind = base_words::byte(lines, at);
+            let kind = image_words::byte(lines, at);
             let end = p + size;
             if code_fits(
                 signature,

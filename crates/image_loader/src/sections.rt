@@ -12,7 +12,7 @@ pub(crate) fn long(s: &[u8], at: usize) -> usize
     ensures { λ r. ⌜ r ≡ word4At (now (s .entry)) at ⌝ }
     ensures { λ r. ⌜ r < 4294967296 ⌝ }
 {
-    base_words::word4(s, at) as usize
+    image_words::word4(s, at) as usize
 }
 
 // The image's length, form and count are right.
@@ -25,8 +25,8 @@ fn header(image: &[u8]) -> bool
     if image.len() < image::HEADER {
         return false;
     }
-    if base_words::word2(image, image::FORM) == image::FORM_1 {
-        return base_words::word2(image, image::SECTIONS) == image::THREE;
+    if image_words::word2(image, image::FORM) == image::FORM_1 {
+        return image_words::word2(image, image::SECTIONS) == image::THREE;
     }
     false
 }

@@ -17,7 +17,7 @@ pub(crate) fn count(s: &[u8], at: usize) -> usize
     ensures { λ r. ⌜ r ≡ getD (now (s .entry)) at 0 ⌝ }
     ensures { λ r. ⌜ r < 256 ⌝ }
 {
-    base_words::wide(base_words::byte(s, at)) as usize
+    image_words::wide(image_words::byte(s, at)) as usize
 }
 
 // There is a type byte at a position.
@@ -25,7 +25,7 @@ fn type_byte(s: &[u8], at: usize) -> bool
     ensures { λ r. ⌜ r ≡ (ltb at (length (now (s .entry))) && isSome (typeOfByte (getD (now (s .entry)) at 0))) ⌝ }
 {
     if at < s.len() {
-        return base_codes::types::is_type_byte(base_words::byte(s, at));
+        return base_codes::types::is_type_byte(image_words::byte(s, at));
     }
     false
 }
@@ -57,8 +57,8 @@ fn cell(s: &[u8], at: usize) -> bool
         return false;
     }
     base_signed::in_type(
-        base_words::byte(s, at),
-        base_signed::from_bits(base_words::word4(s, at + 1)),
+        image_words::byte(s, at),
+        base_signed::from_bits(image_words::word4(s, at + 1)),
     )
 }
 

@@ -1,13 +1,13 @@
 -- What a cycle rests on, of an image that opens: its sections are those of its table, byte for byte, since only the encoding of a good table opens.
 -- Assumes nothing.
-use Prim.Native.Nat.{ℕ, zero, suc, _*_, _<_}
+use Prim.Native.Nat.{ℕ, suc, _*_, _<_}
 use native.Mathlib.Omega.{arith}
 use mathlib.Core.Path.{_≡_, refl, sym, ap, subst, _∙_}
-use mathlib.Core.Option.{Option, none, some}
+use mathlib.Core.Option.{some}
 use mathlib.Core.List.{List, [], _∷_}
 use lib.ListN.{length, getD}
 use Rattle.spec_format.specs.Words.{Bytes}
-use Rattle.spec_format.specs.Image.{Table, rawsBytes, rawsOf, linesCode, Sections, form1, sectionsFor, encodeTable}
+use Rattle.spec_format.specs.Image.{Table, rawsBytes, rawsOf, linesCode, Sections, sectionsFor, encodeTable}
 use Rattle.spec_format.specs.Good.{GoodTable}
 use Rattle.spec_format.specs.Opening.{raws, sectionsOf, opened, openOf}
 use Rattle.spec_format.proofs.Lines.{raws-read, raws-bytes-length, raws-length, raws-narrow}

@@ -34,7 +34,8 @@ module _ (b : List ℕ) (x : Sections) (e : done x ≡ openAnswer b (openOf b)) 
   fresh-state bytes s h = h (table b x e) (opens-signature _ _ _ (table b x e) (parts-checked b x e bytes .opens)) ∙ sym (ap startOf started)
 
 -- an image that is refused
-pub fresh-refused : (b : List ℕ) (r : Refusal) → refusedBy r ≡ openAnswer b (openOf b) → (s : State) → s ≡ stateFor 512 (record { outputs = []; variables = [] })
+pub fresh-refused : (b : List ℕ) (r : Refusal) → refusedBy r ≡ openAnswer b (openOf b) → (s : State)
+    → s ≡ stateFor 512 (record { outputs = []; variables = [] })
     → (freshTold (NotStarted r) ≡ freshAnswer (freshOf b)) × (s ≡ startOf (freshOf b))
 unfolding freshOf
 fresh-refused b r e s f =

@@ -19,8 +19,8 @@ use Rattle.spec_format.specs.Image.{Table}
 use Rattle.spec_format.specs.Opening.{sectionsOf, Opened, opened, not-opened, openOf}
 use Rattle.spec_format.specs.Cycle.{rowOf, unlessClosed, cycleOf}
 use Rattle.spec_semantics.specs.Calls.{Answer, performed, not-performed, Called}
-use Rattle.spec_images.specs.Outcome.{Outcome, row-refused, state-refused, operator-refused, performs}
-use Rattle.spec_images.proofs.Outcomes.{row-outcome}
+use Rattle.spec_simulation.specs.Outcome.{Outcome, row-refused, state-refused, operator-refused, performs}
+use Rattle.spec_simulation.proofs.Outcomes.{row-outcome}
 use Rattle.image_loader.specs.Sections.{isSome, linesStart, codeStart}
 use Rattle.image_loader.specs.Open.{openAnswer}
 use Rattle.image_loader.proofs.OpenLaws.{lengths, signature-part, lines-part, code-part, image-opened, opened-sections, image-refused}
@@ -67,7 +67,8 @@ module _ (b : List ℕ) (x : Sections) (e : done x ≡ openAnswer b (openOf b)) 
 
   -- they are those of the table
   pub parts-checked : Bytes b
-      → Checked (take (x .lines - x .signature) (drop (x .signature) b)) (take (x .code - x .lines) (drop (x .lines) b)) (take (x .end - x .code) (drop (x .code) b)) table
+      → Checked (take (x .lines - x .signature) (drop (x .signature) b)) (take (x .code - x .lines) (drop (x .lines) b))
+      (take (x .end - x .code) (drop (x .code) b)) table
   parts-checked bytes = on (placed .signature)
     where
       on : {n : ℕ} → n ≡ 28
@@ -84,7 +85,8 @@ module _ (b : List ℕ) (x : Sections) (e : done x ≡ openAnswer b (openOf b)) 
   -- the cycle on the sections is that on the image
   pub sections-advance : Bytes b → (s : State) (i o : List ℤ) (a : Advanced) (row : List ℤ)
       → ((t : Table)
-      → Checked (take (x .lines - x .signature) (drop (x .signature) b)) (take (x .code - x .lines) (drop (x .lines) b)) (take (x .end - x .code) (drop (x .code) b)) t
+      → Checked (take (x .lines - x .signature) (drop (x .signature) b)) (take (x .code - x .lines) (drop (x .lines) b))
+      (take (x .end - x .code) (drop (x .code) b)) t
       → (cycleTold (a .answer) ≡ cycleAnswer (rowOf t s i o .answer)) × (a .state ≡ rowOf t s i o .state) × (row ≡ rowOf t s i o .row))
       → Advances (cycleOf b s i o) a row
   unfolding cycleOf

@@ -58,11 +58,12 @@ pub fn cycle_opened(
 
 // One cycle on an image: 11, 12, 13, then 14, 15, 16 or 18, or the cycle performed. A refused one hands back the state, and the row is as it was.
 pub fn cycle(image: &[u8], s: State, inputs: &[i32], row: &mut [i32]) -> Advanced
-    ensures { λ a. ⌜ (cycleTold (a .answer) ≡ cycleAnswer (cycleOf (now (image .entry)) s (now (inputs .entry)) (now (row .entry)) .answer))
-        × (a .state ≡ cycleOf (now (image .entry)) s (now (inputs .entry)) (now (row .entry)) .state)
-        × (now (row .exit) ≡ cycleOf (now (image .entry)) s (now (inputs .entry)) (now (row .entry)) .row)
-        × (linesOf (a .answer) ≡ length (wayOf (cycleOf (now (image .entry)) s (now (inputs .entry)) (now (row .entry)) .answer)))
-        × (linesOf (a .answer) ≤ firstReach (now (image .entry)) (s .place) + 1) ⌝ }
+    ensures { λ a. ⌜ (let c = cycleOf (now (image .entry)) s (now (inputs .entry)) (now (row .entry)) in
+        (cycleTold (a .answer) ≡ cycleAnswer (c .answer))
+        × (a .state ≡ c .state)
+        × (now (row .exit) ≡ c .row)
+        × (linesOf (a .answer) ≡ length (wayOf (c .answer)))
+        × (linesOf (a .answer) ≤ firstReach (now (image .entry)) (s .place) + 1)) ⌝ }
 {
     let opened = image_loader::open(image);
     match opened {
@@ -91,11 +92,12 @@ fn cycle_outcome(image: &[u8], s: State, inputs: &[i32], row: &mut [i32]) -> Out
 
 // One cycle on an image, by which the caller's own state record advances: the new state is stored only where the cycle was performed.
 pub fn advance_state(image: &[u8], state: &mut State, inputs: &[i32], row: &mut [i32]) -> Cycled
-    ensures { λ r. ⌜ (cycleTold r ≡ cycleAnswer (cycleOf (now (image .entry)) (now (state .entry)) (now (inputs .entry)) (now (row .entry)) .answer))
-        × (now (state .exit) ≡ cycleOf (now (image .entry)) (now (state .entry)) (now (inputs .entry)) (now (row .entry)) .state)
-        × (now (row .exit) ≡ cycleOf (now (image .entry)) (now (state .entry)) (now (inputs .entry)) (now (row .entry)) .row)
-        × (linesOf r ≡ length (wayOf (cycleOf (now (image .entry)) (now (state .entry)) (now (inputs .entry)) (now (row .entry)) .answer)))
-        × (linesOf r ≤ firstReach (now (image .entry)) (now (state .entry) .place) + 1) ⌝ }
+    ensures { λ r. ⌜ (let c = cycleOf (now (image .entry)) (now (state .entry)) (now (inputs .entry)) (now (row .entry)) in
+        (cycleTold r ≡ cycleAnswer (c .answer))
+        × (now (state .exit) ≡ c .state)
+        × (now (row .exit) ≡ c .row)
+        × (linesOf r ≡ length (wayOf (c .answer)))
+        × (linesOf r ≤ firstReach (now (image .entry)) (now (state .entry) .place) + 1)) ⌝ }
 {
     let r = cycle_outcome(image, *state, inputs, row);
     if r.performed {

@@ -7,10 +7,9 @@ use mathlib.Core.List.{List, [], _∷_, _++_}
 use lib.ListN.{length, getD, take, drop, length-append}
 use lib.Seq.{getD-drop, drop-drop, take-append-seam, drop-append-seam}
 use Rattle.spec_format.specs.Words.{word2At}
-use Rattle.spec_format.specs.Lines.{Line, waits, line, reach}
+use Rattle.spec_format.specs.Lines.{Line, line, reach}
 use Rattle.spec_format.specs.Image.{Table, RawLine, raw, rawOf, rawsOf, lineCode, linesCode}
 use Rattle.spec_format.specs.Opening.{rawAt, raws}
-use Rattle.spec_format.specs.Good.{GoodLines}
 use Rattle.image_walk.specs.Fields.{kindAt, targetAt, offsetAt, sizeAt, nextAt, otherAt, reachAt}
 use Rattle.image_walk.specs.Held.{Held}
 
@@ -24,7 +23,8 @@ none-there = raw 0 0 0 0 0 0 0
 raw-drop : (l : List ℕ) (k : ℕ) → rawAt (drop (k * 12) l) ≡ at l k
 raw-drop l k = step (k * 12)
   where
-    step : (n : ℕ) → rawAt (drop n l) ≡ raw (getD l n 0) (getD l (n + 1) 0) (word2At l (n + 2)) (word2At l (n + 4)) (word2At l (n + 6)) (word2At l (n + 8)) (word2At l (n + 10))
+    step : (n : ℕ) → rawAt (drop n l) ≡ raw (getD l n 0) (getD l (n + 1) 0) (word2At l (n + 2)) (word2At l (n + 4)) (word2At l (n + 6)) (word2At l (n + 8))
+        (word2At l (n + 10))
     step n =
         let z0 : n + 0 ≡ n = omega arith in
         let z3 : n + 3 ≡ n + 2 + 1 = omega arith in
@@ -98,8 +98,10 @@ module _ (l c : List ℕ) (t : Table) (h : Held l c t) (qs : length (t .reaches)
   unfolding begins
   line-fields =
       sym (raw-drop l x) ∙ sym (raws-at (length (t .lines)) l x b) ∙ ap (λ ws. getD ws x none-there) (h .fields)
-      ∙ rawsOf-at 0 (t .lines) (t .reaches) x qs b ∙ (let z : 0 + before (t .lines) x ≡ before (t .lines) x = omega arith in ap (λ p. rawOf p (line (t .lines) x) (reach (t .reaches) x)) z)
+      ∙ rawsOf-at 0 (t .lines) (t .reaches) x qs b
+      ∙ (let z : 0 + before (t .lines) x ≡ before (t .lines) x = omega arith in ap (λ p. rawOf p (line (t .lines) x) (reach (t .reaches) x)) z)
 
-  pub line-code : (take (length (lineCode (line (t .lines) x))) (drop begins c) ≡ lineCode (line (t .lines) x)) × (begins + length (lineCode (line (t .lines) x)) ≤ length c)
+  pub line-code : (take (length (lineCode (line (t .lines) x))) (drop begins c) ≡ lineCode (line (t .lines) x))
+      × (begins + length (lineCode (line (t .lines) x)) ≤ length c)
   unfolding begins
   line-code = rw (h .code) (code-at (t .lines) x b)

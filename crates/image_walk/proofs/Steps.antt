@@ -1,6 +1,6 @@
 -- What the functions' own steps come to, over plain variables. Assumes nothing.
 use Prim.Native.Nat.{ℕ}
-use mathlib.Core.Path.{_≡_, refl, sym, ap, _∙_}
+use mathlib.Core.Path.{_≡_, refl, sym, _∙_}
 use mathlib.Core.Bool.{Bool, true, false, cond}
 use mathlib.Core.List.{List}
 use lib.ListN.{set}
@@ -66,7 +66,8 @@ module _ (l : List ℕ) (x : ℕ) (E : Evaluated) (o v : List ℤ) where
       go true = refl
       go false = refl
 
-  pub branch-at : (k m t : ℕ) (z : ℤ) (e : Evaluated) → k ≡ kindAt l x → k ≡ 3 → e ≡ E → e ≡ found t z → m ≡ cond (isOne z) (nextAt l x) (otherAt l x) → At (Next m) o v
+  pub branch-at : (k m t : ℕ) (z : ℤ) (e : Evaluated) → k ≡ kindAt l x → k ≡ 3 → e ≡ E → e ≡ found t z → m ≡ cond (isOne z) (nextAt l x) (otherAt l x)
+      → At (Next m) o v
   branch-at k m t z e a h b d q = let y : kindAt l x ≡ 3 = sym a ∙ h in let w : E ≡ found t z = sym b ∙ d in rw (y, w, ← q) (refl, (refl, refl))
 
   pub store-at : (k m n t : ℕ) (z : ℤ) (e : Evaluated) (o′ v′ : List ℤ) → k ≡ kindAt l x → (k ≡ 0 → ⊥) → (k ≡ 4 → ⊥) → (k ≡ 3 → ⊥) → e ≡ E → e ≡ found t z

@@ -1,7 +1,7 @@
 -- What a turn of the loop over lines keeps: the rest of the lines answers what the whole answers. Assumes nothing.
 use Prim.Native.Nat.{ℕ, zero, suc, _-_, _≤_}
 use native.Mathlib.Omega.{arith}
-use mathlib.Core.Path.{_≡_, refl, sym, ap, _∙_}
+use mathlib.Core.Path.{_≡_, refl, ap}
 use mathlib.Core.List.{List}
 use lib.IntN.{ℤ}
 use Rattle.image_walk.specs.Moves.{valueAt, moveAt, storedAt}
@@ -43,7 +43,8 @@ module _ (l c is vs : List ℕ) (i : List ℤ) (limit first : ℕ) (o₀ v₀ : 
     unfolding followAt
     turn left m o′ v′ h p = rw (p .0, p .1 .0, p .1 .1) (h .same)
 
-    pub rest-again : (left : ℕ) (m : Move) (y : ℕ) (o′ v′ : List ℤ) → Rest left x o v → (left ≡ 0 → ⊥) → Performed m o′ v′ → m ≡ Next y → Rest (left - 1) y o′ v′
+    pub rest-again : (left : ℕ) (m : Move) (y : ℕ) (o′ v′ : List ℤ) → Rest left x o v → (left ≡ 0 → ⊥) → Performed m o′ v′ → m ≡ Next y
+        → Rest (left - 1) y o′ v′
     rest-again zero m y o′ v′ h z p e = absurd (z refl)
     rest-again (suc left) m y o′ v′ h z p e =
         let b = h .few in
@@ -60,7 +61,8 @@ module _ (l c is vs : List ℕ) (i : List ℤ) (limit first : ℕ) (o₀ v₀ : 
         let t = rw e at (turn left m o′ v′ h p) in
         rw k (ap (λ (w : Went). w .answer) t, (ap (λ (w : Went). w .outputs) t, ap (λ (w : Went). w .variables) t))
 
-    pub rest-stopped : (left : ℕ) (m : Move) (q : ℕ) (o′ v′ : List ℤ) → Rest left x o v → (left ≡ 0 → ⊥) → Performed m o′ v′ → m ≡ Refused q → Leaves (Stopped q x) o′ v′
+    pub rest-stopped : (left : ℕ) (m : Move) (q : ℕ) (o′ v′ : List ℤ) → Rest left x o v → (left ≡ 0 → ⊥) → Performed m o′ v′ → m ≡ Refused q
+        → Leaves (Stopped q x) o′ v′
     rest-stopped zero m q o′ v′ h z p e = absurd (z refl)
     rest-stopped (suc left) m q o′ v′ h z p e =
         let t = rw e at (turn left m o′ v′ h p) in

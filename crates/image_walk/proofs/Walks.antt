@@ -3,14 +3,14 @@
 use Prim.Native.Nat.{ℕ, zero, suc, _+_, _≤_, _<_}
 use native.Mathlib.Omega.{arith}
 use mathlib.Core.Path.{_≡_, refl, sym, ap, subst, _∙_}
-use mathlib.Core.Bool.{Bool, true, false, cond, _&&_}
+use mathlib.Core.Bool.{Bool, true, false, cond}
 use mathlib.Core.Option.{Option, none, some}
 use mathlib.Core.List.{List, [], _∷_, _++_}
 use lib.ListN.{length, take, drop, set, length-append}
-use lib.IntN.{ℤ, pos}
+use lib.IntN.{ℤ}
 use lib.Dec.{leb, eqb}
 use borrow.Author.Tests.{leb-true, le-leb}
-use Rattle.spec_design.specs.Types.{Ty, ExprTy, boolean}
+use Rattle.spec_design.specs.Types.{Ty, ExprTy}
 use Rattle.spec_design.specs.Expression.{Expr, items, Out, fine, fault, bind, nth, plainly, typeOf}
 use Rattle.spec_design.specs.Statement.{Act, output, variable, null}
 use Rattle.spec_design.specs.Process.{fits, typedAct}
@@ -18,36 +18,33 @@ use Rattle.spec_semantics.specs.Evaluation.{isOne, evaluate}
 use Rattle.spec_semantics.specs.Equations.{Memory, Run, Result, passed, reached, refused, perform, holds, log, then, acted, tested}
 use Rattle.spec_semantics.specs.Values.{Values}
 use Rattle.spec_semantics.proofs.Basic.{none-some, and-left}
-use Rattle.spec_semantics.proofs.Values.{values-length}
 use Rattle.spec_semantics.proofs.WellTyped.{perform-typed}
-use Rattle.spec_format.specs.Words.{Bytes}
 use Rattle.spec_format.specs.Code.{code}
-use Rattle.spec_format.specs.Signature.{Signature, types}
+use Rattle.spec_format.specs.Signature.{types}
 use Rattle.spec_format.specs.Lines.{Line, waits, acts, branches, line, reach}
 use Rattle.spec_format.specs.Walk.{step, walk}
 use Rattle.spec_format.specs.Image.{Table, rawOf, lineCode}
 use Rattle.spec_format.specs.Good.{fitsLine}
 use Rattle.spec_semantics.specs.Records.{pad}
-use Rattle.spec_format.proofs.Lines.{fits-type}
+use Rattle.spec_semantics.proofs.Typed.{fits-type}
 use Rattle.spec_simulation.specs.Ranked.{Followers}
-use Rattle.spec_images.specs.Outcome.{Typed}
-use Rattle.spec_images.proofs.States.{types-length}
+use Rattle.spec_simulation.specs.Outcome.{Typed}
+use Rattle.spec_simulation.proofs.States.{types-length}
 use Rattle.spec_semantics.proofs.Slots.{pad-take}
-use Rattle.spec_images.proofs.Tables.{line-good, good-ranked}
+use Rattle.spec_simulation.proofs.Tables.{line-good, good-ranked}
 use Rattle.base_codes.specs.Types.{tagOf}
 use Rattle.image_evaluator.specs.declared.Evaluated.{Evaluated}
 use Rattle.image_evaluator.specs.declared.Evaluated.the-variants.{Fault}
-use Rattle.image_evaluator.specs.Value.{typesFor, machineFor, partValue, found, evaluatedOf}
+use Rattle.image_evaluator.specs.Value.{typesFor, partValue, found, evaluatedOf}
 use Rattle.image_evaluator.proofs.Evaluation.{value-of-code}
 use Rattle.image_evaluator.proofs.Slots.{value-slots}
 use Rattle.image_walk.specs.Fields.{kindAt, targetAt, offsetAt, sizeAt, nextAt, otherAt}
 use Rattle.image_walk.specs.Moves.{valueAt, moveAt, storedAt}
 use Rattle.image_walk.specs.Follow.{Went, wentOn, followAt}
 use Rattle.image_walk.specs.Held.{Held}
-use Rattle.image_walk.specs.declared.Followed.{Followed}
 use Rattle.image_walk.specs.declared.Followed.the-variants.{Reached, Stopped, Spent}
 use Rattle.image_walk.specs.declared.Move.{Move}
-use Rattle.image_walk.specs.declared.Move.the-variants.{Wait, Next, Refused}
+use Rattle.image_walk.specs.declared.Move.the-variants.{Next}
 use Rattle.image_walk.proofs.Steps.{wait-at, null-at, fault-at, branch-at, store-at}
 use Rattle.image_walk.proofs.Fields.{at, begins, line-fields, line-code}
 
@@ -77,7 +74,8 @@ Shows (passed τ) w = w .answer ≡ Spent
 Shows (reached p τ) w = w ≡ record { answer = Reached p (length (τ .way)); outputs = pad 16 (τ .memory .outputs); variables = pad 32 (τ .memory .variables) }
 Shows (refused q x) w = w .answer ≡ Stopped q x
 
-module _ (l c is vs : List ℕ) (t : Table) (h : Held l c t) (ti : typesFor is ≡ t .signature .inputs) (tv : typesFor vs ≡ types (t .signature .variables)) (i : List ℤ) (hi : Values (t .signature .inputs) i) where
+module _ (l c is vs : List ℕ) (t : Table) (h : Held l c t) (ti : typesFor is ≡ t .signature .inputs) (tv : typesFor vs ≡ types (t .signature .variables))
+    (i : List ℤ) (hi : Values (t .signature .inputs) i) where
   few-outputs : length (types (t .signature .outputs)) ≤ 16
   few-outputs = omega (arith, types-length (t .signature .outputs), h .good .signature .outputs)
 
@@ -88,7 +86,8 @@ module _ (l c is vs : List ℕ) (t : Table) (h : Held l c t) (ti : typesFor is �
   reaches-long = good-ranked t (h .good) .long
 
   -- the value of a line whose code is that of e
-  line-value : (x p : ℕ) (e : Expr) (u : ExprTy) → offsetAt l x ≡ p → sizeAt l x ≡ length (code e) → take (length (code e)) (drop p c) ≡ code e → p + length (code e) ≤ length c
+  line-value : (x p : ℕ) (e : Expr) (u : ExprTy) → offsetAt l x ≡ p → sizeAt l x ≡ length (code e) → take (length (code e)) (drop p c) ≡ code e
+      → p + length (code e) ≤ length c
       → typeOf (t .signature .inputs) (types (t .signature .variables)) e ≡ some u → items e ≤ 64 → (m : Memory) → Typed (t .signature) m
       → valueAt l c x is vs i (pad 32 (m .variables)) ≡ evaluatedOf (bind (evaluate e i (m .variables)) (λ z. fine (u, z)))
   unfolding partValue
@@ -96,7 +95,9 @@ module _ (l c is vs : List ℕ) (t : Table) (h : Held l c t) (ti : typesFor is �
       let q : evaluate e i (pad 32 (m .variables)) ≡ evaluate e i (m .variables) =
       value-slots (t .signature .inputs) (types (t .signature .variables)) e u i (pad 32 (m .variables)) ty
       ∙ ap (evaluate e i) (pad-take 32 (types (t .signature .variables)) (m .variables) (w .variables) few-variables) in
-      rw (a, b, le-leb (p + length (code e)) (length c) d, k, ti, tv) (ap evaluatedOf (value-of-code (t .signature .inputs) (types (t .signature .variables)) e u i (pad 32 (m .variables)) ty it ∙ ap (λ o. bind o (λ z. fine (u, z))) q))
+      rw (a, b, le-leb (p + length (code e)) (length c) d, k, ti, tv)
+      (ap evaluatedOf (value-of-code (t .signature .inputs) (types (t .signature .variables)) e u i (pad 32 (m .variables)) ty it
+      ∙ ap (λ o. bind o (λ z. fine (u, z))) q))
 
   -- One line more, by the bytes: the move m and what the line leaves.
   follow-on : (k x n : ℕ) (o v : List ℤ) (m : Move) (o′ v′ : List ℤ)
@@ -120,7 +121,8 @@ module _ (l c is vs : List ℕ) (t : Table) (h : Held l c t) (ti : typesFor is �
     counted : suc (length (ρ .way)) ≡ length (ρ .way ++ (x ∷ []))
     counted = omega (arith, length-append (ρ .way) (x ∷ []))
 
-    waits-shows : kindAt l x ≡ 0 → here ≡ record { answer = Reached x (length (ρ .way ++ (x ∷ []))); outputs = pad 16 (ρ .memory .outputs); variables = pad 32 (ρ .memory .variables) }
+    waits-shows : kindAt l x ≡ 0 → here ≡ record
+        { answer = Reached x (length (ρ .way ++ (x ∷ []))); outputs = pad 16 (ρ .memory .outputs); variables = pad 32 (ρ .memory .variables) }
     waits-shows z =
         follow-on k x (length (ρ .way)) (pad 16 (ρ .memory .outputs)) (pad 32 (ρ .memory .variables)) _ _ _
         (wait-at l x value (pad 16 (ρ .memory .outputs)) (pad 32 (ρ .memory .variables)) 0 (sym z) refl)
@@ -134,7 +136,8 @@ module _ (l c is vs : List ℕ) (t : Table) (h : Held l c t) (ti : typesFor is �
 
     -- a line that goes on at f with the memory m
     goes-shows : (f : ℕ) (m : Memory) → Followed-by k f (record { way = ρ .way ++ (x ∷ []); memory = m })
-        → (Next f ≡ moveAt l x value) × ((pad 16 (m .outputs) ≡ storedAt 1 l x value (pad 16 (ρ .memory .outputs))) × (pad 32 (m .variables) ≡ storedAt 2 l x value (pad 32 (ρ .memory .variables))))
+        → (Next f ≡ moveAt l x value) × ((pad 16 (m .outputs) ≡ storedAt 1 l x value (pad 16 (ρ .memory .outputs)))
+        × (pad 32 (m .variables) ≡ storedAt 2 l x value (pad 32 (ρ .memory .variables))))
         → Shows (walk (t .lines) i k f (record { way = ρ .way ++ (x ∷ []); memory = m })) here
     goes-shows f m r p =
         let e : here ≡ followAt l c is vs i k f (length (ρ .way ++ (x ∷ []))) (pad 16 (m .outputs)) (pad 32 (m .variables)) =
@@ -161,7 +164,8 @@ module _ (l c is vs : List ℕ) (t : Table) (h : Held l c t) (ti : typesFor is �
               let y : value ≡ found (tagOf u) z = rw q at val in
               rw d
               (goes-shows f (m z) (again f _ b (perform-typed _ _ _ i hi a ty (ρ .memory) (m z) w d))
-              (store-at l x value (pad 16 (ρ .memory .outputs)) (pad 32 (ρ .memory .variables)) j f n (tagOf u) z value (pad 16 (m z .outputs)) (pad 32 (m z .variables))
+              (store-at l x value (pad 16 (ρ .memory .outputs)) (pad 32 (ρ .memory .variables)) j f n (tagOf u) z value (pad 16 (m z .outputs))
+              (pad 32 (m z .variables))
               (sym kind) n0 n4 n3 refl y (sym next) (sym target) (so z) (sv z)))
           on (fault r) q =
               let d : perform a i (ρ .memory) ≡ fault r = rw q at does in
@@ -182,7 +186,8 @@ module _ (l c is vs : List ℕ) (t : Table) (h : Held l c t) (ti : typesFor is �
               (branch-at l x value (pad 16 (ρ .memory .outputs)) (pad 32 (ρ .memory .variables)) 3 f (tagOf u) z value (sym kind) refl refl y (rw q (sym next)))
           taken z y false q =
               goes-shows g (ρ .memory) (again g _ bg w)
-              (branch-at l x value (pad 16 (ρ .memory .outputs)) (pad 32 (ρ .memory .variables)) 3 g (tagOf u) z value (sym kind) refl refl y (rw q (sym other)))
+              (branch-at l x value (pad 16 (ρ .memory .outputs)) (pad 32 (ρ .memory .variables)) 3 g (tagOf u) z value (sym kind) refl refl y
+              (rw q (sym other)))
 
           on : (o : Out ℤ) → evaluate e i (ρ .memory .variables) ≡ o
               → Shows (tested (holds e i (ρ .memory)) x ρ (λ τ. walk (t .lines) i k f τ) (λ τ. walk (t .lines) i k g τ)) here
@@ -190,7 +195,8 @@ module _ (l c is vs : List ℕ) (t : Table) (h : Held l c t) (ti : typesFor is �
           on (fault r) q = let y : value ≡ Fault r = rw q at val in rw q (stops-shows 3 r kind (λ z. omega arith) (λ z. omega arith) y)
 
       -- any line
-      line-shows : (ln : Line) (p q : ℕ) → at l x ≡ rawOf p ln q → (take (length (lineCode ln)) (drop p c) ≡ lineCode ln) × (p + length (lineCode ln) ≤ length c)
+      line-shows : (ln : Line) (p q : ℕ) → at l x ≡ rawOf p ln q
+          → (take (length (lineCode ln)) (drop p c) ≡ lineCode ln) × (p + length (lineCode ln) ≤ length c)
           → Followers (length (t .lines)) ln → fitsLine (t .signature) ln ≡ true → Shows (step ln x i ρ (λ y τ. walk (t .lines) i k y τ)) here
       unfolding step rawOf lineCode log typedAct then acted perform
       line-shows (waits f) p q r d b ft = waits-shows (ap (λ y. y .kind) r)

@@ -1,15 +1,15 @@
-// One line of a table performed: its fields read from the lines section, its code evaluated, its target stored.
+// Lines of an opened image: one performed (its fields read from the lines section, its code evaluated, its target stored), and lines followed up to a wait.
 ghost use mathlib.Core.Path.{_≡_};
 ghost use Prim.Native.Nat.{_+_, _*_, _<_};
 ghost use mathlib.Core.Bool.{cond};
-ghost use lib.ListN.{getD, set};
+ghost use lib.ListN.{set};
 ghost use lib.Dec.{eqb};
 ghost use Rattle.base_codes.specs.Image as M;
 ghost use Rattle.spec_semantics.specs.Evaluation.{isOne};
 ghost use Rattle.image_evaluator.specs.Stack.{Room};
 ghost use Rattle.spec_format.specs.Words.{word2At};
-ghost use Rattle.image_walk.specs.Fields.{kindAt, targetAt, offsetAt, sizeAt, nextAt, otherAt};
-ghost use Rattle.image_walk.specs.Moves.{valueAt, moveAt, storedAt, storedOf};
+ghost use Rattle.image_walk.specs.Fields.{kindAt, targetAt, nextAt, otherAt};
+ghost use Rattle.image_walk.specs.Moves.{valueAt, moveAt, storedAt};
 ghost use Rattle.image_walk.specs.Follow.{followAt};
 use base_codes::image;
 use base_codes::limit;
@@ -38,21 +38,21 @@ pub fn field(lines: &[u8], x: u32, k: u8) -> u32
     ensures { λ r. ⌜ r ≡ word2At (now (lines .entry)) (x * M.LINE + k) ⌝ }
     ensures { λ r. ⌜ r < 65536 ⌝ }
 {
-    base_words::word2(lines, (x as usize) * image::LINE + (k as usize))
+    image_words::word2(lines, (x as usize) * image::LINE + (k as usize))
 }
 
 // The kind byte of line x.
 pub fn kind(lines: &[u8], x: u32) -> u8
     ensures { λ r. ⌜ r ≡ kindAt (now (lines .entry)) x ⌝ }
 {
-    base_words::byte(lines, (x as usize) * image::LINE)
+    image_words::byte(lines, (x as usize) * image::LINE)
 }
 
 // The target byte of line x.
 fn target(lines: &[u8], x: u32) -> u8
     ensures { λ r. ⌜ r ≡ targetAt (now (lines .entry)) x ⌝ }
 {
-    base_words::byte(lines, (x as usize) * image::LINE + image::LINE_TARGET)
+    image_words::byte(lines, (x as usize) * image::LINE + image::LINE_TARGET)
 }
 
 // Stores a value in the row that lines of kind w store into, if the line is of that kind and the row has that place.

@@ -42,7 +42,8 @@ module _ (text : List ℕ) (d : Process) (e : verdict text ≡ accepted d) where
 
   as-published : WellFormed d → (cs : List Call) → directCalls text (laid (atFirst d)) cs ≡ seenAll (publishedRows d (map fed cs)) cs
   unfolding rows
-  as-published w cs = as-equations w cs ∙ (calls-seen d (atFirst d) cs ∙ ap (λ (l : List (Outcome × Kept)). seenAll l cs) (sym (rows-published d w (map fed cs))))
+  as-published w cs = as-equations w cs ∙ (calls-seen d (atFirst d) cs
+      ∙ ap (λ (l : List (Outcome × Kept)). seenAll l cs) (sym (rows-published d w (map fed cs))))
 
   as-printed : WellFormed d → (cs : List Call) → CallsPrinted d cs (directCalls text (laid (atFirst d)) cs)
   as-printed w cs = subst (CallsPrinted d cs) (sym (as-equations w cs)) (calls-printed d w cs)

@@ -2,9 +2,8 @@
 -- operators are refused by several numbers, as by 16 and 18. Assumes nothing.
 use mathlib.Core.Path.{_≡_, refl}
 use Prim.Native.Nat.{ℕ}
-use lib.IntN.{pos}
 use Rattle.spec_design.specs.Types.{ExprTy, plain, integer}
-use Rattle.spec_design.specs.Expression.{Leaf, int, bit, input, variable, Unary, Binary, plus, Expr, leaf, binary, Out, fine, fault, Algebra, fold, bind}
+use Rattle.spec_design.specs.Expression.{Leaf, int, bit, input, variable, Binary, plus, Expr, leaf, binary, Out, fine, fault, Algebra, fold, bind}
 
 -- the left operand's refusal decides, whatever the right one gives
 pub left-first : {X : Type 0} (A : Algebra X) (o : Binary) (t : ExprTy) (a b : Expr) (n : ℕ) → fold A a ≡ fault n → fold A (binary o t a b) ≡ fault n
@@ -12,7 +11,8 @@ unfolding fold bind
 left-first A o t a b n e = rw e
 
 -- the right operand's refusal decides where the left one has none
-pub right-second : {X : Type 0} (A : Algebra X) (o : Binary) (t : ExprTy) (a b : Expr) (x : X) (n : ℕ) → fold A a ≡ fine x → fold A b ≡ fault n → fold A (binary o t a b) ≡ fault n
+pub right-second : {X : Type 0} (A : Algebra X) (o : Binary) (t : ExprTy) (a b : Expr) (x : X) (n : ℕ) → fold A a ≡ fine x → fold A b ≡ fault n
+    → fold A (binary o t a b) ≡ fault n
 unfolding fold bind
 right-second A o t a b x n e f = rw (e, f)
 

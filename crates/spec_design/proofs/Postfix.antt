@@ -26,7 +26,8 @@ pub record Steps {I W : Type 0} (ofLeaf : Leaf → I) (ofUnary : Unary → ExprT
       → Fits a w × Fits b (effect a w) × (Claim k (effect (E.binary o t a b) w) → Claim (ofBinary o t ∷ k) (effect b (effect a w)))
 
 -- THE LAW: what k claims in the state that an expression leaves, the expression's items before k claim in the state it is met in
-module _ {I W : Type 0} {ofLeaf : Leaf → I} {ofUnary : Unary → ExprTy → I} {ofBinary : Binary → ExprTy → I} {lay : Expr → List I} (L : Lays ofLeaf ofUnary ofBinary lay)
+module _ {I W : Type 0} {ofLeaf : Leaf → I} {ofUnary : Unary → ExprTy → I} {ofBinary : Binary → ExprTy → I} {lay : Expr → List I}
+    (L : Lays ofLeaf ofUnary ofBinary lay)
     {Fits : Expr → W → Type 0} {effect : Expr → W → W} {Claim : List I → W → Type 0} (S : Steps ofLeaf ofUnary ofBinary Fits effect Claim) where
   pub lay-law : (e : Expr) (w : W) (k : List I) → Fits e w → Claim k (effect e w) → Claim (lay e ++ k) w
   lay-law (E.leaf l) w k f c = subst (λ (z : List I). Claim (z ++ k) w) (sym (L .leaf l)) (S .leaf l w k f c)
@@ -38,7 +39,8 @@ module _ {I W : Type 0} {ofLeaf : Leaf → I} {ofUnary : Unary → ExprTy → I}
       let p = S .binary o t a b w k f in
       subst (λ (z : List I). Claim z w) (sym (ap (λ (z : List I). z ++ k) (L .binary o t a b) ∙ append-assoc (lay a) (lay b ++ (ofBinary o t ∷ [])) k))
       (lay-law a w ((lay b ++ (ofBinary o t ∷ [])) ++ k) (p .0)
-      (subst (λ (z : List I). Claim z (effect a w)) (sym (append-assoc (lay b) (ofBinary o t ∷ []) k)) (lay-law b (effect a w) (ofBinary o t ∷ k) (p .1) (p .2 c))))
+      (subst (λ (z : List I). Claim z (effect a w)) (sym (append-assoc (lay b) (ofBinary o t ∷ []) k))
+      (lay-law b (effect a w) (ofBinary o t ∷ k) (p .1) (p .2 c))))
 
   -- nothing comes after the expression
   pub lay-whole : (e : Expr) (w : W) → Fits e w → Claim [] (effect e w) → Claim (lay e) w
@@ -51,15 +53,18 @@ unfolding items
 count-steps ofLeaf ofUnary ofBinary r =
     record { leaf = λ l n k f c. omega arith; unary = λ o t a n k f. (tt, λ c. omega arith); binary = λ o t a b n k f. (tt, tt, λ c. omega arith) }
 
-pub lay-items : {I : Type 0} (ofLeaf : Leaf → I) (ofUnary : Unary → ExprTy → I) (ofBinary : Binary → ExprTy → I) (lay : Expr → List I) → Lays ofLeaf ofUnary ofBinary lay → (e : Expr) → length (lay e) ≡ items e
+pub lay-items : {I : Type 0} (ofLeaf : Leaf → I) (ofUnary : Unary → ExprTy → I) (ofBinary : Binary → ExprTy → I) (lay : Expr → List I)
+    → Lays ofLeaf ofUnary ofBinary lay → (e : Expr) → length (lay e) ≡ items e
 lay-items ofLeaf ofUnary ofBinary lay L e = let h = lay-whole L (count-steps ofLeaf ofUnary ofBinary (items e + 0)) e 0 tt (omega arith) in omega arith
 
 -- WITH A STACK: items that push what an algebra makes of leaves and apply its operators, on a stack with room for them, come to the expression's fold
-module _ {I X Y : Type 0} (A : Algebra X) (ofLeaf : Leaf → I) (ofUnary : Unary → ExprTy → I) (ofBinary : Binary → ExprTy → I) (lay : Expr → List I) (L : Lays ofLeaf ofUnary ofBinary lay)
+module _ {I X Y : Type 0} (A : Algebra X) (ofLeaf : Leaf → I) (ofUnary : Unary → ExprTy → I) (ofBinary : Binary → ExprTy → I) (lay : Expr → List I)
+    (L : Lays ofLeaf ofUnary ofBinary lay)
     (room : ℕ) (run : List I → List X → Out Y)
     (on-leaf : (l : Leaf) (k : List I) (st : List X) → length st < room → run (ofLeaf l ∷ k) st ≡ bind (A .ofLeaf l) (λ x. run k (x ∷ st)))
     (on-unary : (o : Unary) (t : ExprTy) (k : List I) (x : X) (st : List X) → run (ofUnary o t ∷ k) (x ∷ st) ≡ bind (A .ofUnary o t x) (λ z. run k (z ∷ st)))
-    (on-binary : (o : Binary) (t : ExprTy) (k : List I) (x y : X) (st : List X) → run (ofBinary o t ∷ k) (y ∷ x ∷ st) ≡ bind (A .ofBinary o t x y) (λ z. run k (z ∷ st))) where
+    (on-binary : (o : Binary) (t : ExprTy) (k : List I) (x y : X) (st : List X)
+    → run (ofBinary o t ∷ k) (y ∷ x ∷ st) ≡ bind (A .ofBinary o t x y) (λ z. run k (z ∷ st))) where
   -- a stack, or the fault that ended the run
   abbrev Fits : Expr → Out (List X) → Type 0
   Fits e (fine st) = length st + items e ≤ room

@@ -67,7 +67,8 @@ unfolding batch-computed
 closed = refl
 
 -- "before 14": a value outside its type is 17 where a length is not due
-pub before-14 : leaves (batchOf tallyImage first 1 (pos 2147483648 ∷ []) (replicate 1 (pos 99)) (replicate 2 77)) ≡ away 17 0 (replicate 1 (pos 99)) (replicate 2 77)
+pub before-14 : leaves (batchOf tallyImage first 1 (pos 2147483648 ∷ []) (replicate 1 (pos 99)) (replicate 2 77)) ≡ away 17 0 (replicate 1 (pos 99))
+    (replicate 2 77)
 unfolding batch-computed
 before-14 = refl
 
@@ -108,7 +109,13 @@ unfolding batch-computed
 refused-in-c = refl
 
 pub performed-in-c : batchInC tallyImage (slots (pos 512)) 2 (pos 7 ∷ negsuc 2147483648 ∷ []) (replicate 2 (pos 99)) (replicate 6 77)
-    ≡ record { answer = 0 ∷ 0 ∷ 0 ∷ []; slots = pos 2 ∷ replicate 16 (pos 0) ++ (pos 7 ∷ replicate 31 (pos 0)); rows = pos 0 ∷ pos 99 ∷ []; answers = 0 ∷ 0 ∷ 3 ∷ 14 ∷ 0 ∷ 0 ∷ [] }
+    ≡ record {
+      answer = 0 ∷ 0 ∷ 0 ∷ [];
+      slots = pos 2 ∷ replicate 16
+          (pos 0) ++ (pos 7 ∷ replicate 31 (pos 0));
+      rows = pos 0 ∷ pos 99 ∷ [];
+      answers = 0 ∷ 0 ∷ 3 ∷ 14 ∷ 0 ∷ 0 ∷ [];
+    }
 unfolding batch-computed
 performed-in-c = refl
 

@@ -8,7 +8,7 @@ use lib.ListN.{replicate, drop}
 use lib.IntN.{ℤ, pos, negsuc}
 use Rattle.spec_grammar.specs.Limits.{Each}
 use Rattle.spec_language.specs.Bytes.{bytes}
-use Rattle.spec_semantics.specs.Calls.{Call, Answer, Called, performed, not-performed}
+use Rattle.spec_semantics.specs.Calls.{Answer, Called, performed, not-performed}
 use Rattle.spec_examples.proofs.Nine.{Claim, traces, one-image, Says, imageOf, tableTrace, directTrace, equationTrace, all-computed}
 
 -- a board that gives out one expression, on its line 1; its output holds 9 at first
@@ -48,8 +48,73 @@ divisions =
 
 pub divisions-hold : Each Says divisions
 unfolding all-computed imageOf tableTrace directTrace equationTrace
-divisions-hold =
-    ((refl, refl, refl), ((refl, refl, refl), ((refl, refl, refl), ((refl, refl, refl), ((refl, refl, refl), ((refl, refl, refl), ((refl, refl, refl), ((refl, refl, refl), ((refl, refl, refl), ((refl, refl, refl), ((refl, refl, refl), ((refl, refl, refl), ((refl, refl, refl), ((refl, refl, refl), ((refl, refl, refl), ((refl, refl, refl), ((refl, refl, refl), ((refl, refl, refl), ((refl, refl, refl), ((refl, refl, refl), ((refl, refl, refl), ((refl, refl, refl), ((refl, refl, refl), ((refl, refl, refl), ((refl, refl, refl), ((refl, refl), tt))))))))))))))))))))))))))
+divisions-hold = (
+  (refl, refl, refl),
+  (
+    (refl, refl, refl),
+    (
+      (refl, refl, refl),
+      (
+        (refl, refl, refl),
+        (
+          (refl, refl, refl),
+          (
+            (refl, refl, refl),
+            (
+              (refl, refl, refl),
+              (
+                (refl, refl, refl),
+                (
+                  (refl, refl, refl),
+                  (
+                    (refl, refl, refl),
+                    (
+                      (refl, refl, refl),
+                      (
+                        (refl, refl, refl),
+                        (
+                          (refl, refl, refl),
+                          (
+                            (refl, refl, refl),
+                            (
+                              (refl, refl, refl),
+                              (
+                                (refl, refl, refl),
+                                (
+                                  (refl, refl, refl),
+                                  (
+                                    (refl, refl, refl),
+                                    (
+                                      (refl, refl, refl),
+                                      (
+                                        (refl, refl, refl),
+                                        (
+                                          (refl, refl, refl),
+                                          (
+                                            (refl, refl, refl),
+                                            ((refl, refl, refl), ((refl, refl, refl), ((refl, refl, refl), ((refl, refl), tt)))),
+                                          ),
+                                        ),
+                                      ),
+                                    ),
+                                  ),
+                                ),
+                              ),
+                            ),
+                          ),
+                        ),
+                      ),
+                    ),
+                  ),
+                ),
+              ),
+            ),
+          ),
+        ),
+      ),
+    ),
+  ),
+)
 
 -- "Codes are 29 to 32 in the order named", each behind its operands; the sign, 16, behind the whole first term
 pub codes : drop 72 (imageOf (gives "1 * 2 / 3 mod 4 rem 5"))

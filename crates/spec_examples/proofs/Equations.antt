@@ -25,7 +25,10 @@ rowsOf b cs = onAccepted (λ p. some (rows p cs)) (λ n k. none) (verdict b)
 
 -- opens all that rows compute by
 unfoldable pub opened : List ℕ → List Call → Option (List (Outcome × Kept))
-unfolding computed rowsOf Types.inRange Types.inType Expression.bind Expression.fold Statement.size Statement.has Evaluation.unaryResult Evaluation.binaryResult Evaluation.asInteger Evaluation.applyUnary Evaluation.applyBinary Evaluation.leafValue Evaluation.evaluate Division.byNonzero Equations.perform Equations.holds Equations.log Equations.then Equations.acted Equations.tested Equations.pick Equations.start Equations.resume Equations.enter Equations.cycle Rows.atFirst Rows.wrongValue Rows.rowRefusal Rows.concluded Rows.judged Rows.row Rows.rowsFrom Rows.rows
+unfolding computed rowsOf Types.inRange Types.inType Expression.bind Expression.fold Statement.size Statement.has Evaluation.unaryResult Evaluation.binaryResult
+    Evaluation.asInteger Evaluation.applyUnary Evaluation.applyBinary Evaluation.leafValue Evaluation.evaluate Division.byNonzero Equations.perform
+    Equations.holds Equations.log Equations.then Equations.acted Equations.tested Equations.pick Equations.start Equations.resume Equations.enter
+    Equations.cycle Rows.atFirst Rows.wrongValue Rows.rowRefusal Rows.concluded Rows.judged Rows.row Rows.rowsFrom Rows.rows
 opened b cs = rowsOf b cs
 
 -- a row of inputs, with room for so many outputs
@@ -37,7 +40,8 @@ abbrev kept : ℕ → List ℤ → List ℤ → Kept
 kept p o v = record { place = at p; memory = record { outputs = o; variables = v } }
 
 -- P1: rows 7, 7, 1, -5, -2147483648, 20
-pub p1 : rowsOf tallyText (call 1 (pos 7 ∷ []) ∷ call 1 (pos 7 ∷ []) ∷ call 1 (pos 1 ∷ []) ∷ call 1 (negsuc 4 ∷ []) ∷ call 1 (negsuc 2147483647 ∷ []) ∷ call 1 (pos 20 ∷ []) ∷ [])
+pub p1 : rowsOf tallyText (call 1 (pos 7 ∷ []) ∷ call 1 (pos 7 ∷ []) ∷ call 1 (pos 1 ∷ []) ∷ call 1 (negsuc 4 ∷ []) ∷ call 1 (negsuc 2147483647 ∷ []) ∷ call 1
+    (pos 20 ∷ []) ∷ [])
     ≡ some (
     (performed (pos 0 ∷ []) (0 ∷ 1 ∷ 2 ∷ []), kept 2 (pos 0 ∷ []) (pos 7 ∷ [])) ∷
     (performed (pos 0 ∷ []) (0 ∷ 1 ∷ 2 ∷ []), kept 2 (pos 0 ∷ []) (pos 14 ∷ [])) ∷
@@ -68,13 +72,15 @@ unfolding opened
 p8 = refl
 
 pub p8-negative : rowsOf (stmts "s := 3; u := -(-2147483647 - 1);") (row8 ∷ [])
-    ≡ some ((operator-refused 16 1, record { place = beginning; memory = record { outputs = pos 0 ∷ pos 0 ∷ []; variables = pos 0 ∷ pos 0 ∷ pos 1 ∷ [] } }) ∷ [])
+    ≡ some ((operator-refused 16 1, record { place = beginning; memory = record { outputs = pos 0 ∷ pos 0 ∷ []; variables = pos 0 ∷ pos 0 ∷ pos 1 ∷ [] } })
+    ∷ [])
 unfolding opened
 p8-negative = refl
 
 -- both operands are evaluated, left first, also of a chain that is already decided; an operator that is not reached refuses nothing
 pub both-evaluated : rowsOf (stmts "if d = 0 and 2147483647 + d > 0 then null; end if;") (row8 ∷ [])
-    ≡ some ((operator-refused 16 0, record { place = beginning; memory = record { outputs = pos 0 ∷ pos 0 ∷ []; variables = pos 0 ∷ pos 0 ∷ pos 1 ∷ [] } }) ∷ [])
+    ≡ some ((operator-refused 16 0, record { place = beginning; memory = record { outputs = pos 0 ∷ pos 0 ∷ []; variables = pos 0 ∷ pos 0 ∷ pos 1 ∷ [] } })
+    ∷ [])
 unfolding opened
 both-evaluated = refl
 

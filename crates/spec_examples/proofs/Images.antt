@@ -40,7 +40,19 @@ use Rattle.spec_promises.specs.Compile.{written, not-compiled, compileOf}
 
 -- opens all that a compile, an opening and a call compute by
 unfoldable pub opened : List ℕ → List ℕ → Writing
-unfolding computed compileOf writtenInto andThen Types.inRange Types.inType Expression.items Expression.nth Expression.plainly Expression.bind Expression.fold Expression.leafType Expression.given Expression.given2 Expression.typeOf Statement.size Statement.has Process.isType Process.fits Process.typedAct Evaluation.unaryResult Evaluation.binaryResult Evaluation.asInteger Evaluation.applyUnary Evaluation.applyBinary Evaluation.leafValue Evaluation.evaluate Division.byNonzero Equations.perform Equations.holds Equations.log Equations.then Equations.acted Equations.tested Rows.wrongValue Lines.lines Lines.linesOf Lines.entry Lines.reaches Lines.reachesOf Walk.step Walk.walk Walk.from Walk.tableCycle Code.post Code.operationBytes Code.code Code.operations Code.onto Code.run Code.runOperations Code.runCode Code.withType Code.valueOf Code.decode Signature.typeBytes Signature.cellBytes Signature.signatureBytes Signature.readTypes Signature.readCells Signature.signatureOf Image.rawsBytes Image.lineCode Image.linesCode Image.rawOf Image.rawsOf Image.pairs Image.joined Image.image Image.form1 Image.sectionsFor Image.encodeTable Good.goodLine Opening.readSections Opening.readImage Opening.wholeLines Opening.sectionsOf Opening.raws Opening.lineOf Opening.openLine Opening.openLines Opening.openTable Opening.openSections Opening.openOf Records.zeros Records.slotsOk S.placeOk S.stateOk Records.pad Records.stateFor S.memoryOf S.freshTable S.freshOf Cycle.rowPlace Cycle.tableRow Cycle.rowOf Cycle.cycleOf Cycle.callsOf Encode.signatureFor Encode.tableOf Encode.encode
+unfolding computed compileOf writtenInto andThen Types.inRange Types.inType Expression.items Expression.nth Expression.plainly Expression.bind Expression.fold
+    Expression.leafType Expression.given Expression.given2 Expression.typeOf Statement.size Statement.has Process.isType Process.fits Process.typedAct
+    Evaluation.unaryResult Evaluation.binaryResult Evaluation.asInteger Evaluation.applyUnary Evaluation.applyBinary Evaluation.leafValue
+    Evaluation.evaluate Division.byNonzero Equations.perform Equations.holds Equations.log Equations.then Equations.acted Equations.tested
+    Rows.wrongValue Lines.lines Lines.linesOf Lines.entry Lines.reaches Lines.reachesOf Walk.step Walk.walk Walk.from Walk.tableCycle Code.post
+    Code.operationBytes Code.code Code.operations Code.onto Code.run Code.runOperations Code.runCode Code.withType Code.valueOf Code.decode
+    Signature.typeBytes Signature.cellBytes Signature.signatureBytes Signature.readTypes Signature.readCells Signature.signatureOf
+    Image.rawsBytes Image.lineCode Image.linesCode Image.rawOf Image.rawsOf Image.pairs Image.joined Image.image Image.form1
+    Image.sectionsFor Image.encodeTable Good.goodLine Opening.readSections Opening.readImage Opening.wholeLines Opening.sectionsOf
+    Opening.raws Opening.lineOf Opening.openLine Opening.openLines Opening.openTable Opening.openSections Opening.openOf
+    Records.zeros Records.slotsOk S.placeOk S.stateOk Records.pad Records.stateFor S.memoryOf S.freshTable S.freshOf
+    Cycle.rowPlace Cycle.tableRow Cycle.rowOf Cycle.cycleOf Cycle.callsOf Encode.signatureFor Encode.tableOf
+    Encode.encode
 opened text buffer = compileOf text buffer
 
 -- tally's 134 bytes
@@ -74,7 +86,8 @@ unfolding opened
 p3-exact = refl
 
 -- P3: the pairs, read from the bytes
-pub p3-pairs : word4At tallyImage 4 ∷ word4At tallyImage 8 ∷ word4At tallyImage 12 ∷ word4At tallyImage 16 ∷ word4At tallyImage 20 ∷ word4At tallyImage 24 ∷ length tallyImage ∷ []
+pub p3-pairs : word4At tallyImage 4 ∷ word4At tallyImage 8 ∷ word4At tallyImage 12 ∷ word4At tallyImage 16 ∷ word4At tallyImage 20 ∷ word4At tallyImage 24
+    ∷ length tallyImage ∷ []
     ≡ 28 ∷ 14 ∷ 42 ∷ 72 ∷ 114 ∷ 20 ∷ 134 ∷ []
 p3-pairs = refl
 
@@ -103,7 +116,8 @@ pub p1-fresh : freshOf tallyImage ≡ fresh (stateAt 512 (pos 0) (pos 0))
 unfolding opened
 p1-fresh = refl
 
-pub p1 : callsOf tallyImage (stateAt 512 (pos 0) (pos 0)) (rowOf (pos 7) ∷ rowOf (pos 7) ∷ rowOf (pos 1) ∷ rowOf (negsuc 4) ∷ rowOf (negsuc 2147483647) ∷ rowOf (pos 20) ∷ [])
+pub p1 : callsOf tallyImage (stateAt 512 (pos 0) (pos 0))
+    (rowOf (pos 7) ∷ rowOf (pos 7) ∷ rowOf (pos 1) ∷ rowOf (negsuc 4) ∷ rowOf (negsuc 2147483647) ∷ rowOf (pos 20) ∷ [])
     ≡ did (0 ∷ 1 ∷ 2 ∷ []) 2 (pos 0) (pos 7) ∷ did (0 ∷ 1 ∷ 2 ∷ []) 2 (pos 0) (pos 14) ∷ did (0 ∷ 3 ∷ 4 ∷ 5 ∷ []) 5 (pos 14) (pos 0) ∷
     did (0 ∷ 1 ∷ 2 ∷ []) 2 (pos 14) (negsuc 4) ∷ record { answer = not-performed 16 1; state = stateAt 2 (pos 14) (negsuc 4); row = pos 99 ∷ [] } ∷
     did (0 ∷ 1 ∷ 2 ∷ []) 2 (pos 14) (pos 15) ∷ []
@@ -132,7 +146,8 @@ pub damaged-empty : openOf [] ≡ not-opened 11 0
 unfolding opened
 damaged-empty = refl
 
-pub damaged-header : openOf (off 0) ∷ openOf (off 2) ∷ openOf (off 4) ∷ openOf (off 8) ∷ openOf (off 12) ∷ openOf (off 16) ∷ openOf (off 20) ∷ openOf (off 24) ∷ []
+pub damaged-header : openOf (off 0) ∷ openOf (off 2) ∷ openOf (off 4) ∷ openOf (off 8) ∷ openOf (off 12) ∷ openOf (off 16) ∷ openOf (off 20) ∷ openOf
+    (off 24) ∷ []
     ≡ replicate 8 (not-opened 11 0)
 unfolding opened
 damaged-header = refl

@@ -1,4 +1,4 @@
--- Large texts: 16,384 bytes and 16,385; 512 statements and 513. One table, tested by computing, as in the crate language. Assumes nothing.
+-- Large texts: 16,384 bytes and 16,385; 512 statements and 513. One table, tested by computing, as in the crate spec_language. Assumes nothing.
 use mathlib.Core.List.{List, [], _∷_, _++_}
 use lib.Dec.{T}
 use lib.ListN.{replicate}

@@ -57,7 +57,8 @@ equationTrace text cs = onVerdict (verdict text) cs
 
 -- opens all that the direct run and the equations compute by, beside what the image and its calls do
 unfoldable pub all-computed : List ℕ → List Call → List Called
-unfolding opened Equations.pick Equations.start Equations.resume Equations.enter Equations.cycle Rows.atFirst Rows.rowRefusal Rows.concluded Rows.judged Rows.row Comparison.equationCalls DirectRow.fitsText DirectRow.placeFor DirectRow.keptOf DirectRow.directRow directOf directFresh directCalls equationTrace
+unfolding opened Equations.pick Equations.start Equations.resume Equations.enter Equations.cycle Rows.atFirst Rows.rowRefusal Rows.concluded Rows.judged
+    Rows.row Comparison.equationCalls DirectRow.fitsText DirectRow.placeFor DirectRow.keptOf DirectRow.directRow directOf directFresh directCalls equationTrace
 all-computed text cs = equationTrace text cs
 
 -- what an example claims
@@ -116,5 +117,13 @@ nine =
 
 pub nine-hold : Each Says nine
 unfolding all-computed passes imageOf tableTrace directTrace equationTrace
-nine-hold =
-    ((refl, refl, refl), (refl, ((refl, refl), ((refl, refl, refl), ((refl, refl, refl), ((refl, refl, refl), ((refl, refl), ((refl, refl, refl), ((refl, refl, refl), ((refl, refl, refl), tt))))))))))
+nine-hold = (
+  (refl, refl, refl),
+  (
+    refl,
+    (
+      (refl, refl),
+      ((refl, refl, refl), ((refl, refl, refl), ((refl, refl, refl), ((refl, refl), ((refl, refl, refl), ((refl, refl, refl), ((refl, refl, refl), tt))))))),
+    ),
+  ),
+)

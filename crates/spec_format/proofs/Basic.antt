@@ -3,7 +3,7 @@ use Prim.Native.Nat.{ℕ, _≤_, _<_}
 use native.Mathlib.Omega.{arith}
 use native.Mathlib.Decide.{decLt}
 use mathlib.Core.Path.{_≡_, refl, sym, _∙_}
-use mathlib.Core.Bool.{Bool, true, false, cond}
+use mathlib.Core.Bool.{Bool, true, false}
 use mathlib.Core.Option.{Option, none, some, Option·map, bind}
 use lib.Dec.{leb}
 use borrow.Author.Tests.{lt-leb, le-leb}
@@ -22,10 +22,6 @@ map-some f (some x) y e = (x, refl, some-injective (f x) y e)
 pub onlyIf-some : {X : Type 0} (b : Bool) {x : Option X} (y : X) → onlyIf b x ≡ some y → (b ≡ true) × (x ≡ some y)
 onlyIf-some true y e = (refl, e)
 onlyIf-some false y e = none-some y e
-
-pub cond-case : {X P : Type 0} (b : Bool) {x y z : X} → cond b x y ≡ z → (b ≡ true → x ≡ z → P) → (b ≡ false → y ≡ z → P) → P
-cond-case true e f g = f refl e
-cond-case false e f g = g refl e
 
 pub leb-shift : (a b n m : ℕ) → (a ≤ n → b ≤ m) → (b ≤ m → a ≤ n) → leb a n ≡ leb b m
 leb-shift a b n m f g = go (decLt n a) (decLt m b)

@@ -42,7 +42,9 @@ abbrev leaves : Batch → Told (Unit {0}) × Bool × State × List ℤ × List �
 leaves b = (batchAnswer (b .answer), isMoved (b .answer), b .state, b .rows, b .answers)
 
 unfoldable computed : List ℕ → State → ℕ → List ℤ → List ℤ → List ℕ → Batch
-unfolding readSections readImage wholeLines sectionsOf andThen readTypes readCells signatureOf raws lineOf openLine openLines openTable openSections openOf decode runCode runOperations run operations onto withType valueOf goodLine nth inType inRange stateFor pad memoryOf cycleOf callsOf rowOf rowPlace wrongValue stateOk placeOk slotsOk zeros tableRow tableCycle walk step from then log callsIn rowsLeft answersLeft stateLeft due batchOf onePerformed
+unfolding readSections readImage wholeLines sectionsOf andThen readTypes readCells signatureOf raws lineOf openLine openLines openTable openSections openOf
+    decode runCode runOperations run operations onto withType valueOf goodLine nth inType inRange stateFor pad memoryOf cycleOf callsOf rowOf rowPlace
+    wrongValue stateOk placeOk slotsOk zeros tableRow tableCycle walk step from then log callsIn rowsLeft answersLeft stateLeft due batchOf onePerformed
 computed b s n is os ns = batchOf b s n is os ns
 
 -- the first row stops at line 0; the second has a first value that is no std_logic value, and keeps its own output; the third stops at line 1

@@ -3,7 +3,7 @@ use Prim.Native.Nat.{ℕ, zero, suc, _+_, _≤_}
 use native.Mathlib.Omega.{arith}
 use mathlib.Core.Path.{_≡_, refl, sym, ap, _∙_}
 use mathlib.Core.Bool.{Bool, true, false}
-use mathlib.Core.Option.{Option, some, Option·map, bind as andThen, none}
+use mathlib.Core.Option.{Option, some, Option·map, bind as andThen}
 use mathlib.Core.List.{List, [], _∷_, _++_, append-nil}
 use lib.ListN.{length, length-append}
 use Rattle.spec_design.specs.Types.{ExprTy, inRange}
@@ -16,11 +16,6 @@ use Rattle.spec_format.proofs.Words.{integer-bytes}
 use Rattle.spec_format.proofs.Basic.{andThen-some, map-some}
 
 -- Values handed on.
-
-pub bind-cong : {X Y : Type 0} (o : Out X) (k g : X → Out Y) → ((x : X) → k x ≡ g x) → bind o k ≡ bind o g
-unfolding bind
-bind-cong (fine x) k g h = h x
-bind-cong (fault q) k g h = refl
 
 pub bind-bind : {X Y Z : Type 0} (o : Out X) (f : X → Out Y) (k : Y → Out Z) → bind (bind o f) k ≡ bind o (λ x. bind (f x) k)
 unfolding bind
@@ -62,7 +57,8 @@ module _ {X : Type 0} (M : Machine X) where
   unfolding run
   run-unary o is x st = onto-bind (M .ofUnary o x) st _
 
-  run-binary : (o : Binary) (is : List Operation) (x y : X) (st : List X) → run M (apply2 o ∷ is) (y ∷ x ∷ st) ≡ bind (M .ofBinary o x y) (λ z. run M is (z ∷ st))
+  run-binary : (o : Binary) (is : List Operation) (x y : X) (st : List X)
+      → run M (apply2 o ∷ is) (y ∷ x ∷ st) ≡ bind (M .ofBinary o x y) (λ z. run M is (z ∷ st))
   unfolding run
   run-binary o is x y st = onto-bind (M .ofBinary o x y) st _
 

@@ -10,30 +10,20 @@ use lib.ListN.{length}
 use lib.Dec.{eqb}
 use Rattle.spec_design.specs.Types.{Ty, ExprTy, sameType, inRange}
 use Rattle.spec_design.specs.Expression.{Leaf, int, bit, input, variable, Unary, Binary, Expr, leaf, unary, binary, Out, fine, fault, bind, Algebra, fold, leafType, unaryType, binaryType, given, given2, typeOf}
-use Rattle.spec_design.proofs.Types.{sameType-eq, sameType-refl}
+use Rattle.spec_design.proofs.Types.{sameType-refl}
 use Rattle.spec_design.proofs.Postfix.{Steps, lay-whole}
-use Rattle.spec_semantics.proofs.Basic.{none-some, fault-fine, some-injective, fine-injective, eqb-true}
+use Rattle.spec_semantics.proofs.Basic.{none-some, fault-fine, some-injective, fine-injective, eqb-true, cond-case}
 use Rattle.spec_format.specs.Words.{Bytes, word4}
 use Rattle.spec_semantics.specs.Twos.{signed32}
 use Rattle.spec_format.specs.Code.{Operation, push, apply1, apply2, post, bitByte, first, others, operationBytes, code, readInt, bitOf, readBit, readName, applying, operator, readOperation, operations, onto, run, runOperations, runCode, withType, typed, trees, valueOf, decode}
 use Rattle.base_codes.specs.Operation.{unaryFor, binaryFor}
 use Rattle.base_codes.proofs.OperationLaws.{unary-is, binary-is}
 use Rattle.spec_format.proofs.Words.{word4-small, signed-range, bytes-integer}
-use Rattle.spec_format.proofs.Basic.{andThen-some, map-some, cond-case}
-use Rattle.spec_format.proofs.Coding.{untyped1, untyped2, bind-cong, bind-bind, untypedAlgebra, CodableOperation, Codable, post-laid, run-code}
+use Rattle.spec_format.proofs.Basic.{andThen-some, map-some}
+use Rattle.spec_format.proofs.Coding.{untyped1, untyped2, bind-bind, untypedAlgebra, CodableOperation, Codable, post-laid, run-code}
+use Rattle.spec_semantics.proofs.Typed.{bind-cong, given-some, given2-some}
 
 -- Types of operands.
-
-pub given-some : (f : ExprTy → Option ExprTy) (s t : ExprTy) (o : Option ExprTy) → given f s o ≡ some t → (o ≡ some s) × (f s ≡ some t)
-unfolding given
-given-some f s t none e = none-some t e
-given-some f s t (some u) e = cond-case (sameType s u) e (λ q m. (ap some (sym (sameType-eq s u q)), m)) (λ q m. none-some t m)
-
-pub given2-some : (f : ExprTy → Option ExprTy) (s t : ExprTy) (o q : Option ExprTy) → given2 f s o q ≡ some t → (o ≡ some s) × (q ≡ some s) × (f s ≡ some t)
-unfolding given2
-given2-some f s t none q e = none-some t e
-given2-some f s t (some u) q e =
-    cond-case (sameType s u) e (λ m h. let r = given-some f s t q h in (ap some (sym (sameType-eq s u m)), r .0, r .1)) (λ m h. none-some t h)
 
 unary-type : (is vs : List Ty) (o : Unary) (s t : ExprTy) (a : Expr) → typeOf is vs a ≡ some s → unaryType o s ≡ some t → typeOf is vs (unary o s a) ≡ some t
 unfolding typeOf given
@@ -53,7 +43,8 @@ typed-leaf is vs (bit b) t e = (tt, tt)
 typed-leaf is vs (input k) t e = (tt, tt)
 typed-leaf is vs (variable k) t e = (tt, tt)
 
-codable-steps : (is vs : List Ty) → Steps push untyped1 untyped2 (λ (e : Expr) (w : Unit {0}). (t : ExprTy) × (typeOf is vs e ≡ some t)) (λ (e : Expr) (w : Unit {0}). w) (λ (k : List Operation) (w : Unit {0}). Codable k)
+codable-steps : (is vs : List Ty) → Steps push untyped1 untyped2 (λ (e : Expr) (w : Unit {0}). (t : ExprTy) × (typeOf is vs e ≡ some t))
+    (λ (e : Expr) (w : Unit {0}). w) (λ (k : List Operation) (w : Unit {0}). Codable k)
 unfolding typeOf Codable
 codable-steps is vs =
     record {
@@ -235,8 +226,11 @@ module _ (is vs : List Ty) where
   run-back (apply1 o ∷ ops) [] p g h = fault-fine 13 p h
   run-back (apply1 o ∷ ops) (x ∷ st) p g h =
       let q = onto-fine (unaryType o (x .0)) (unary o (x .0) (x .1)) st _ p h in
-      let r = run-back ops ((q .0, unary o (x .0) (x .1)) ∷ st) p (unary-type is vs o (x .0) (q .0) (x .1) (g .0) (q .1), g .1) (q .2) in
-      (sym (append-assoc (before st ++ post (x .1)) (apply1 o ∷ []) ops) ∙ ap (λ l. l ++ ops) (append-assoc (before st) (post (x .1)) (apply1 o ∷ [])) ∙ r .0, r .1)
+      let r = run-back ops ((q .0, unary o (x .0) (x .1)) ∷ st) p (unary-type is vs o (x .0) (q .0) (x .1) (g .0) (q .1), g .1) (q .2) in (
+        sym (append-assoc (before st ++ post (x .1)) (apply1 o ∷ []) ops) ∙ ap (λ l. l ++ ops) (append-assoc (before st) (post (x .1)) (apply1 o ∷ []))
+            ∙ r .0,
+        r .1,
+      )
   run-back (apply2 o ∷ ops) [] p g h = fault-fine 13 p h
   run-back (apply2 o ∷ ops) (y ∷ []) p g h = fault-fine 13 p h
   run-back (apply2 o ∷ ops) (y ∷ x ∷ st) p g h =

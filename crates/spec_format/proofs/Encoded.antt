@@ -1,17 +1,16 @@
 -- Every number of a good table's image is a byte: by the law of postfix items, and by induction on cells and lines. Assumes nothing.
-use Prim.Native.Nat.{ℕ, zero, suc, _+_, _≤_, _<_, _*_}
+use Prim.Native.Nat.{ℕ, _+_, _≤_, _<_, _*_}
 use native.Mathlib.Omega.{arith}
 use mathlib.Core.Path.{_≡_, refl, sym, ap, _∙_}
 use mathlib.Core.Bool.{Bool, true, false}
-use mathlib.Core.Option.{Option, none, some}
+use mathlib.Core.Option.{some}
 use mathlib.Core.List.{List, [], _∷_, _++_, append-assoc}
 use lib.ListN.{length, length-map}
 use Rattle.spec_design.specs.Types.{Ty, std-logic, integer, ExprTy, typeByte}
-use Rattle.spec_design.specs.Expression.{Leaf, int, bit, input, variable, Unary, sign, invert, Binary, plus, minus, equal, unequal, less, at-most, greater, at-least, and, or, xor, times, divide, modulo, remainder, Expr, leaf, unary, binary, nth, plainly, leafType, unaryType, binaryType, typeOf}
+use Rattle.spec_design.specs.Expression.{Leaf, int, bit, input, variable, Unary, sign, invert, Binary, plus, minus, equal, unequal, less, at-most, greater, at-least, and, or, xor, times, divide, modulo, remainder, Expr, leaf, unary, binary, leafType, unaryType, binaryType, typeOf}
 use Rattle.spec_design.proofs.Postfix.{Steps, lay-whole}
 use Rattle.spec_design.specs.Statement.{output, variable as assign, null}
 use Rattle.spec_design.specs.Process.{typedAct}
-use Rattle.spec_semantics.proofs.Basic.{none-some}
 use Rattle.spec_format.specs.Words.{Bytes, bytes2, bytes4}
 use Rattle.spec_semantics.specs.Twos.{unsigned32}
 use Rattle.spec_format.specs.Code.{Operation, push, apply1, apply2, post, bitByte, first, others, operationBytes, code}
@@ -22,24 +21,10 @@ use Rattle.spec_format.specs.Image.{Table, RawLine, rawBytes, rawsBytes,
 use Rattle.spec_format.specs.Good.{fitsLine, GoodLines, GoodTable}
 use Rattle.spec_format.proofs.Words.{bytes-append, bytes2-bytes, bytes4-bytes}
 use Rattle.spec_format.proofs.Coding.{untyped1, untyped2, post-laid}
-use Rattle.spec_format.proofs.Decoding.{given-some, given2-some}
-use Rattle.spec_format.proofs.Lines.{fits-type, good-fits}
+use Rattle.spec_format.proofs.Lines.{good-fits}
+use Rattle.spec_semantics.proofs.Typed.{fits-type, given-some, given2-some, named-below}
 
 -- Code.
-
-pub nth-below : {X : Type 0} (l : List X) (k : ℕ) (x : X) → nth l k ≡ some x → k < length l
-unfolding nth
-nth-below [] k x e = none-some x e
-nth-below (y ∷ l) zero x e = omega arith
-nth-below (y ∷ l) (suc k) x e = let h = nth-below l k x e in omega arith
-
--- a name that has a type is one of the declared
-pub named-below : (l : List Ty) (k : ℕ) (t : ExprTy) → plainly (nth l k) ≡ some t → k < length l
-named-below l k t e = go (nth l k) refl e
-  where
-    go : (o : Option Ty) → nth l k ≡ o → plainly o ≡ some t → k < length l
-    go none q m = unfold plainly in none-some t m
-    go (some s) q m = nth-below l k s q
 
 bit-small : (b : Bool) → bitByte b < 256
 bit-small true = omega arith
@@ -92,13 +77,15 @@ module _ (is vs : List Ty) (hi : length is ≤ 256) (hv : length vs ≤ 256) whe
   bytes-before : (i : Operation) (k : List Operation) → Bytes (operationBytes (i ∷ [])) → Bytes (operationBytes k) → Bytes (operationBytes (i ∷ k))
   bytes-before i k h c = rw (operation-append (i ∷ []) k) (bytes-append (operationBytes (i ∷ [])) (operationBytes k) h c)
 
-  bytes-steps : Steps push untyped1 untyped2 (λ (e : Expr) (w : Unit {0}). (t : ExprTy) × (typeOf is vs e ≡ some t)) (λ (e : Expr) (w : Unit {0}). w) (λ (k : List Operation) (w : Unit {0}). Bytes (operationBytes k))
+  bytes-steps : Steps push untyped1 untyped2 (λ (e : Expr) (w : Unit {0}). (t : ExprTy) × (typeOf is vs e ≡ some t)) (λ (e : Expr) (w : Unit {0}). w)
+      (λ (k : List Operation) (w : Unit {0}). Bytes (operationBytes k))
   unfolding typeOf
   bytes-steps =
       record {
         leaf = λ l w k f c. bytes-before (push l) k (leaf-bytes l (f .0) (f .1)) c;
         unary = λ o s a w k f. ((s, given-some (unaryType o) s (f .0) (typeOf is vs a) (f .1) .0), bytes-before (apply1 o) k (unary-bytes o));
-        binary = λ o s a b w k f. let p = given2-some (binaryType o) s (f .0) (typeOf is vs a) (typeOf is vs b) (f .1) in ((s, p .0), (s, p .1), bytes-before (apply2 o) k (binary-bytes o));
+        binary = λ o s a b w k f. let p = given2-some (binaryType o) s (f .0) (typeOf is vs a) (typeOf is vs b) (f .1) in
+            ((s, p .0), (s, p .1), bytes-before (apply2 o) k (binary-bytes o));
       }
 
   post-bytes : (e : Expr) (t : ExprTy) → typeOf is vs e ≡ some t → Bytes (operationBytes (post e))
@@ -140,8 +127,22 @@ module _ (σ : Signature) (g : GoodSignature σ) where
 
   raw-bytes : (w : RawLine) → w .kind < 256 → w .target < 256 → Bytes (rawBytes w)
   unfolding Bytes
-  raw-bytes w k t =
-      (k, (t, (omega arith, (omega arith, (omega arith, (omega arith, (omega arith, (omega arith, (omega arith, (omega arith, (omega arith, (omega arith, tt))))))))))))
+  raw-bytes w k t = (
+    k,
+    (
+      t,
+      (
+        omega arith,
+        (
+          omega arith,
+          (
+            omega arith,
+            (omega arith, (omega arith, (omega arith, (omega arith, (omega arith, (omega arith, (omega arith, tt))))))),
+          ),
+        ),
+      ),
+    ),
+  )
 
   lines-bytes : (n : ℕ) (rs : List ℕ) (p : ℕ) (ls : List Line) (qs : List ℕ) → GoodLines σ n rs ls qs
       → Bytes (linesCode ls) × Bytes (rawsBytes (rawsOf p ls qs))
@@ -168,7 +169,11 @@ module _ (σ : Signature) (g : GoodSignature σ) where
   cell-bytes : (l : List Cell) → Bytes (cellBytes l)
   unfolding cellBytes Bytes
   cell-bytes [] = tt
-  cell-bytes (c ∷ l) = (type-small (c .type), bytes-append (bytes4 (unsigned32 (c .initial))) (cellBytes l) (bytes4-bytes (unsigned32 (c .initial))) (cell-bytes l))
+  cell-bytes (c ∷ l) = (
+    type-small (c .type),
+    bytes-append (bytes4 (unsigned32 (c .initial))) (cellBytes l) (bytes4-bytes (unsigned32 (c .initial)))
+        (cell-bytes l),
+  )
 
   signature-bytes : Bytes (signatureBytes σ)
   unfolding signatureBytes Bytes
@@ -178,7 +183,8 @@ module _ (σ : Signature) (g : GoodSignature σ) where
       omega (arith, g .outputs),
       (
         omega (arith, g .variables),
-        bytes-append (typeBytes (σ .inputs)) _ (type-bytes (σ .inputs)) (bytes-append (cellBytes (σ .outputs)) _ (cell-bytes (σ .outputs)) (cell-bytes (σ .variables))),
+        bytes-append (typeBytes (σ .inputs)) _ (type-bytes (σ .inputs))
+            (bytes-append (cellBytes (σ .outputs)) _ (cell-bytes (σ .outputs)) (cell-bytes (σ .variables))),
       ),
     ),
   )

@@ -45,7 +45,8 @@ bytes =
 
 -- (P3), every byte
 tally-bytes : encode tally ≡ bytes
-unfolding encode encodeTable form1 sectionsFor tableOf signatureFor image pairs joined signatureBytes typeBytes cellBytes rawsBytes rawsOf rawOf lineCode linesCode code post operationBytes linesOf lines reachesOf reaches entry size tally
+unfolding encode encodeTable form1 sectionsFor tableOf signatureFor image pairs joined signatureBytes typeBytes cellBytes rawsBytes rawsOf rawOf lineCode
+    linesCode code post operationBytes linesOf lines reachesOf reaches entry size tally
 tally-bytes = refl
 
 -- (P2)
@@ -54,7 +55,10 @@ unfolding tally tableOf reachesOf entry reaches
 tally-reaches = refl
 
 tally-opens : openOf bytes ≡ opened (tableOf tally)
-unfolding readSections readImage wholeLines sectionsOf andThen readTypes readCells signatureOf raws lineOf openLine openLines openTable openSections openOf decode runCode runOperations run operations onto withType valueOf goodLine fits typedAct isType items typeOf given given2 leafType plainly nth unaryType binaryType sumType orderType equalityType logicalType sameType sameTy bind inType inRange tally tableOf signatureFor linesOf lines reachesOf reaches entry size
+unfolding readSections readImage wholeLines sectionsOf andThen readTypes readCells signatureOf raws lineOf openLine openLines openTable openSections openOf
+    decode runCode runOperations run operations onto withType valueOf goodLine fits typedAct isType items typeOf given given2 leafType plainly nth unaryType
+    binaryType sumType orderType equalityType logicalType sameType sameTy bind inType inRange tally tableOf signatureFor linesOf lines reachesOf reaches
+    entry size
 tally-opens = refl
 
 abbrev pub padding16 : List ℤ
@@ -75,7 +79,9 @@ abbrev pub begun : State
 begun = placed 512
 
 tally-fresh : freshOf bytes ≡ fresh begun
-unfolding readSections readImage wholeLines sectionsOf andThen readTypes readCells signatureOf raws lineOf openLine openLines openTable openSections openOf decode runCode runOperations run operations onto withType valueOf goodLine fits typedAct isType items typeOf given given2 leafType plainly nth unaryType binaryType sumType orderType equalityType logicalType sameType sameTy bind inType inRange freshOf freshTable stateFor pad
+unfolding readSections readImage wholeLines sectionsOf andThen readTypes readCells signatureOf raws lineOf openLine openLines openTable openSections openOf
+    decode runCode runOperations run operations onto withType valueOf goodLine fits typedAct isType items typeOf given given2 leafType plainly nth unaryType
+    binaryType sumType orderType equalityType logicalType sameType sameTy bind inType inRange freshOf freshTable stateFor pad
 tally-fresh = refl
 
 abbrev pub call : ℤ → Call
@@ -93,71 +99,103 @@ left =
 
 -- (P1) on the bytes, with every slot and the way of every call
 tally-calls : callsOf bytes begun (call (pos 7) ∷ call (pos 7) ∷ call (pos 1) ∷ call (negsuc 4) ∷ call (negsuc 2147483647) ∷ call (pos 20) ∷ []) ≡ left
-unfolding readSections readImage wholeLines sectionsOf andThen readTypes readCells signatureOf raws lineOf openLine openLines openTable openSections openOf decode runCode runOperations run operations onto withType valueOf goodLine fits typedAct isType items typeOf given given2 leafType plainly nth unaryType binaryType sumType orderType equalityType logicalType sameType sameTy bind inType inRange freshOf freshTable stateFor pad memoryOf cycleOf callsOf rowOf rowPlace wrongValue stateOk placeOk slotsOk zeros tableRow tableCycle walk step from then acted tested log perform holds evaluate fold leafValue applyUnary applyBinary unaryResult binaryResult asInteger
+unfolding readSections readImage wholeLines sectionsOf andThen readTypes readCells signatureOf raws lineOf openLine openLines openTable openSections openOf
+    decode runCode runOperations run operations onto withType valueOf goodLine fits typedAct isType items typeOf given given2 leafType plainly nth unaryType
+    binaryType sumType orderType equalityType logicalType sameType sameTy bind inType inRange freshOf freshTable stateFor pad memoryOf cycleOf callsOf rowOf
+    rowPlace wrongValue stateOk placeOk slotsOk zeros tableRow tableCycle walk step from then acted tested log perform holds evaluate fold leafValue
+    applyUnary applyBinary unaryResult binaryResult asInteger
 tally-calls = refl
 
 -- Damaged images.
 
 -- form 2
 form-2 : openOf (set bytes 0 2) ≡ not-opened 11 0
-unfolding readSections readImage wholeLines sectionsOf andThen readTypes readCells signatureOf raws lineOf openLine openLines openTable openSections openOf decode runCode runOperations run operations onto withType valueOf goodLine fits typedAct isType items typeOf given given2 leafType plainly nth unaryType binaryType sumType orderType equalityType logicalType sameType sameTy bind inType inRange
+unfolding readSections readImage wholeLines sectionsOf andThen readTypes readCells signatureOf raws lineOf openLine openLines openTable openSections openOf
+    decode runCode runOperations run operations onto withType valueOf goodLine fits typedAct isType items typeOf given given2 leafType plainly nth unaryType
+    binaryType sumType orderType equalityType logicalType sameType sameTy bind inType inRange
 form-2 = refl
 
 -- a gap between signature and lines
 gap : openOf (set bytes 12 43) ≡ not-opened 11 0
-unfolding readSections readImage wholeLines sectionsOf andThen readTypes readCells signatureOf raws lineOf openLine openLines openTable openSections openOf decode runCode runOperations run operations onto withType valueOf goodLine fits typedAct isType items typeOf given given2 leafType plainly nth unaryType binaryType sumType orderType equalityType logicalType sameType sameTy bind inType inRange
+unfolding readSections readImage wholeLines sectionsOf andThen readTypes readCells signatureOf raws lineOf openLine openLines openTable openSections openOf
+    decode runCode runOperations run operations onto withType valueOf goodLine fits typedAct isType items typeOf given given2 leafType plainly nth unaryType
+    binaryType sumType orderType equalityType logicalType sameType sameTy bind inType inRange
 gap = refl
 
 -- 12: type byte 2
 type-byte-2 : openOf (set bytes 31 2) ≡ not-opened 12 0
-unfolding readSections readImage wholeLines sectionsOf andThen readTypes readCells signatureOf raws lineOf openLine openLines openTable openSections openOf decode runCode runOperations run operations onto withType valueOf goodLine fits typedAct isType items typeOf given given2 leafType plainly nth unaryType binaryType sumType orderType equalityType logicalType sameType sameTy bind inType inRange
+unfolding readSections readImage wholeLines sectionsOf andThen readTypes readCells signatureOf raws lineOf openLine openLines openTable openSections openOf
+    decode runCode runOperations run operations onto withType valueOf goodLine fits typedAct isType items typeOf given given2 leafType plainly nth unaryType
+    binaryType sumType orderType equalityType logicalType sameType sameTy bind inType inRange
 type-byte-2 = refl
 
 -- reach 1 on the wait in line 2: the lowest bad line is line 1, which it follows
 reach-on-a-wait : openOf (set bytes 76 1) ≡ not-opened 13 1
-unfolding readSections readImage wholeLines sectionsOf andThen readTypes readCells signatureOf raws lineOf openLine openLines openTable openSections openOf decode runCode runOperations run operations onto withType valueOf goodLine fits typedAct isType items typeOf given given2 leafType plainly nth unaryType binaryType sumType orderType equalityType logicalType sameType sameTy bind inType inRange
+unfolding readSections readImage wholeLines sectionsOf andThen readTypes readCells signatureOf raws lineOf openLine openLines openTable openSections openOf
+    decode runCode runOperations run operations onto withType valueOf goodLine fits typedAct isType items typeOf given given2 leafType plainly nth unaryType
+    binaryType sumType orderType equalityType logicalType sameType sameTy bind inType inRange
 reach-on-a-wait = refl
 
 -- other of an assignment not 0
 unused-other : openOf (set bytes 62 1) ≡ not-opened 13 1
-unfolding readSections readImage wholeLines sectionsOf andThen readTypes readCells signatureOf raws lineOf openLine openLines openTable openSections openOf decode runCode runOperations run operations onto withType valueOf goodLine fits typedAct isType items typeOf given given2 leafType plainly nth unaryType binaryType sumType orderType equalityType logicalType sameType sameTy bind inType inRange
+unfolding readSections readImage wholeLines sectionsOf andThen readTypes readCells signatureOf raws lineOf openLine openLines openTable openSections openOf
+    decode runCode runOperations run operations onto withType valueOf goodLine fits typedAct isType items typeOf given given2 leafType plainly nth unaryType
+    binaryType sumType orderType equalityType logicalType sameType sameTy bind inType inRange
 unused-other = refl
 
 -- other of an assignment to an output not 0
 unused-other-output : openOf (set bytes 86 1) ≡ not-opened 13 3
-unfolding readSections readImage wholeLines sectionsOf andThen readTypes readCells signatureOf raws lineOf openLine openLines openTable openSections openOf decode runCode runOperations run operations onto withType valueOf goodLine fits typedAct isType items typeOf given given2 leafType plainly nth unaryType binaryType sumType orderType equalityType logicalType sameType sameTy bind inType inRange
+unfolding readSections readImage wholeLines sectionsOf andThen readTypes readCells signatureOf raws lineOf openLine openLines openTable openSections openOf
+    decode runCode runOperations run operations onto withType valueOf goodLine fits typedAct isType items typeOf given given2 leafType plainly nth unaryType
+    binaryType sumType orderType equalityType logicalType sameType sameTy bind inType inRange
 unused-other-output = refl
 
 -- the offset of a line without code is where the run before ended
 offset-of-a-wait : openOf (set bytes 68 12) ≡ not-opened 13 2
-unfolding readSections readImage wholeLines sectionsOf andThen readTypes readCells signatureOf raws lineOf openLine openLines openTable openSections openOf decode runCode runOperations run operations onto withType valueOf goodLine fits typedAct isType items typeOf given given2 leafType plainly nth unaryType binaryType sumType orderType equalityType logicalType sameType sameTy bind inType inRange
+unfolding readSections readImage wholeLines sectionsOf andThen readTypes readCells signatureOf raws lineOf openLine openLines openTable openSections openOf
+    decode runCode runOperations run operations onto withType valueOf goodLine fits typedAct isType items typeOf given given2 leafType plainly nth unaryType
+    binaryType sumType orderType equalityType logicalType sameType sameTy bind inType inRange
 offset-of-a-wait = refl
 
 -- no operator
 operator-29 : openOf (set bytes 121 29) ≡ not-opened 13 0
-unfolding readSections readImage wholeLines sectionsOf andThen readTypes readCells signatureOf raws lineOf openLine openLines openTable openSections openOf decode runCode runOperations run operations onto withType valueOf goodLine fits typedAct isType items typeOf given given2 leafType plainly nth unaryType binaryType sumType orderType equalityType logicalType sameType sameTy bind inType inRange
+unfolding readSections readImage wholeLines sectionsOf andThen readTypes readCells signatureOf raws lineOf openLine openLines openTable openSections openOf
+    decode runCode runOperations run operations onto withType valueOf goodLine fits typedAct isType items typeOf given given2 leafType plainly nth unaryType
+    binaryType sumType orderType equalityType logicalType sameType sameTy bind inType inRange
 operator-29 = refl
 
 -- an input that is not there
 input-1 : openOf (set bytes 125 1) ≡ not-opened 13 1
-unfolding readSections readImage wholeLines sectionsOf andThen readTypes readCells signatureOf raws lineOf openLine openLines openTable openSections openOf decode runCode runOperations run operations onto withType valueOf goodLine fits typedAct isType items typeOf given given2 leafType plainly nth unaryType binaryType sumType orderType equalityType logicalType sameType sameTy bind inType inRange
+unfolding readSections readImage wholeLines sectionsOf andThen readTypes readCells signatureOf raws lineOf openLine openLines openTable openSections openOf
+    decode runCode runOperations run operations onto withType valueOf goodLine fits typedAct isType items typeOf given given2 leafType plainly nth unaryType
+    binaryType sumType orderType equalityType logicalType sameType sameTy bind inType inRange
 input-1 = refl
 
 -- a byte more than the last section has
 byte-after-the-end : openOf (bytes ++ (0 ∷ [])) ≡ not-opened 11 0
-unfolding readSections readImage wholeLines sectionsOf andThen readTypes readCells signatureOf raws lineOf openLine openLines openTable openSections openOf decode runCode runOperations run operations onto withType valueOf goodLine fits typedAct isType items typeOf given given2 leafType plainly nth unaryType binaryType sumType orderType equalityType logicalType sameType sameTy bind inType inRange
+unfolding readSections readImage wholeLines sectionsOf andThen readTypes readCells signatureOf raws lineOf openLine openLines openTable openSections openOf
+    decode runCode runOperations run operations onto withType valueOf goodLine fits typedAct isType items typeOf given given2 leafType plainly nth unaryType
+    binaryType sumType orderType equalityType logicalType sameType sameTy bind inType inRange
 byte-after-the-end = refl
 
 -- Refused calls.
 
 -- 15: place 513
 place-513 : cycleOf bytes (placed 513) (pos 7 ∷ []) (pos 99 ∷ []) ≡ turnedBack 15 0 (placed 513) (pos 99 ∷ [])
-unfolding readSections readImage wholeLines sectionsOf andThen readTypes readCells signatureOf raws lineOf openLine openLines openTable openSections openOf decode runCode runOperations run operations onto withType valueOf goodLine fits typedAct isType items typeOf given given2 leafType plainly nth unaryType binaryType sumType orderType equalityType logicalType sameType sameTy bind inType inRange freshOf freshTable stateFor pad memoryOf cycleOf callsOf rowOf rowPlace wrongValue stateOk placeOk slotsOk zeros tableRow tableCycle walk step from then acted tested log perform holds evaluate fold leafValue applyUnary applyBinary unaryResult binaryResult asInteger
+unfolding readSections readImage wholeLines sectionsOf andThen readTypes readCells signatureOf raws lineOf openLine openLines openTable openSections openOf
+    decode runCode runOperations run operations onto withType valueOf goodLine fits typedAct isType items typeOf given given2 leafType plainly nth unaryType
+    binaryType sumType orderType equalityType logicalType sameType sameTy bind inType inRange freshOf freshTable stateFor pad memoryOf cycleOf callsOf rowOf
+    rowPlace wrongValue stateOk placeOk slotsOk zeros tableRow tableCycle walk step from then acted tested log perform holds evaluate fold leafValue
+    applyUnary applyBinary unaryResult binaryResult asInteger
 place-513 = refl
 
 -- 15: the line 0 is no wait
 place-0 : cycleOf bytes (placed 0) (pos 7 ∷ []) (pos 99 ∷ []) ≡ turnedBack 15 0 (placed 0) (pos 99 ∷ [])
-unfolding readSections readImage wholeLines sectionsOf andThen readTypes readCells signatureOf raws lineOf openLine openLines openTable openSections openOf decode runCode runOperations run operations onto withType valueOf goodLine fits typedAct isType items typeOf given given2 leafType plainly nth unaryType binaryType sumType orderType equalityType logicalType sameType sameTy bind inType inRange freshOf freshTable stateFor pad memoryOf cycleOf callsOf rowOf rowPlace wrongValue stateOk placeOk slotsOk zeros tableRow tableCycle walk step from then acted tested log perform holds evaluate fold leafValue applyUnary applyBinary unaryResult binaryResult asInteger
+unfolding readSections readImage wholeLines sectionsOf andThen readTypes readCells signatureOf raws lineOf openLine openLines openTable openSections openOf
+    decode runCode runOperations run operations onto withType valueOf goodLine fits typedAct isType items typeOf given given2 leafType plainly nth unaryType
+    binaryType sumType orderType equalityType logicalType sameType sameTy bind inType inRange freshOf freshTable stateFor pad memoryOf cycleOf callsOf rowOf
+    rowPlace wrongValue stateOk placeOk slotsOk zeros tableRow tableCycle walk step from then acted tested log perform holds evaluate fold leafValue
+    applyUnary applyBinary unaryResult binaryResult asInteger
 place-0 = refl
 
 abbrev wrongSlot : State
@@ -165,15 +203,27 @@ wrongSlot = record { place = 512; outputs = pos 0 ∷ set padding16 3 (pos 1); v
 
 -- 15: an unused slot that is not 0
 unused-slot : cycleOf bytes wrongSlot (pos 7 ∷ []) (pos 99 ∷ []) ≡ turnedBack 15 0 wrongSlot (pos 99 ∷ [])
-unfolding readSections readImage wholeLines sectionsOf andThen readTypes readCells signatureOf raws lineOf openLine openLines openTable openSections openOf decode runCode runOperations run operations onto withType valueOf goodLine fits typedAct isType items typeOf given given2 leafType plainly nth unaryType binaryType sumType orderType equalityType logicalType sameType sameTy bind inType inRange freshOf freshTable stateFor pad memoryOf cycleOf callsOf rowOf rowPlace wrongValue stateOk placeOk slotsOk zeros tableRow tableCycle walk step from then acted tested log perform holds evaluate fold leafValue applyUnary applyBinary unaryResult binaryResult asInteger
+unfolding readSections readImage wholeLines sectionsOf andThen readTypes readCells signatureOf raws lineOf openLine openLines openTable openSections openOf
+    decode runCode runOperations run operations onto withType valueOf goodLine fits typedAct isType items typeOf given given2 leafType plainly nth unaryType
+    binaryType sumType orderType equalityType logicalType sameType sameTy bind inType inRange freshOf freshTable stateFor pad memoryOf cycleOf callsOf rowOf
+    rowPlace wrongValue stateOk placeOk slotsOk zeros tableRow tableCycle walk step from then acted tested log perform holds evaluate fold leafValue
+    applyUnary applyBinary unaryResult binaryResult asInteger
 unused-slot = refl
 
 -- 14 before 15: an input row longer than its count, and place 513
 row-too-long : cycleOf bytes (placed 513) (pos 7 ∷ pos 7 ∷ []) (pos 99 ∷ []) ≡ turnedBack 14 0 (placed 513) (pos 99 ∷ [])
-unfolding readSections readImage wholeLines sectionsOf andThen readTypes readCells signatureOf raws lineOf openLine openLines openTable openSections openOf decode runCode runOperations run operations onto withType valueOf goodLine fits typedAct isType items typeOf given given2 leafType plainly nth unaryType binaryType sumType orderType equalityType logicalType sameType sameTy bind inType inRange freshOf freshTable stateFor pad memoryOf cycleOf callsOf rowOf rowPlace wrongValue stateOk placeOk slotsOk zeros tableRow tableCycle walk step from then acted tested log perform holds evaluate fold leafValue applyUnary applyBinary unaryResult binaryResult asInteger
+unfolding readSections readImage wholeLines sectionsOf andThen readTypes readCells signatureOf raws lineOf openLine openLines openTable openSections openOf
+    decode runCode runOperations run operations onto withType valueOf goodLine fits typedAct isType items typeOf given given2 leafType plainly nth unaryType
+    binaryType sumType orderType equalityType logicalType sameType sameTy bind inType inRange freshOf freshTable stateFor pad memoryOf cycleOf callsOf rowOf
+    rowPlace wrongValue stateOk placeOk slotsOk zeros tableRow tableCycle walk step from then acted tested log perform holds evaluate fold leafValue
+    applyUnary applyBinary unaryResult binaryResult asInteger
 row-too-long = refl
 
 -- 14: an input value outside integer, at its index
 input-out-of-range : cycleOf bytes (begun) (pos 2147483648 ∷ []) (pos 99 ∷ []) ≡ turnedBack 14 0 (begun) (pos 99 ∷ [])
-unfolding readSections readImage wholeLines sectionsOf andThen readTypes readCells signatureOf raws lineOf openLine openLines openTable openSections openOf decode runCode runOperations run operations onto withType valueOf goodLine fits typedAct isType items typeOf given given2 leafType plainly nth unaryType binaryType sumType orderType equalityType logicalType sameType sameTy bind inType inRange freshOf freshTable stateFor pad memoryOf cycleOf callsOf rowOf rowPlace wrongValue stateOk placeOk slotsOk zeros tableRow tableCycle walk step from then acted tested log perform holds evaluate fold leafValue applyUnary applyBinary unaryResult binaryResult asInteger
+unfolding readSections readImage wholeLines sectionsOf andThen readTypes readCells signatureOf raws lineOf openLine openLines openTable openSections openOf
+    decode runCode runOperations run operations onto withType valueOf goodLine fits typedAct isType items typeOf given given2 leafType plainly nth unaryType
+    binaryType sumType orderType equalityType logicalType sameType sameTy bind inType inRange freshOf freshTable stateFor pad memoryOf cycleOf callsOf rowOf
+    rowPlace wrongValue stateOk placeOk slotsOk zeros tableRow tableCycle walk step from then acted tested log perform holds evaluate fold leafValue
+    applyUnary applyBinary unaryResult binaryResult asInteger
 input-out-of-range = refl

@@ -10,12 +10,10 @@ use lib.ListN.{length, getD, take, drop, length-append, length-drop, take-append
 use lib.Seq.{length-take-le, take-append-seam, drop-append-seam}
 use lib.Dec.{ltb, leb, eqb}
 use borrow.Author.Tests.{leb-true, le-leb, ltb-true}
-use Rattle.spec_design.specs.Types.{Ty, ExprTy}
-use Rattle.spec_design.specs.Expression.{Expr, items, typeOf}
+use Rattle.spec_design.specs.Types.{Ty}
 use Rattle.spec_design.specs.Statement.{output, variable, null}
-use Rattle.spec_design.specs.Process.{isType, fits, typedAct}
-use Rattle.spec_design.proofs.Types.{sameType-eq}
-use Rattle.spec_semantics.proofs.Basic.{false-true, none-some, some-injective, eqb-true, eqb-same, and-left, and-right}
+use Rattle.spec_design.specs.Process.{typedAct}
+use Rattle.spec_semantics.proofs.Basic.{false-true, none-some, some-injective, eqb-true, eqb-same, and-left, and-right, cond-case}
 use Rattle.spec_format.specs.Words.{Bytes, onlyIf}
 use Rattle.spec_format.specs.Code.{code, decode}
 use Rattle.spec_format.specs.Signature.{Signature, types}
@@ -24,8 +22,9 @@ use Rattle.spec_format.specs.Image.{RawLine, rawBytes, rawsBytes, lineCo
 use Rattle.spec_format.specs.Good.{fitsLine, within, goodLine, GoodLines}
 use Rattle.spec_format.specs.Opening.{rawAt, raws, isEmpty, lineOf, openLine, Lined, lined, bad-at, with, goOn, openLines, rawReaches}
 use Rattle.spec_format.proofs.Words.{word2-bytes2, bytes2-front, word2-small, byte-at, bytes-take, bytes-drop}
-use Rattle.spec_format.proofs.Basic.{andThen-some, map-some, onlyIf-some, cond-case}
+use Rattle.spec_format.proofs.Basic.{andThen-some, map-some, onlyIf-some}
 use Rattle.spec_format.proofs.Decoding.{decode-code, decode-back}
+use Rattle.spec_semantics.proofs.Typed.{fits-type}
 
 -- A line's fields.
 
@@ -65,16 +64,6 @@ raw-place p (acts (output k e) f) q = (refl, refl, refl)
 raw-place p (acts (variable k e) f) q = (refl, refl, refl)
 raw-place p (acts null f) q = (refl, refl, refl)
 raw-place p (branches e f g) q = (refl, refl, refl)
-
--- an expression that fits has the type that is needed
-pub fits-type : (is vs : List Ty) (e : Expr) (t : Option ExprTy) → fits is vs e t ≡ true → (u : ExprTy) × (typeOf is vs e ≡ some u) × (t ≡ some u)
-unfolding fits
-fits-type is vs e t h = go (typeOf is vs e) t (and-right (leb (items e) 64) _ h)
-  where
-    go : (o q : Option ExprTy) → isType o q ≡ true → (u : ExprTy) × (o ≡ some u) × (q ≡ some u)
-    go none q h = unfold isType in false-true h
-    go (some u) none h = unfold isType in false-true h
-    go (some u) (some v) h = unfold isType in (u, refl, ap some (sym (sameType-eq u v h)))
 
 -- A good line is read back from its fields and its code.
 

@@ -64,7 +64,8 @@ bytes =
     ∷ 0 ∷ 21 ∷ 4 ∷ 1 ∷ 16 ∷ 4 ∷ 1 ∷ 3 ∷ 1 ∷ 18 ∷ []
 
 mixed-bytes : encode mixed ≡ bytes
-unfolding encode encodeTable form1 sectionsFor tableOf signatureFor image pairs joined signatureBytes typeBytes cellBytes rawsBytes rawsOf rawOf lineCode linesCode code post operationBytes linesOf lines reachesOf reaches entry size mixed
+unfolding encode encodeTable form1 sectionsFor tableOf signatureFor image pairs joined signatureBytes typeBytes cellBytes rawsBytes rawsOf rawOf lineCode
+    linesCode code post operationBytes linesOf lines reachesOf reaches entry size mixed
 mixed-bytes = refl
 
 mixed-reaches : tableOf mixed .reaches ≡ 4 ∷ 3 ∷ 3 ∷ 2 ∷ 0 ∷ 1 ∷ 0 ∷ 1 ∷ 0 ∷ []
@@ -72,5 +73,8 @@ unfolding mixed tableOf reachesOf entry reaches
 mixed-reaches = refl
 
 mixed-opens : openOf bytes ≡ opened (tableOf mixed)
-unfolding readSections readImage wholeLines sectionsOf andThen readTypes readCells signatureOf raws lineOf openLine openLines openTable openSections openOf decode runCode runOperations run operations onto withType valueOf goodLine fits typedAct isType items typeOf given given2 leafType plainly nth unaryType binaryType sumType orderType equalityType logicalType sameType sameTy bind inType inRange mixed tableOf signatureFor linesOf lines reachesOf reaches entry size
+unfolding readSections readImage wholeLines sectionsOf andThen readTypes readCells signatureOf raws lineOf openLine openLines openTable openSections openOf
+    decode runCode runOperations run operations onto withType valueOf goodLine fits typedAct isType items typeOf given given2 leafType plainly nth unaryType
+    binaryType sumType orderType equalityType logicalType sameType sameTy bind inType inRange mixed tableOf signatureFor linesOf lines reachesOf reaches
+    entry size
 mixed-opens = refl

@@ -48,10 +48,12 @@ module _ (image : List ℕ) where
       let f = length-drop o os in
       let a : r .row ≡ take o os = refused-untouched s (take o os) image (take i is) (x .0 .0) (x .0 .1) (x .0 .2) .1 in
       let b = rows-kept n i o (r .state) (drop i is) (drop o os) (omega arith) (x .1) in
-      ap (λ (l : List ℤ). l ++ rowsLeft (callsOf image (r .state) (callsIn n i o (drop i is) (drop o os)))) a ∙ (ap (λ (l : List ℤ). take o os ++ l) b ∙ take-append-drop o os)
+      ap (λ (l : List ℤ). l ++ rowsLeft (callsOf image (r .state) (callsIn n i o (drop i is) (drop o os)))) a
+      ∙ (ap (λ (l : List ℤ). take o os ++ l) b ∙ take-append-drop o os)
 
 -- A call of which no row was performed leaves the state as it came.
-pub not-moved : (b : List ℕ) (s : State) (n : ℕ) (is os : List ℤ) (ns : List ℕ) → isMoved (batchOf b s n is os ns .answer) ≡ false → batchOf b s n is os ns .state ≡ s
+pub not-moved : (b : List ℕ) (s : State) (n : ℕ) (is os : List ℤ) (ns : List ℕ) → isMoved (batchOf b s n is os ns .answer) ≡ false
+    → batchOf b s n is os ns .state ≡ s
 unfolding batchOf
 not-moved b s n is os ns = by (openOf b)
   where
@@ -62,6 +64,7 @@ not-moved b s n is os ns = by (openOf b)
         cs : List Call
         cs = callsIn n (length (t .signature .inputs)) (length (t .signature .outputs)) is os
 
-        held : (d : Bool) → isMoved (laidOut (cond d (done (callsOf b s cs)) (refusal 17 0)) s os ns .answer) ≡ false → laidOut (cond d (done (callsOf b s cs)) (refusal 17 0)) s os ns .state ≡ s
+        held : (d : Bool) → isMoved (laidOut (cond d (done (callsOf b s cs)) (refusal 17 0)) s os ns .answer) ≡ false
+            → laidOut (cond d (done (callsOf b s cs)) (refusal 17 0)) s os ns .state ≡ s
         held true f = state-kept b s cs f
         held false f = refl

@@ -10,7 +10,7 @@ use lib.IntN.{ℤ, pos, negsuc}
 use lib.Dec.{ltb, leb}
 use borrow.Author.Tests.{ltb-true, ltb-false, leb-true, lt-ltb, le-ltb, le-leb}
 use Rattle.spec_design.specs.Types.{Ty, std-logic, integer, eqZ, inRange, inType}
-use Rattle.spec_semantics.proofs.Basic.{false-true, eqb-true, and-left, eqZ-true}
+use Rattle.spec_semantics.proofs.Basic.{and-left, eqZ-true}
 use Rattle.spec_format.specs.Words.{Bytes, word2, word4, bytes2, bytes4}
 use Rattle.spec_semantics.specs.Twos.{signed32, unsigned32}
 

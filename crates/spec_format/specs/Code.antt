@@ -96,7 +96,8 @@ operator k = applying (unaryFor k) (binaryFor k)
 -- the operation that begins with the byte k
 abbrev pub readOperation : ℕ → List ℕ → Taken
 readOperation k s =
-    cond (eqb k O.INTEGER) (readInt s) (cond (eqb k O.STD-LOGIC) (readBit s) (cond (eqb k O.INPUT) (readName input s) (cond (eqb k O.VARIABLE) (readName variable s)
+    cond (eqb k O.INTEGER) (readInt s) (cond (eqb k O.STD-LOGIC) (readBit s)
+    (cond (eqb k O.INPUT) (readName input s) (cond (eqb k O.VARIABLE) (readName variable s)
     (Option·map (λ i. (i, s)) (operator k)))))
 
 -- the operations of code bytes; the number bounds how many are read

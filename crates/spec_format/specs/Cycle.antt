@@ -1,6 +1,6 @@
 -- One call of the cycle on an image: its answer, and state and output row as they are left (document 01, "State", "Turned back"). Assumes nothing.
 use mathlib.Core.Bool.{cond, _&&_}
-use mathlib.Core.Option.{Option, none, some}
+use mathlib.Core.Option.{Option, some}
 use mathlib.Core.List.{List, [], _∷_}
 use Prim.Native.Nat.{ℕ}
 use lib.ListN.{length}
@@ -22,7 +22,7 @@ unfoldable pub rowPlace : Signature → List ℤ → ℕ → Option ℕ
 rowPlace σ i n = cond (eqb (length i) (length (σ .inputs)) && eqb n (length (σ .outputs))) (wrongValue (σ .inputs) i 0) (some 0)
 
 -- "The wait reached becomes the place ..; the output row gets all outputs"; 16 or 18 at its line. That a cycle of an opened image is never passed is
--- `image-outcome` of the crate `images`.
+-- `image-outcome` of the crate spec_simulation.
 abbrev pub ended : Result → State → List ℤ → Called
 ended (passed τ) s o = record { answer = performed (τ .way); state = stateFor 512 (τ .memory); row = τ .memory .outputs }
 ended (reached p τ) s o = record { answer = performed (τ .way); state = stateFor p (τ .memory); row = τ .memory .outputs }

@@ -68,7 +68,8 @@ module _ {C : Type 0} (μ : Machine C) (Fits : Meter → C → Type 0) (P : Mete
   along ts es c s l f w = (ends-well ts es c s l f w, ended-well ts es c s l f)
 
   -- The same of a text, where the machine walks its tree.
-  pub text-along : (ts : List Token) (es : List Mark) (t : Text) → Reads text ts es t → (s : C) → Fits zeroes s → Well s → Along P zeroes ts es ↔ Well (onText μ t s)
+  pub text-along : (ts : List Token) (es : List Mark) (t : Text) → Reads text ts es t → (s : C) → Fits zeroes s → Well s
+      → Along P zeroes ts es ↔ Well (onText μ t s)
   text-along ts es t r s f w =
       let l : length es ≡ length ts = ap length (sym (r .marked)) ∙ (mark-length (r .tree) ∙ ap length (r .spanned)) in
       rw (← text-walked μ ts es t r s) (along ts es zeroes s l f w)
@@ -82,6 +83,7 @@ any-kind true b c = refl
 any-kind false true c = refl
 any-kind false false c = refl
 
-pub follows-marks : {C : Type 0} (act : Mark → C → C) (Fits : Meter → C → Type 0) (P : Meter → Type 0) (Well : C → Type 0) → FollowsAll (λ m x s. act m s) Fits P Well → FollowsAll (stepOf (byMarks act)) Fits P Well
+pub follows-marks : {C : Type 0} (act : Mark → C → C) (Fits : Meter → C → Type 0) (P : Meter → Type 0) (Well : C → Type 0)
+    → FollowsAll (λ m x s. act m s) Fits P Well → FollowsAll (stepOf (byMarks act)) Fits P Well
 follows-marks act Fits P Well h c s f m x =
     subst (λ (t : _). Follows Fits P Well s t (tick c m x)) (sym (any-kind (eqb (x .kind) NAME) (eqb (x .kind) NUMBER) (act m s))) (h c s f m x)

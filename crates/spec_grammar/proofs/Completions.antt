@@ -19,7 +19,8 @@ trySyms rec (tk m k ∷ γ) = andAlso (trySyms rec γ) (λ ds. some (token (reco
 trySyms rec (nt M ∷ γ) = andAlso (rec M) (λ d. andAlso (trySyms rec γ) (λ ds. some (child d ds)))
 
 -- a nonterminal's first production that a text is found for
-tryRules : {M : NonTerminal} → ((A : NonTerminal) → Option (Tree A)) → (rs : List (Production M)) → ((r : Production M) → r ∈ rs → r ∈ productions M) → Option (Tree M)
+tryRules : {M : NonTerminal} → ((A : NonTerminal) → Option (Tree A)) → (rs : List (Production M)) → ((r : Production M) → r ∈ rs → r ∈ productions M)
+    → Option (Tree M)
 tryRules rec [] inc = none
 tryRules rec (r ∷ rs) inc =
     elim (trySyms rec (r .rhs)) [ some ds ↦ some (by r (inc r here) ds) | none ↦ tryRules rec rs (λ q m. inc q (there m)) ]

@@ -26,7 +26,8 @@ whole (got a c ts) k = k a c ts
 whole (not-got ts) k = refused ts
 whole (past ts) k = limited ts
 
-pub whole-next : {A B D : Type 0} (g : Got A) (f : A → Meter → List Token → Got B) (k : B → Meter → List Token → Outcome D) → whole (next g f) k ≡ whole g (λ a c ts. whole (f a c ts) k)
+pub whole-next : {A B D : Type 0} (g : Got A) (f : A → Meter → List Token → Got B) (k : B → Meter → List Token → Outcome D)
+    → whole (next g f) k ≡ whole g (λ a c ts. whole (f a c ts) k)
 unfolding whole next
 whole-next (got a c ts) f k = refl
 whole-next (not-got ts) f k = refl
@@ -37,13 +38,15 @@ All P (got a c ts) = P ts
 All P (not-got ts) = Unit {0}
 All P (past ts) = Unit {0}
 
-pub whole-same : {A B : Type 0} (P : List Token → Type 0) (g : Got A) (k k′ : A → Meter → List Token → Outcome B) → All P g → ((a : A) (c : Meter) (ts : List Token) → P ts → k a c ts ≡ k′ a c ts) → whole g k ≡ whole g k′
+pub whole-same : {A B : Type 0} (P : List Token → Type 0) (g : Got A) (k k′ : A → Meter → List Token → Outcome B) → All P g
+    → ((a : A) (c : Meter) (ts : List Token) → P ts → k a c ts ≡ k′ a c ts) → whole g k ≡ whole g k′
 unfolding whole
 whole-same P (got a c ts) k k′ p h = h a c ts p
 whole-same P (not-got ts) k k′ p h = refl
 whole-same P (past ts) k k′ p h = refl
 
-pub all-next : {A B : Type 0} (P Q : List Token → Type 0) (g : Got A) (f : A → Meter → List Token → Got B) → All P g → ((a : A) (c : Meter) (ts : List Token) → P ts → All Q (f a c ts)) → All Q (next g f)
+pub all-next : {A B : Type 0} (P Q : List Token → Type 0) (g : Got A) (f : A → Meter → List Token → Got B) → All P g
+    → ((a : A) (c : Meter) (ts : List Token) → P ts → All Q (f a c ts)) → All Q (next g f)
 unfolding next
 all-next P Q (got a c ts) f p h = h a c ts p
 all-next P Q (not-got ts) f p h = tt
@@ -53,7 +56,8 @@ all-next P Q (past ts) f p h = tt
 abbrev pub Shorter : List Token → List Token → Type 0
 Shorter ts us = length us < length ts
 
-one-case : (lim : Meter → Bool) (m : Mark) (k : ℕ) (c : Meter) (x : Token) (ts : List Token) (b d : Bool) → All (Shorter (x ∷ ts)) (choose b (choose d (past (x ∷ ts)) (got x (tick c m x) ts)) (not-got (x ∷ ts)))
+one-case : (lim : Meter → Bool) (m : Mark) (k : ℕ) (c : Meter) (x : Token) (ts : List Token) (b d : Bool)
+    → All (Shorter (x ∷ ts)) (choose b (choose d (past (x ∷ ts)) (got x (tick c m x) ts)) (not-got (x ∷ ts)))
 one-case lim m k c x ts true true = tt
 one-case lim m k c x ts true false = omega arith
 one-case lim m k c x ts false d = tt
@@ -63,12 +67,15 @@ unfolding one
 one-shorter lim m k c [] = tt
 one-shorter lim m k c (x ∷ ts) = one-case lim m k c x ts (eqb (x .kind) k) (lim (tick c m x))
 
-pub one-whole : (lim : Meter → Bool) (m : Mark) (k : ℕ) (c : Meter) (ts : List Token) (S : NonTerminal) (γ : List Sym) (κ : Token → Fun γ (Says S)) → run lim ts S c (tk m k ∷ γ) κ ≡ whole (one lim m k c ts) (λ v c′ ts′. run lim ts′ S c′ γ (κ v))
+pub one-whole : (lim : Meter → Bool) (m : Mark) (k : ℕ) (c : Meter) (ts : List Token) (S : NonTerminal) (γ : List Sym) (κ : Token → Fun γ (Says S))
+    → run lim ts S c (tk m k ∷ γ) κ ≡ whole (one lim m k c ts) (λ v c′ ts′. run lim ts′ S c′ γ (κ v))
 unfolding one whole keep
 one-whole lim m k c [] S γ κ = missing lim S c (tk m k) γ κ
 one-whole lim m k c (x ∷ ts) S γ κ = go (eqb (x .kind) k) refl (lim (tick c m x)) refl
   where
-    go : (b : Bool) → eqb (x .kind) k ≡ b → (d : Bool) → lim (tick c m x) ≡ d → run lim (x ∷ ts) S c (tk m k ∷ γ) κ ≡ whole (choose b (choose d (past (x ∷ ts)) (got x (tick c m x) ts)) (not-got (x ∷ ts))) (λ v c′ ts′. run lim ts′ S c′ γ (κ v))
+    go : (b : Bool) → eqb (x .kind) k ≡ b → (d : Bool) → lim (tick c m x) ≡ d
+        → run lim (x ∷ ts) S c (tk m k ∷ γ) κ ≡ whole (choose b (choose d (past (x ∷ ts)) (got x (tick c m x) ts)) (not-got (x ∷ ts)))
+        (λ v c′ ts′. run lim ts′ S c′ γ (κ v))
     go true e true w = taken lim x ts S c m k γ κ e ∙ ap (λ (b : Bool). keep (x ∷ ts) b (run lim ts S (tick c m x) γ (κ x))) w
     go true e false w = taken lim x ts S c m k γ κ e ∙ ap (λ (b : Bool). keep (x ∷ ts) b (run lim ts S (tick c m x) γ (κ x))) w
     go false e d w = not-taken lim x ts S c m k γ κ e
@@ -80,7 +87,8 @@ some-same a b e = cc
 none-some : {A : Type 0} (a : A) → none ≡ some a → ⊥
 none-some a e = let z : _≡_ {A = ℕ} 0 1 = cc in omega arith
 
-ofEmpty-is : (M : NonTerminal) (v : Says M) (δ : List Sym) (f : Fun δ (Says M)) (o : Option (Says M)) → ofEmpty M δ f o ≡ some v → (_≡_ {A = Production M} (δ ↠ f) ([] ↠ v)) ⊎ (o ≡ some v)
+ofEmpty-is : (M : NonTerminal) (v : Says M) (δ : List Sym) (f : Fun δ (Says M)) (o : Option (Says M)) → ofEmpty M δ f o ≡ some v
+    → (_≡_ {A = Production M} (δ ↠ f) ([] ↠ v)) ⊎ (o ≡ some v)
 unfolding ofEmpty
 ofEmpty-is M v [] f o e = inl (ap (λ (u : Says M). _↠_ {M = M} [] u) (some-same f v e))
 ofEmpty-is M v (s ∷ δ) f o e = inr e
@@ -116,26 +124,32 @@ moves-moves a b ts ts′ us (inl p) q = shorter-moves b (a && b) ts ts′ us p q
 moves-moves a b ts ts′ us (inr p) (inl q) = inl (subst (λ (l : List Token). length us < length l) (p .0) q)
 moves-moves a b ts ts′ us (inr p) (inr q) = inr (q .0 ∙ p .0, both a b (p .1) (q .1))
 
-module _ (lim : Meter → Bool) (rec : (M : NonTerminal) → Meter → List Token → Got (Says M)) (moves : (A : NonTerminal) (c : Meter) (ts : List Token) → All (Moves (nullable A) ts) (rec A c ts)) where
+module _ (lim : Meter → Bool) (rec : (M : NonTerminal) → Meter → List Token → Got (Says M))
+    (moves : (A : NonTerminal) (c : Meter) (ts : List Token) → All (Moves (nullable A) ts) (rec A c ts)) where
   each-moves : (M : NonTerminal) (δ : List Sym) (f : Fun δ (Says M)) (c : Meter) (ts : List Token) → All (Moves (nullables δ) ts) (each lim rec M δ f c ts)
   unfolding each nullables
   each-moves M [] f c ts = inr (refl, tt)
   each-moves M (tk m k ∷ δ) f c ts =
       all-next (Shorter ts) (Moves false ts) (one lim m k c ts) (λ v c′ ts′. each lim rec M δ (f v) c′ ts′) (one-shorter lim m k c ts)
-      (λ v c′ ts′ p. all-map (Moves (nullables δ) ts′) (Moves false ts) (λ us q. shorter-moves (nullables δ) false ts ts′ us p q) (each lim rec M δ (f v) c′ ts′) (each-moves M δ (f v) c′ ts′))
+      (λ v c′ ts′ p. all-map (Moves (nullables δ) ts′) (Moves false ts) (λ us q. shorter-moves (nullables δ) false ts ts′ us p q)
+      (each lim rec M δ (f v) c′ ts′) (each-moves M δ (f v) c′ ts′))
   each-moves M (nt A ∷ δ) f c ts =
       all-next (Moves (nullable A) ts) (Moves (nullable A && nullables δ) ts) (rec A c ts) (λ v c′ ts′. each lim rec M δ (f v) c′ ts′) (moves A c ts)
-      (λ v c′ ts′ p. all-map (Moves (nullables δ) ts′) (Moves (nullable A && nullables δ) ts) (λ us q. moves-moves (nullable A) (nullables δ) ts ts′ us p q) (each lim rec M δ (f v) c′ ts′) (each-moves M δ (f v) c′ ts′))
+      (λ v c′ ts′ p. all-map (Moves (nullables δ) ts′) (Moves (nullable A && nullables δ) ts) (λ us q. moves-moves (nullable A) (nullables δ) ts ts′ us p q)
+      (each lim rec M δ (f v) c′ ts′) (each-moves M δ (f v) c′ ts′))
 
-  leave-moves : (M : NonTerminal) (c : Meter) (ts : List Token) (o : Option (Says M)) → emptyRule (productions M) ≡ o → All (Moves (nullable M) ts) (leave o c ts)
+  leave-moves : (M : NonTerminal) (c : Meter) (ts : List Token) (o : Option (Says M)) → emptyRule (productions M) ≡ o
+      → All (Moves (nullable M) ts) (leave o c ts)
   unfolding leave nullables
   leave-moves M c ts none e = tt
   leave-moves M c ts (some v) e = inr (refl, vanishes (empty-is M v (productions M) e) tt)
 
-  chosen-moves : (M : NonTerminal) (c : Meter) (ts : List Token) (k : ℕ) (p : Pick M) → pick (productions M) k ≡ p → All (Moves (nullable M) ts) (chosenRule lim rec M c ts p)
+  chosen-moves : (M : NonTerminal) (c : Meter) (ts : List Token) (k : ℕ) (p : Pick M) → pick (productions M) k ≡ p
+      → All (Moves (nullable M) ts) (chosenRule lim rec M c ts p)
   unfolding chosenRule
   chosen-moves M c ts k no-rule e = leave-moves M c ts (emptyRule (productions M)) refl
-  chosen-moves M c ts k (take r) e = all-map (Moves (nullables (r .rhs)) ts) (Moves (nullable M) ts) (λ us q. go us q) (each lim rec M (r .rhs) (r .says) c ts) (each-moves M (r .rhs) (r .says) c ts)
+  chosen-moves M c ts k (take r) e = all-map (Moves (nullables (r .rhs)) ts) (Moves (nullable M) ts) (λ us q. go us q) (each lim rec M (r .rhs) (r .says) c ts)
+      (each-moves M (r .rhs) (r .says) c ts)
     where
       go : (us : List Token) → Moves (nullables (r .rhs)) ts us → Moves (nullable M) ts us
       go us (inl q) = inl q
@@ -153,7 +167,8 @@ descend-moves (suc n) lim A c ts = headed-moves lim (descend n lim) (descend-mov
 
 -- The descent at M, from c and ts, is what run does, whatever is to come.
 abbrev pub Does : (Meter → Bool) → (M : NonTerminal) → Meter → List Token → Got (Says M) → Type 0
-Does lim M c ts g = (S : NonTerminal) (γ : List Sym) (κ : Says M → Fun γ (Says S)) → Ok (nt M ∷ γ) → run lim ts S c (nt M ∷ γ) κ ≡ whole g (λ v c′ ts′. run lim ts′ S c′ γ (κ v))
+Does lim M c ts g = (S : NonTerminal) (γ : List Sym) (κ : Says M → Fun γ (Says S)) → Ok (nt M ∷ γ)
+    → run lim ts S c (nt M ∷ γ) κ ≡ whole g (λ v c′ ts′. run lim ts′ S c′ γ (κ v))
 
 -- deep enough for δ: by rank, as long as nothing is read, and after that in any case
 abbrev Enough : ℕ → ℕ → List Sym → List Token → Type 0
@@ -185,18 +200,24 @@ enough-part n r A δ ts us l (inl p) (inr h) =
     (inl (if-so (nullable A) (lead r δ) (and-right (ltb (rank A) r) (choose (nullable A) (lead r δ) true) (p .0)) (h .1), p .1))
 enough-part n r A δ ts us l (inr p) (inr h) = subst (λ (t : List Token). Enough n r δ t) (sym (h .0)) (inr p)
 
-module _ (lim : Meter → Bool) (n : ℕ) (rec : (M : NonTerminal) → Meter → List Token → Got (Says M)) (moves : (A : NonTerminal) (c : Meter) (ts : List Token) → All (Moves (nullable A) ts) (rec A c ts)) (does : (A : NonTerminal) (c : Meter) (ts : List Token) → 8 * length ts + rank A < n → Does lim A c ts (rec A c ts)) where
-  each-does : (M : NonTerminal) (r : ℕ) → r ≤ 8 → (δ : List Sym) (f : Fun δ (Says M)) (c : Meter) (ts : List Token) → Enough n r δ ts → (S : NonTerminal) (γ : List Sym) (κ : Says M → Fun γ (Says S)) → Ok (δ ++ γ) → run lim ts S c (δ ++ γ) (compose M S δ γ f κ) ≡ whole (each lim rec M δ f c ts) (λ v c′ ts′. run lim ts′ S c′ γ (κ v))
+module _ (lim : Meter → Bool) (n : ℕ) (rec : (M : NonTerminal) → Meter → List Token → Got (Says M))
+    (moves : (A : NonTerminal) (c : Meter) (ts : List Token) → All (Moves (nullable A) ts) (rec A c ts))
+    (does : (A : NonTerminal) (c : Meter) (ts : List Token) → 8 * length ts + rank A < n → Does lim A c ts (rec A c ts)) where
+  each-does : (M : NonTerminal) (r : ℕ) → r ≤ 8 → (δ : List Sym) (f : Fun δ (Says M)) (c : Meter) (ts : List Token) → Enough n r δ ts
+      → (S : NonTerminal) (γ : List Sym) (κ : Says M → Fun γ (Says S)) → Ok (δ ++ γ)
+      → run lim ts S c (δ ++ γ) (compose M S δ γ f κ) ≡ whole (each lim rec M δ f c ts) (λ v c′ ts′. run lim ts′ S c′ γ (κ v))
   unfolding each compose whole
   each-does M r l [] f c ts e S γ κ o = refl
   each-does M r l (tk m k ∷ δ) f c ts e S γ κ o =
       one-whole lim m k c ts S (δ ++ γ) (λ v. compose M S δ γ (f v) κ)
-      ∙ (whole-same (Shorter ts) (one lim m k c ts) (λ v c′ ts′. run lim ts′ S c′ (δ ++ γ) (compose M S δ γ (f v) κ)) (λ v c′ ts′. whole (each lim rec M δ (f v) c′ ts′) (λ u c″ ts″. run lim ts″ S c″ γ (κ u))) (one-shorter lim m k c ts)
+      ∙ (whole-same (Shorter ts) (one lim m k c ts) (λ v c′ ts′. run lim ts′ S c′ (δ ++ γ) (compose M S δ γ (f v) κ))
+      (λ v c′ ts′. whole (each lim rec M δ (f v) c′ ts′) (λ u c″ ts″. run lim ts″ S c″ γ (κ u))) (one-shorter lim m k c ts)
       (λ v c′ ts′ p. each-does M r l δ (f v) c′ ts′ (enough-token n r (tk m k ∷ δ) δ ts ts′ l e p) S γ κ o)
       ∙ sym (whole-next (one lim m k c ts) (λ v c′ ts′. each lim rec M δ (f v) c′ ts′) (λ u c″ ts″. run lim ts″ S c″ γ (κ u))))
   each-does M r l (nt A ∷ δ) f c ts e S γ κ o =
       does A c ts (enough-rec n r A δ ts e) S (δ ++ γ) (λ v. compose M S δ γ (f v) κ) o
-      ∙ (whole-same (Moves (nullable A) ts) (rec A c ts) (λ v c′ ts′. run lim ts′ S c′ (δ ++ γ) (compose M S δ γ (f v) κ)) (λ v c′ ts′. whole (each lim rec M δ (f v) c′ ts′) (λ u c″ ts″. run lim ts″ S c″ γ (κ u))) (moves A c ts)
+      ∙ (whole-same (Moves (nullable A) ts) (rec A c ts) (λ v c′ ts′. run lim ts′ S c′ (δ ++ γ) (compose M S δ γ (f v) κ))
+      (λ v c′ ts′. whole (each lim rec M δ (f v) c′ ts′) (λ u c″ ts″. run lim ts″ S c″ γ (κ u))) (moves A c ts)
       (λ v c′ ts′ p. each-does M r l δ (f v) c′ ts′ (enough-part n r A δ ts ts′ l e p) S γ κ (o .2))
       ∙ sym (whole-next (rec A c ts) (λ v c′ ts′. each lim rec M δ (f v) c′ ts′) (λ u c″ ts″. run lim ts″ S c″ γ (κ u))))
 
@@ -205,12 +226,14 @@ module _ (lim : Meter → Bool) (n : ℕ) (rec : (M : NonTerminal) → Meter →
   end-does M c none e S γ κ o = missing lim S c (nt M) γ κ
   end-does M c (some v) e S γ κ o = left-out-end lim S c M γ κ o v (empty-is M v (productions M) e)
 
-  leave-does : (M : NonTerminal) (c : Meter) (x : Token) (ts : List Token) → pick (productions M) (x .kind) ≡ no-rule → (o : Option (Says M)) → emptyRule (productions M) ≡ o → Does lim M c (x ∷ ts) (leave o c (x ∷ ts))
+  leave-does : (M : NonTerminal) (c : Meter) (x : Token) (ts : List Token) → pick (productions M) (x .kind) ≡ no-rule → (o : Option (Says M))
+      → emptyRule (productions M) ≡ o → Does lim M c (x ∷ ts) (leave o c (x ∷ ts))
   unfolding leave whole
   leave-does M c x ts q none e S γ κ o = run-stuck lim S c M γ κ x ts q
   leave-does M c x ts q (some v) e S γ κ o = left-out-at lim S c M γ κ o v (empty-is M v (productions M) e) x ts q
 
-  chosen-does : (M : NonTerminal) (c : Meter) (x : Token) (ts : List Token) → 8 * length (x ∷ ts) + rank M ≤ n → (p : Pick M) → pick (productions M) (x .kind) ≡ p → Does lim M c (x ∷ ts) (chosenRule lim rec M c (x ∷ ts) p)
+  chosen-does : (M : NonTerminal) (c : Meter) (x : Token) (ts : List Token) → 8 * length (x ∷ ts) + rank M ≤ n → (p : Pick M)
+      → pick (productions M) (x .kind) ≡ p → Does lim M c (x ∷ ts) (chosenRule lim rec M c (x ∷ ts) p)
   unfolding chosenRule
   chosen-does M c x ts b no-rule e S γ κ o = leave-does M c x ts e (emptyRule (productions M)) refl S γ κ o
   chosen-does M c x ts b (take r) e S γ κ o =
@@ -231,7 +254,8 @@ module _ (lim : Meter → Bool) (n : ℕ) (rec : (M : NonTerminal) → Meter →
   headed-does M c [] b S γ κ o = end-does M c (emptyRule (productions M)) refl S γ κ o
   headed-does M c (x ∷ ts) b S γ κ o = chosen-does M c x ts (omega arith) (pick (productions M) (x .kind)) refl S γ κ o
 
-pub descend-does : (n : ℕ) (lim : Meter → Bool) (M : NonTerminal) (c : Meter) (ts : List Token) → 8 * length ts + rank M < n → Does lim M c ts (descend n lim M c ts)
+pub descend-does : (n : ℕ) (lim : Meter → Bool) (M : NonTerminal) (c : Meter) (ts : List Token) → 8 * length ts + rank M < n
+    → Does lim M c ts (descend n lim M c ts)
 unfolding descend
 descend-does zero lim M c ts b S γ κ o = absurd (below b)
   where
@@ -254,9 +278,12 @@ anything (got a c ts) = tt
 anything (not-got ts) = tt
 anything (past ts) = tt
 
-pub text-descends : (n : ℕ) (lim : Meter → Bool) (ts : List Token) → 8 * length ts + 8 ≤ n → readText lim ts ≡ whole (each lim (descend n lim) text (textProduction .rhs) (textProduction .says) zeroes ts) ended
+pub text-descends : (n : ℕ) (lim : Meter → Bool) (ts : List Token) → 8 * length ts + 8 ≤ n
+    → readText lim ts ≡ whole (each lim (descend n lim) text (textProduction .rhs) (textProduction .says) zeroes ts) ended
 unfolding readText textProduction okSyms firsts first nullables nullable follow subset elem compose
 text-descends n lim ts h =
-    each-does lim n (descend n lim) (descend-moves n lim) (λ A c us b. descend-does n lim A c us b) text 0 (omega arith) (textProduction .rhs) (textProduction .says) zeroes ts (inr h) text [] (λ v. v) (tested (textProduction .rhs) tt)
-    ∙ whole-same (λ us. Unit {0}) (each lim (descend n lim) text (textProduction .rhs) (textProduction .says) zeroes ts) (λ v c us. run lim us text c [] v) ended
+    each-does lim n (descend n lim) (descend-moves n lim) (λ A c us b. descend-does n lim A c us b) text 0 (omega arith) (textProduction .rhs)
+    (textProduction .says) zeroes ts (inr h) text [] (λ v. v) (tested (textProduction .rhs) tt)
+    ∙ whole-same (λ us. Unit {0}) (each lim (descend n lim) text (textProduction .rhs) (textProduction .says) zeroes ts)
+    (λ v c us. run lim us text c [] v) ended
     (anything (each lim (descend n lim) text (textProduction .rhs) (textProduction .says) zeroes ts)) (λ v c us u. last lim v c us)

@@ -50,7 +50,8 @@ unfolding productions span mark says
 reads-has ts es v q = go (q .tree) (q .spanned) (q .marked) (q .said)
   where
     go : (d : Tree text) → span d ≡ ts → mark d ≡ es → says d ≡ v → HasText ts es v
-    go (by r m ds) e f w = subst (λ (s : Production text). Has text (s .rhs) (s .says) ts es v) (only m refl) (record { trees = ds; spanned = e; marked = f; said = w })
+    go (by r m ds) e f w = subst (λ (s : Production text). Has text (s .rhs) (s .says) ts es v) (only m refl)
+        (record { trees = ds; spanned = e; marked = f; said = w })
 
 -- From the list of symbols of a text to texts.
 abbrev StartsText : List Token → Type 0
@@ -102,7 +103,8 @@ module _ (ts w rest : List Token) (e : ts ≡ w ++ rest) where
   further [] q c h b = omega (arith, ap length q)
   further (y ∷ us) q c h b = c (starts (w ++ (y ∷ [])) (subst Begins (take-more y us q) b))
 
-  whole : (r : List Token) → rest ≡ r → Cannot text (textProduction .rhs) (textProduction .says) w r → k ≡ length ts → (es : List Mark) (v : Text) → Reads text ts es v → ⊥
+  whole : (r : List Token) → rest ≡ r → Cannot text (textProduction .rhs) (textProduction .says) w r → k ≡ length ts → (es : List Mark) (v : Text)
+      → Reads text ts es v → ⊥
   whole [] q c h es v t = c es v (reads-has w es v (subst (λ (l : List Token). Reads text l es v) all t))
     where
       all : ts ≡ w
@@ -136,18 +138,26 @@ exact ts = exact′ ts (readText over ts) (run-right over ts text zeroes (textPr
 never-over : Meter → Bool
 never-over c = false
 
-one′ : (ts : List Token) (o : Outcome Text) → Right never-over text (textProduction .rhs) (textProduction .says) zeroes ts o → (es fs : List Mark) (u v : Text) → HasText ts es u → HasText ts fs v → u ≡ v
+one′ : (ts : List Token) (o : Outcome Text) → Right never-over text (textProduction .rhs) (textProduction .says) zeroes ts o → (es fs : List Mark) (u v : Text)
+    → HasText ts es u → HasText ts fs v → u ≡ v
 unfolding never-over
 one′ ts (read w) h es fs u v a b = h .one es u a ∙ sym (h .one fs v b)
 one′ ts (limited rest) h es fs u v a b = absurd (h .passes .passed)
 one′ ts (refused []) h es fs u v a b =
     absurd (h .cannot es u (subst (λ (l : List Token). HasText l es u) (h .parts ∙ append-nil (h .before)) a))
 one′ ts (refused (y ∷ rest)) h es fs u v a b =
-    absurd (h .cannot (record { later = rest; es = es; v = u; has = subst (λ (l : List Token). HasText l es u) (h .parts ∙ sym (append-snoc (h .before) y rest)) a }))
+    absurd (h .cannot (record {
+      later = rest;
+      es = es;
+      v = u;
+      has = subst (λ (l : List Token). HasText l es u)
+          (h .parts ∙ sym (append-snoc (h .before) y rest)) a;
+    }))
 
 pub one-reading : (ts : List Token) (es fs : List Mark) (u v : Text) → Reads text ts es u → Reads text ts fs v → u ≡ v
 one-reading ts es fs u v a b =
-    one′ ts (run never-over ts text zeroes (textProduction .rhs) (textProduction .says)) (run-right never-over ts text zeroes (textProduction .rhs) (textProduction .says) ok-text) es fs u v (reads-has ts es u a) (reads-has ts fs v b)
+    one′ ts (run never-over ts text zeroes (textProduction .rhs) (textProduction .says))
+    (run-right never-over ts text zeroes (textProduction .rhs) (textProduction .says) ok-text) es fs u v (reads-has ts es u a) (reads-has ts fs v b)
 
 -- Nothing else is right.
 shorter : (ts : List Token) (j k : ℕ) → j ≤ k → Begins (take k ts) → Begins (take j ts)

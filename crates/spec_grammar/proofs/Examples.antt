@@ -3,7 +3,7 @@ use mathlib.Core.Path.{_≡_, refl}
 use mathlib.Core.List.{List, [], _∷_, _++_}
 use Prim.Native.Nat.{ℕ, zero, suc}
 use Rattle.spec_grammar.specs.Token.{Token}
-use Rattle.base_codes.specs.Token.{NAME, NUMBER, LP, RP, SEMI, COLON, COMMA, BECOMES, PLUS, MINUS, EQ, AND, OR, NOT}
+use Rattle.base_codes.specs.Token.{NAME, NUMBER, LP, RP, SEMI, COLON, COMMA, BECOMES, PLUS, MINUS, EQ, AND, OR, NOT, MOD}
 use Rattle.base_codes.specs.Token.{ENTITY, IS, PORT, END, ARCHITECTURE, OF, BEGIN, PROCESS, IN, VARIABLE, NULL, IF, THEN, STD-LOGIC, INTEGER}
 use Rattle.spec_grammar.specs.Grammar.{textProduction, productions}
 use Rattle.spec_grammar.specs.Tree.{Text, Expr, name, sign, negate, binary, parens, assign, only, without, input}
@@ -14,7 +14,8 @@ use Rattle.spec_grammar.specs.Reader.{placed, answer}
 
 -- opens all that an answer computes by
 unfoldable computed : List Token → Answer
-unfolding answer placed readText run after keep atEnd advance enter byRule through shift onSkip compose pick chosen firsts nullables elem follow first nullable productions textProduction tick over
+unfolding answer placed readText run after keep atEnd advance enter byRule through shift onSkip compose pick chosen firsts nullables elem follow first nullable
+    productions textProduction tick over
 computed ts = answer ts
 
 abbrev t : ℕ → Token
@@ -95,9 +96,15 @@ unfolding computed
 p7 = refl
 
 -- - a - b + c is ((- a) - b) + c
-signs : answer (assigned (t MINUS ∷ n 6 ∷ t MINUS ∷ n 7 ∷ t PLUS ∷ n 8 ∷ [])) ≡ accepted (text-with (binary (t PLUS) (binary (t MINUS) (sign (t MINUS) (name (n 6))) (name (n 7))) (name (n 8))))
+signs : answer (assigned (t MINUS ∷ n 6 ∷ t MINUS ∷ n 7 ∷ t PLUS ∷ n 8 ∷ [])) ≡ accepted
+    (text-with (binary (t PLUS) (binary (t MINUS) (sign (t MINUS) (name (n 6))) (name (n 7))) (name (n 8))))
 unfolding computed
 signs = refl
+
+-- "a sign covers the whole first term": - a mod b is - (a mod b)
+sign-of-a-term : answer (assigned (t MINUS ∷ n 6 ∷ t MOD ∷ n 7 ∷ [])) ≡ accepted (text-with (sign (t MINUS) (binary (t MOD) (name (n 6)) (name (n 7)))))
+unfolding computed
+sign-of-a-term = refl
 
 -- P9: initial -2147483648 gets 4 at the number
 p9 : answer (opening ++ (t VARIABLE ∷ n 5 ∷ t COLON ∷ t INTEGER ∷ t BECOMES ∷ t MINUS ∷ int 2147483648 ∷ t SEMI ∷ [])) ≡ past-limit 27

@@ -64,7 +64,12 @@ follows c s f item x = omega arith
 follows c s f opens x = omega arith
 follows c s f closes x =
     let e : pred (c .expr .parens) ≡ pred (s .parens) = ap pred (f .parens) in
-    record { fits = record { items = f .items; parens = e; items-low = f .items-low; parens-low = lower (f .parens-low) }; ends = λ w. (w, (omega arith, lower′ e (f .parens-low) (w .1))); goes-on = λ w k. w }
+    record {
+      fits = record { items = f .items; parens = e; items-low = f .items-low; parens-low = lower (f .parens-low) };
+      ends = λ w.
+          (w, (omega arith, lower′ e (f .parens-low) (w .1)));
+      goes-on = λ w k. w;
+    }
   where
     lower : {a b : ℕ} → a ≤ b → pred a ≤ b
     lower h = omega arith

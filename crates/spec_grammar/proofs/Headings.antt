@@ -19,7 +19,8 @@ use Rattle.spec_grammar.proofs.Idle.{body-idle, names-idle, init-idle}
 
 -- the meter's own step
 act : Mark → InHeading → InHeading
-act m s = tick (record { expr = zeroes .expr; body = zeroes .body; head = s; bytes = 0; literal = 0 }) m (record { kind = 0; value = 0; size = 0; place = 0 }) .head
+act m s = tick (record { expr = zeroes .expr; body = zeroes .body; head = s; bytes = 0; literal = 0 }) m
+    (record { kind = 0; value = 0; size = 0; place = 0 }) .head
 
 -- the counts keep the limits; so does the tree
 abbrev Well : InHeading → Type 0
@@ -35,7 +36,8 @@ abbrev Fits : Meter → InHeading → Type 0
 Fits c s = c .head ≡ s
 
 -- the counts only grow
-declares-grows : (w i o v : ℕ) (b : Bool) → let s : InHeading = record { waiting = w; inputs = i; outputs = o; vars = v; are-vars = b } in Well (act declares s) → Well s
+declares-grows : (w i o v : ℕ) (b : Bool) → let s : InHeading = record { waiting = w; inputs = i; outputs = o; vars = v; are-vars = b } in
+    Well (act declares s) → Well s
 unfolding act tick
 declares-grows w i o v true h = omega arith
 declares-grows w i o v false h = omega arith
@@ -94,14 +96,16 @@ names-ports i o v [] = refl
 names-ports i o v (x ∷ l) = more-ports 1 i o v l ∙ ap (λ (n : ℕ). ofPorts n i o v) (omega arith)
 
 -- Groups.
-mode-ends : (i o v : ℕ) (m : Mode) (l : List Token) → onMode (byMarks act) m (onNames (byMarks act) (portMark m) l (ofPorts 0 i o v)) ≡ ofPorts 0 (i + ifInput m (length l)) (o + ifOutput m (length l)) v
+mode-ends : (i o v : ℕ) (m : Mode) (l : List Token)
+    → onMode (byMarks act) m (onNames (byMarks act) (portMark m) l (ofPorts 0 i o v)) ≡ ofPorts 0 (i + ifInput m (length l)) (o + ifOutput m (length l)) v
 unfolding onMode act tick ifInput ifOutput
 mode-ends i o v input l = ap (act ins) (names-ports i o v l) ∙ same-ports 0 v refl (omega arith)
 mode-ends i o v output-port l = ap (act outs) (names-ports i o v l) ∙ same-ports 0 v (omega arith) refl
 mode-ends i o v variable-mode l =
     names-idle act (λ c. refl) plain (λ c. refl) l (ofPorts 0 i o v) ∙ same-ports 0 v (omega arith) (omega arith)
 
-port-ends : (i o v : ℕ) (g : Group) → onPort (byMarks act) g (ofPorts 0 i o v) ≡ ofPorts 0 (i + ifInput (g .mode) (length (g .names))) (o + ifOutput (g .mode) (length (g .names))) v
+port-ends : (i o v : ℕ) (g : Group) → onPort (byMarks act) g (ofPorts 0 i o v) ≡ ofPorts 0 (i + ifInput (g .mode) (length (g .names)))
+    (o + ifOutput (g .mode) (length (g .names))) v
 unfolding onPort act tick
 port-ends i o v g = init-idle act (λ c. refl) (g .init) _ ∙ mode-ends i o v (g .mode) (g .names)
 
@@ -125,7 +129,8 @@ vars-end : (gs : List Group) (s : InHeading) → Declares (nameCount gs) s (onVa
 unfolding onVars act tick nameCount
 vars-end [] s = omega arith
 vars-end (g ∷ gs) s =
-    let h : Declares (nameCount gs) (ofVars (s .inputs) (s .outputs) (s .vars + length (g .names))) (onVars (byMarks act) gs (ofVars (s .inputs) (s .outputs) (s .vars + length (g .names)))) =
+    let h : Declares (nameCount gs) (ofVars (s .inputs) (s .outputs) (s .vars + length (g .names)))
+    (onVars (byMarks act) gs (ofVars (s .inputs) (s .outputs) (s .vars + length (g .names)))) =
     vars-end gs (ofVars (s .inputs) (s .outputs) (s .vars + length (g .names))) in
     rw (init-idle act (λ c. refl) (g .init), names-vars (s .inputs) (s .outputs) (s .vars) (g .names)) (omega arith)
 

@@ -23,7 +23,8 @@ module _ {C : Type 0} (act : Mark → C → C) where
     expr-idle (parens a) c = cl (onExpr (byMarks act) a (act opens c)) ∙ (expr-idle a (act opens c) ∙ op c)
 
   -- nor do statements, if no mark of theirs does
-  module _ (it : Idle item) (op : Idle opens) (cl : Idle closes) (pl : Idle plain) (fr : Idle fresh) (st : Idle stmt) (sf : Idle stmt-fresh) (de : Idle deeper) (sh : Idle shallower) where
+  module _ (it : Idle item) (op : Idle opens) (cl : Idle closes) (pl : Idle plain) (fr : Idle fresh) (st : Idle stmt) (sf : Idle stmt-fresh) (de : Idle deeper)
+      (sh : Idle shallower) where
     same : (e : Expr) (c : C) → onExpr (byMarks act) e c ≡ c
     same e c = expr-idle it op cl e c
 

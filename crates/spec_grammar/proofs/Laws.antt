@@ -32,7 +32,8 @@ is-skip (to m δ κ) = 2
 abbrev Empties : (S : NonTerminal) (rec : (M : NonTerminal) (γ : List Sym) → (Says M → Fun γ (Says S)) → Step S γ) → Type 0
 Empties S rec = (M : NonTerminal) (γ : List Sym) (κ : Says M → Fun γ (Says S)) → is-skip (rec M γ κ) ≡ 1 → T (nullable M)
 
-onSkip-skip : {S : NonTerminal} {γ δ : List Sym} (s : Step S γ) (f : Fun γ (Says S) → Step S δ) (A B : Type 0) → is-skip (onSkip s f) ≡ 1 → (is-skip s ≡ 1 → A) → ((κ : Fun γ (Says S)) → is-skip (f κ) ≡ 1 → B) → A × B
+onSkip-skip : {S : NonTerminal} {γ δ : List Sym} (s : Step S γ) (f : Fun γ (Says S) → Step S δ) (A B : Type 0) → is-skip (onSkip s f) ≡ 1 → (is-skip s ≡ 1 → A)
+    → ((κ : Fun γ (Says S)) → is-skip (f κ) ≡ 1 → B) → A × B
 unfolding onSkip is-skip
 onSkip-skip stuck f A B e g h = absurd (zero-one e)
   where
@@ -44,7 +45,8 @@ onSkip-skip (to m δ κ) f A B e g h = absurd (two-one e)
     two-one : _≡_ {A = ℕ} 2 1 → ⊥
     two-one z = omega arith
 
-through-empties : (S : NonTerminal) (x : Token) (rec : (M : NonTerminal) (γ : List Sym) → (Says M → Fun γ (Says S)) → Step S γ) → Empties S rec → (δ γ : List Sym) (κ : Fun (δ ++ γ) (Says S)) → is-skip (through S x rec δ γ κ) ≡ 1 → T (nullables δ)
+through-empties : (S : NonTerminal) (x : Token) (rec : (M : NonTerminal) (γ : List Sym) → (Says M → Fun γ (Says S)) → Step S γ) → Empties S rec
+    → (δ γ : List Sym) (κ : Fun (δ ++ γ) (Says S)) → is-skip (through S x rec δ γ κ) ≡ 1 → T (nullables δ)
 unfolding through nullables shift is-skip
 through-empties S x rec h [] γ κ e = tt
 through-empties S x rec h (tk m k ∷ δ) γ κ e = shifted (eqb (x .kind) k) e
@@ -53,7 +55,9 @@ through-empties S x rec h (tk m k ∷ δ) γ κ e = shifted (eqb (x .kind) k) e
     shifted true q = omega arith
     shifted false q = omega arith
 through-empties S x rec h (nt M ∷ δ) γ κ e =
-    let p : T (nullable M) × T (nullables δ) = onSkip-skip (rec M (δ ++ γ) κ) (λ κ′. through S x rec δ γ κ′) (T (nullable M)) (T (nullables δ)) e (h M (δ ++ γ) κ) (λ κ′ q. through-empties S x rec h δ γ κ′ q) in
+    let p : T (nullable M) × T (nullables δ) =
+    onSkip-skip (rec M (δ ++ γ) κ) (λ κ′. through S x rec δ γ κ′) (T (nullable M)) (T (nullables δ)) e (h M (δ ++ γ) κ)
+    (λ κ′ q. through-empties S x rec h δ γ κ′ q) in
     both (nullable M) (nullables δ) (p .0) (p .1)
 
 enter-empties : (n : ℕ) (S : NonTerminal) (x : Token) → Empties S (enter n S x)
@@ -72,24 +76,28 @@ enter-empties (suc n) S x M γ κ e = chosen (pick (productions M) (x .kind)) re
     chosen (take r) q z ih = vanishes (pick-rule r (x .kind) q) (through-empties S x (enter n S x) ih (r .rhs) γ (compose M S (r .rhs) γ (r .says) κ) z)
 
 -- Deep enough is deep enough.
-onSkip-same : {S : NonTerminal} {γ δ : List Sym} (s : Step S γ) (f g : Fun γ (Says S) → Step S δ) → ((κ : Fun γ (Says S)) → is-skip s ≡ 1 → f κ ≡ g κ) → onSkip s f ≡ onSkip s g
+onSkip-same : {S : NonTerminal} {γ δ : List Sym} (s : Step S γ) (f g : Fun γ (Says S) → Step S δ) → ((κ : Fun γ (Says S)) → is-skip s ≡ 1 → f κ ≡ g κ)
+    → onSkip s f ≡ onSkip s g
 unfolding onSkip is-skip
 onSkip-same stuck f g h = refl
 onSkip-same (skip κ) f g h = h κ refl
 onSkip-same (to m δ κ) f g h = refl
 
-module _ (S : NonTerminal) (x : Token) (n : ℕ) (rec rec′ : (M : NonTerminal) (γ : List Sym) → (Says M → Fun γ (Says S)) → Step S γ) (empties : Empties S rec) (agree : (M : NonTerminal) → rank M < n → (γ : List Sym) (κ : Says M → Fun γ (Says S)) → rec M γ κ ≡ rec′ M γ κ) where
+module _ (S : NonTerminal) (x : Token) (n : ℕ) (rec rec′ : (M : NonTerminal) (γ : List Sym) → (Says M → Fun γ (Says S)) → Step S γ) (empties : Empties S rec)
+    (agree : (M : NonTerminal) → rank M < n → (γ : List Sym) (κ : Says M → Fun γ (Says S)) → rec M γ κ ≡ rec′ M γ κ) where
   through-same : (δ γ : List Sym) (κ : Fun (δ ++ γ) (Says S)) → T (lead n δ) → through S x rec δ γ κ ≡ through S x rec′ δ γ κ
   unfolding through lead
   through-same [] γ κ l = refl
   through-same (tk m k ∷ δ) γ κ l = refl
   through-same (nt M ∷ δ) γ κ l =
       onSkip-same (rec M (δ ++ γ) κ) (λ κ′. through S x rec δ γ κ′) (λ κ′. through S x rec′ δ γ κ′)
-      (λ κ′ e. through-same δ γ κ′ (if-so (nullable M) (lead n δ) (and-right (ltb (rank M) n) (choose (nullable M) (lead n δ) true) l) (empties M (δ ++ γ) κ e)))
+      (λ κ′ e. through-same δ γ κ′ (if-so (nullable M) (lead n δ) (and-right (ltb (rank M) n) (choose (nullable M) (lead n δ) true) l)
+      (empties M (δ ++ γ) κ e)))
       ∙ ap (λ (s : Step S (δ ++ γ)). onSkip s (λ κ′. through S x rec′ δ γ κ′))
       (agree M (ltb→lt (rank M) n (and-left (ltb (rank M) n) (choose (nullable M) (lead n δ) true) l)) (δ ++ γ) κ)
 
-enter-same : (n n′ : ℕ) (S : NonTerminal) (x : Token) (M : NonTerminal) → rank M < n → rank M < n′ → (γ : List Sym) (κ : Says M → Fun γ (Says S)) → enter n S x M γ κ ≡ enter n′ S x M γ κ
+enter-same : (n n′ : ℕ) (S : NonTerminal) (x : Token) (M : NonTerminal) → rank M < n → rank M < n′ → (γ : List Sym) (κ : Says M → Fun γ (Says S))
+    → enter n S x M γ κ ≡ enter n′ S x M γ κ
 unfolding enter byRule
 enter-same zero n′ S x M l l′ γ κ = absurd (below l)
   where
@@ -104,10 +112,13 @@ enter-same (suc n) (suc n′) S x M l l′ γ κ = chosen (pick (productions M) 
     lower : (m a b : ℕ) → b < suc m → a < b → a < m
     lower m a b g h = omega arith
 
-    chosen : (p : Pick M) → pick (productions M) (x .kind) ≡ p → ((A : NonTerminal) → rank A < n → rank A < n′ → (δ : List Sym) (κ′ : Says A → Fun δ (Says S)) → enter n S x A δ κ′ ≡ enter n′ S x A δ κ′) → byRule S x (enter n S x) M γ κ p ≡ byRule S x (enter n′ S x) M γ κ p
+    chosen : (p : Pick M) → pick (productions M) (x .kind) ≡ p
+        → ((A : NonTerminal) → rank A < n → rank A < n′ → (δ : List Sym) (κ′ : Says A → Fun δ (Says S)) → enter n S x A δ κ′ ≡ enter n′ S x A δ κ′)
+        → byRule S x (enter n S x) M γ κ p ≡ byRule S x (enter n′ S x) M γ κ p
     chosen no-rule q ih = refl
     chosen (take r) q ih =
-        through-same S x (rank M) (enter n S x) (enter n′ S x) (enter-empties n S x) (λ A h. ih A (lower n (rank A) (rank M) l h) (lower n′ (rank A) (rank M) l′ h))
+        through-same S x (rank M) (enter n S x) (enter n′ S x) (enter-empties n S x)
+        (λ A h. ih A (lower n (rank A) (rank M) l h) (lower n′ (rank A) (rank M) l′ h))
         (r .rhs) γ (compose M S (r .rhs) γ (r .says) κ) (lead-ok (pick-rule r (x .kind) q))
 
 -- What is to come, cut in two.
@@ -117,18 +128,22 @@ onSkip-onSkip stuck f = refl
 onSkip-onSkip (skip κ) f = refl
 onSkip-onSkip (to m δ κ) f = refl
 
-shift-shift : (S : NonTerminal) (γ δ : List Sym) (m : Mark) (b : Bool) (κ : Fun (δ ++ γ) (Says S)) (f : Fun (δ ++ γ) (Says S) → Step S []) (g : Fun γ (Says S) → Step S []) → onSkip (shift S (δ ++ γ) m (δ ++ γ) b κ) f ≡ onSkip (shift S γ m (δ ++ γ) b κ) g
+shift-shift : (S : NonTerminal) (γ δ : List Sym) (m : Mark) (b : Bool) (κ : Fun (δ ++ γ) (Says S)) (f : Fun (δ ++ γ) (Says S) → Step S [])
+    (g : Fun γ (Says S) → Step S []) → onSkip (shift S (δ ++ γ) m (δ ++ γ) b κ) f ≡ onSkip (shift S γ m (δ ++ γ) b κ) g
 unfolding onSkip shift
 shift-shift S γ δ m true κ f g = refl
 shift-shift S γ δ m false κ f g = refl
 
-part-part : (S : NonTerminal) (γ δ : List Sym) (s : Step S (δ ++ γ)) (f : Fun (δ ++ γ) (Says S) → Step S γ) (g : Fun (δ ++ γ) (Says S) → Step S []) (h : Fun γ (Says S) → Step S []) → ((κ : Fun (δ ++ γ) (Says S)) → g κ ≡ onSkip (f κ) h) → onSkip (onSkip {δ = δ ++ γ} s (λ κ. skip κ)) g ≡ onSkip (onSkip s f) h
+part-part : (S : NonTerminal) (γ δ : List Sym) (s : Step S (δ ++ γ)) (f : Fun (δ ++ γ) (Says S) → Step S γ) (g : Fun (δ ++ γ) (Says S) → Step S [])
+    (h : Fun γ (Says S) → Step S []) → ((κ : Fun (δ ++ γ) (Says S)) → g κ ≡ onSkip (f κ) h)
+    → onSkip (onSkip {δ = δ ++ γ} s (λ κ. skip κ)) g ≡ onSkip (onSkip s f) h
 unfolding onSkip
 part-part S γ δ stuck f g h e = refl
 part-part S γ δ (skip κ) f g h e = e κ
 part-part S γ δ (to m ε κ) f g h e = refl
 
-advance-append : (S : NonTerminal) (x : Token) (δ γ : List Sym) (κ : Fun (δ ++ γ) (Says S)) → advance S x (δ ++ γ) κ ≡ onSkip (through S x (enter 8 S x) δ γ κ) (λ κ′. advance S x γ κ′)
+advance-append : (S : NonTerminal) (x : Token) (δ γ : List Sym) (κ : Fun (δ ++ γ) (Says S))
+    → advance S x (δ ++ γ) κ ≡ onSkip (through S x (enter 8 S x) δ γ κ) (λ κ′. advance S x γ κ′)
 unfolding advance through onSkip
 advance-append S x [] γ κ = refl
 advance-append S x (tk m k ∷ δ) γ κ = shift-shift S γ δ m (eqb (x .kind) k) (κ x) (λ κ′. advance S x (δ ++ γ) κ′) (λ κ′. advance S x γ κ′)
@@ -136,7 +151,8 @@ advance-append S x (nt M ∷ δ) γ κ =
     part-part S γ δ (enter 8 S x M (δ ++ γ) κ) (λ κ′. through S x (enter 8 S x) δ γ κ′) (λ κ′. advance S x (δ ++ γ) κ′) (λ κ′. advance S x γ κ′)
     (λ κ′. advance-append S x δ γ κ′)
 
-advance-rule : (S : NonTerminal) (x : Token) (M : NonTerminal) (γ : List Sym) (κ : Says M → Fun γ (Says S)) (r : Production M) → pick (productions M) (x .kind) ≡ take r → advance S x (nt M ∷ γ) κ ≡ advance S x (r .rhs ++ γ) (compose M S (r .rhs) γ (r .says) κ)
+advance-rule : (S : NonTerminal) (x : Token) (M : NonTerminal) (γ : List Sym) (κ : Says M → Fun γ (Says S)) (r : Production M)
+    → pick (productions M) (x .kind) ≡ take r → advance S x (nt M ∷ γ) κ ≡ advance S x (r .rhs ++ γ) (compose M S (r .rhs) γ (r .says) κ)
 unfolding advance through enter byRule
 advance-rule S x M γ κ r e =
     onSkip-onSkip (enter 8 S x M γ κ) (λ κ′. advance S x γ κ′)
@@ -160,12 +176,15 @@ advance-rule S x M γ κ r e =
         (r .rhs) γ κr (lead-ok (pick-rule r (x .kind) e))
 
 -- LAW 1, a production: where the token picks it, its right-hand side stands for its nonterminal.
-pub by-rule : (lim : Meter → Bool) (x : Token) (ts : List Token) (S : NonTerminal) (c : Meter) (M : NonTerminal) (γ : List Sym) (κ : Says M → Fun γ (Says S)) (r : Production M) → pick (productions M) (x .kind) ≡ take r → run lim (x ∷ ts) S c (nt M ∷ γ) κ ≡ run lim (x ∷ ts) S c (r .rhs ++ γ) (compose M S (r .rhs) γ (r .says) κ)
+pub by-rule : (lim : Meter → Bool) (x : Token) (ts : List Token) (S : NonTerminal) (c : Meter) (M : NonTerminal) (γ : List Sym) (κ : Says M → Fun γ (Says S))
+    (r : Production M) → pick (productions M) (x .kind) ≡ take r
+    → run lim (x ∷ ts) S c (nt M ∷ γ) κ ≡ run lim (x ∷ ts) S c (r .rhs ++ γ) (compose M S (r .rhs) γ (r .says) κ)
 unfolding run
 by-rule lim x ts S c M γ κ r e = ap (λ (s : Step S []). after lim c x ts s (run lim ts S)) (advance-rule S x M γ κ r e)
 
 -- LAW 2, a token: taken, refused, or missing.
-tok-step : (S : NonTerminal) (x : Token) (m : Mark) (γ : List Sym) (b : Bool) (κ : Fun γ (Says S)) → b ≡ true → onSkip (shift S γ m γ b κ) (λ κ′. advance S x γ κ′) ≡ to m γ κ
+tok-step : (S : NonTerminal) (x : Token) (m : Mark) (γ : List Sym) (b : Bool) (κ : Fun γ (Says S)) → b ≡ true
+    → onSkip (shift S γ m γ b κ) (λ κ′. advance S x γ κ′) ≡ to m γ κ
 unfolding onSkip shift
 tok-step S x m γ true κ e = refl
 tok-step S x m γ false κ e = let z : _≡_ {A = ℕ} 0 1 = cc in absurd (no-way z)
@@ -173,7 +192,8 @@ tok-step S x m γ false κ e = let z : _≡_ {A = ℕ} 0 1 = cc in absurd (no-wa
     no-way : _≡_ {A = ℕ} 0 1 → ⊥
     no-way z = omega arith
 
-tok-stuck : (S : NonTerminal) (x : Token) (m : Mark) (γ : List Sym) (b : Bool) (κ : Fun γ (Says S)) → b ≡ false → onSkip (shift S γ m γ b κ) (λ κ′. advance S x γ κ′) ≡ stuck
+tok-stuck : (S : NonTerminal) (x : Token) (m : Mark) (γ : List Sym) (b : Bool) (κ : Fun γ (Says S)) → b ≡ false
+    → onSkip (shift S γ m γ b κ) (λ κ′. advance S x γ κ′) ≡ stuck
 unfolding onSkip shift
 tok-stuck S x m γ false κ e = refl
 tok-stuck S x m γ true κ e = let z : _≡_ {A = ℕ} 0 1 = cc in absurd (no-way z)
@@ -181,11 +201,13 @@ tok-stuck S x m γ true κ e = let z : _≡_ {A = ℕ} 0 1 = cc in absurd (no-wa
     no-way : _≡_ {A = ℕ} 0 1 → ⊥
     no-way z = omega arith
 
-pub taken : (lim : Meter → Bool) (x : Token) (ts : List Token) (S : NonTerminal) (c : Meter) (m : Mark) (k : ℕ) (γ : List Sym) (κ : Token → Fun γ (Says S)) → eqb (x .kind) k ≡ true → run lim (x ∷ ts) S c (tk m k ∷ γ) κ ≡ keep (x ∷ ts) (lim (tick c m x)) (run lim ts S (tick c m x) γ (κ x))
+pub taken : (lim : Meter → Bool) (x : Token) (ts : List Token) (S : NonTerminal) (c : Meter) (m : Mark) (k : ℕ) (γ : List Sym) (κ : Token → Fun γ (Says S))
+    → eqb (x .kind) k ≡ true → run lim (x ∷ ts) S c (tk m k ∷ γ) κ ≡ keep (x ∷ ts) (lim (tick c m x)) (run lim ts S (tick c m x) γ (κ x))
 unfolding run after advance through
 taken lim x ts S c m k γ κ e = ap (λ (s : Step S []). after lim c x ts s (run lim ts S)) (tok-step S x m γ (eqb (x .kind) k) (κ x) e)
 
-pub not-taken : (lim : Meter → Bool) (x : Token) (ts : List Token) (S : NonTerminal) (c : Meter) (m : Mark) (k : ℕ) (γ : List Sym) (κ : Token → Fun γ (Says S)) → eqb (x .kind) k ≡ false → run lim (x ∷ ts) S c (tk m k ∷ γ) κ ≡ refused (x ∷ ts)
+pub not-taken : (lim : Meter → Bool) (x : Token) (ts : List Token) (S : NonTerminal) (c : Meter) (m : Mark) (k : ℕ) (γ : List Sym) (κ : Token → Fun γ (Says S))
+    → eqb (x .kind) k ≡ false → run lim (x ∷ ts) S c (tk m k ∷ γ) κ ≡ refused (x ∷ ts)
 unfolding run after advance through
 not-taken lim x ts S c m k γ κ e = ap (λ (s : Step S []). after lim c x ts s (run lim ts S)) (tok-stuck S x m γ (eqb (x .kind) k) (κ x) e)
 
@@ -208,13 +230,17 @@ unfolding run atEnd nullables
 nonempty lim S c [] κ h = absurd (h tt)
 nonempty lim S c (s ∷ γ) κ h = refl
 
-pub run-stuck : (lim : Meter → Bool) (S : NonTerminal) (c : Meter) (M : NonTerminal) (γ : List Sym) (κ : Says M → Fun γ (Says S)) (x : Token) (us : List Token) → pick (productions M) (x .kind) ≡ no-rule → run lim (x ∷ us) S c (nt M ∷ γ) κ ≡ refused (x ∷ us)
+pub run-stuck : (lim : Meter → Bool) (S : NonTerminal) (c : Meter) (M : NonTerminal) (γ : List Sym) (κ : Says M → Fun γ (Says S)) (x : Token) (us : List Token)
+    → pick (productions M) (x .kind) ≡ no-rule → run lim (x ∷ us) S c (nt M ∷ γ) κ ≡ refused (x ∷ us)
 unfolding run after advance through enter byRule onSkip
-run-stuck lim S c M γ κ x us e = ap (λ (p : Pick M). after lim c x us (onSkip (onSkip {δ = γ} (byRule S x (enter 7 S x) M γ κ p) (λ κ′. skip κ′)) (λ κ′. advance S x γ κ′)) (run lim us S)) e
+run-stuck lim S c M γ κ x us e = ap (λ (p : Pick M). after lim c x us
+    (onSkip (onSkip {δ = γ} (byRule S x (enter 7 S x) M γ κ p) (λ κ′. skip κ′)) (λ κ′. advance S x γ κ′)) (run lim us S)) e
 
-module _ (lim : Meter → Bool) (S : NonTerminal) (c : Meter) (M : NonTerminal) (γ : List Sym) (κ : Says M → Fun γ (Says S)) (o : Ok (nt M ∷ γ)) (v : Says M) (m : ([] ↠ v) ∈ productions M) where
+module _ (lim : Meter → Bool) (S : NonTerminal) (c : Meter) (M : NonTerminal) (γ : List Sym) (κ : Says M → Fun γ (Says S)) (o : Ok (nt M ∷ γ)) (v : Says M)
+    (m : ([] ↠ v) ∈ productions M) where
   -- no text goes on with x
-  no-way-on : (x : Token) (ts : List Token) → (T (elem (x .kind) (follow M)) → ⊥) → (s : Step S []) → Spec S x γ (κ v) [] (Unit {0}) s → after lim c x ts s (run lim ts S) ≡ refused (x ∷ ts)
+  no-way-on : (x : Token) (ts : List Token) → (T (elem (x .kind) (follow M)) → ⊥) → (s : Step S []) → Spec S x γ (κ v) [] (Unit {0}) s
+      → after lim c x ts s (run lim ts S) ≡ refused (x ∷ ts)
   unfolding after
   no-way-on x ts f stuck h = refl
   no-way-on x ts f (skip κ′) h = refl
@@ -223,7 +249,8 @@ module _ (lim : Meter → Bool) (S : NonTerminal) (c : Meter) (M : NonTerminal) 
       let a : Has S γ (κ v) (x ∷ t .later) (n ∷ t .es) (t .v) = h .1 (t .later) (t .es) (t .v) (t .has) in
       absurd (f (o .0 (x .kind) (starts (a .trees) x (t .later) (a .spanned))))
 
-  no-pick : (x : Token) → (T (elem (x .kind) (first M)) → ⊥) → (T (elem (x .kind) (follow M)) → ⊥) → (p : Pick M) → pick (productions M) (x .kind) ≡ p → p ≡ no-rule
+  no-pick : (x : Token) → (T (elem (x .kind) (first M)) → ⊥) → (T (elem (x .kind) (follow M)) → ⊥) → (p : Pick M) → pick (productions M) (x .kind) ≡ p
+      → p ≡ no-rule
   unfolding chosen
   no-pick x f g no-rule e = refl
   no-pick x f g (take q) e = elim (elem-cases (x .kind) (firsts (q .rhs)) (choose (nullables (q .rhs)) (follow M) []) (pick-elem q (productions M) (x .kind) e)) [
@@ -243,7 +270,8 @@ module _ (lim : Meter → Bool) (S : NonTerminal) (c : Meter) (M : NonTerminal) 
   unfolding compose
   dropped x us t = by-rule lim x us S c M γ κ ([] ↠ v) (pick-finds (x .kind) m (picked x t))
 
-  pub left-out : (ts : List Token) → ((x : Token) (us : List Token) → ts ≡ x ∷ us → T (elem (x .kind) (first M)) → ⊥) → run lim ts S c (nt M ∷ γ) κ ≡ run lim ts S c γ (κ v)
+  pub left-out : (ts : List Token) → ((x : Token) (us : List Token) → ts ≡ x ∷ us → T (elem (x .kind) (first M)) → ⊥)
+      → run lim ts S c (nt M ∷ γ) κ ≡ run lim ts S c γ (κ v)
   left-out [] h = missing lim S c (nt M) γ κ ∙ sym (nonempty lim S c γ (κ v) (o .1))
   left-out (x ∷ us) h = go (elem (x .kind) (follow M)) refl
     where

@@ -7,7 +7,6 @@ pub mod Runs
 pub mod Exact
 pub mod Laws
 pub mod Descent
-pub mod Loop
 pub mod Examples
 pub mod Marks
 pub mod Walk

@@ -75,7 +75,14 @@ clear-kept c =
           let h7 = items .0 (h6 .1) in
           let h8 = parens .0 (h7 .1) in
           ((h1 .0, value .0 (h8 .1)), (h2 .0, h3 .0, h4 .0), (h5 .0, h6 .0), (h7 .0, h8 .0))),
-      λ k. bytes .1 (k .0 .0, inputs .1 (k .1 .0, outputs .1 (k .1 .1, vars .1 (k .1 .2, statements .1 (k .2 .0, depth .1 (k .2 .1, items .1 (k .3 .0, parens .1 (k .3 .1, value .1 (k .0 .1))))))))),
+      λ k. bytes .1 (
+        k .0 .0,
+        inputs .1 (
+          k .1 .0,
+          outputs .1
+              (k .1 .1, vars .1 (k .1 .2, statements .1 (k .2 .0, depth .1 (k .2 .1, items .1 (k .3 .0, parens .1 (k .3 .1, value .1 (k .0 .1))))))),
+        ),
+      ),
     )
 
 -- The counts after the tokens w depend on the marks of w alone.
@@ -97,27 +104,40 @@ module _ (ts : List Token) (es : List Mark) (t : Text) (r : Reads text ts es t) 
     λ a j h p.
         let w : List Token = take (suc j) ts in
         let fs : List Mark = p .begins .marks in
-        let e : take (length w) fs ≡ take (length w) es = marks-alike w (p .begins .later) (drop (suc j) ts) fs es (p .begins .whole) t (p .begins .reads) (parted (suc j)) in
+        let e : take (length w) fs ≡ take (length w) es =
+        marks-alike w (p .begins .later) (drop (suc j) ts) fs es (p .begins .whole) t (p .begins .reads) (parted (suc j)) in
         let g : gauge zeroes w fs ≡ gauge zeroes w es = sym (gauge-take zeroes w fs) ∙ (ap (gauge zeroes w) e ∙ gauge-take zeroes w es) in
         a j h (subst (λ (c : Meter). T (over c)) g (p .over-here)),
   )
 
   -- Over none: each group of counts keeps its limits.
-  along-parts : Along Clear zeroes ts es ↔ (Along Tokens.Kept zeroes ts es × Along Headings.Kept zeroes ts es × Along Statements.Kept zeroes ts es × Along Expressions.Kept zeroes ts es)
+  along-parts : Along Clear zeroes ts es ↔ (Along Tokens.Kept zeroes ts es × Along Headings.Kept zeroes ts es × Along Statements.Kept zeroes ts es
+      × Along Expressions.Kept zeroes ts es)
   along-parts = (
     (λ a. ((λ j h. clear-kept _ .0 (a j h) .0), (λ j h. clear-kept _ .0 (a j h) .1), (λ j h. clear-kept _ .0 (a j h) .2), λ j h. clear-kept _ .0 (a j h) .3)),
     λ k j h. clear-kept _ .1 (k .0 j h, k .1 j h, k .2 j h, k .3 j h),
   )
 
   -- Each group keeps them exactly where the tree does.
-  parts-tree : (Along Tokens.Kept zeroes ts es × Along Headings.Kept zeroes ts es × Along Statements.Kept zeroes ts es × Along Expressions.Kept zeroes ts es) ↔ WithinLimits t
+  parts-tree : (Along Tokens.Kept zeroes ts es × Along Headings.Kept zeroes ts es × Along Statements.Kept zeroes ts es × Along Expressions.Kept zeroes ts es)
+      ↔ WithinLimits t
   parts-tree = (
     (λ k.
         let a : Tokens.Keeps t = Tokens.tokens-kept ts es t r .0 (k .0) in
         let b : Headings.Keeps t = Headings.headings-kept ts es t r .0 (k .1) in
         let c : Statements.Keeps t = Statements.statements-kept ts es t r .0 (k .2) in
         let d : Expressions.Keeps t = Expressions.expressions-kept ts es t r .0 (k .3) in
-        record { names = a .0; inputs = b .0; outputs = b .1; variables = b .2; statements = c .0; depth = c .1; items = d .0; parens = d .1; literals = a .1 }),
+        record {
+          names = a .0;
+          inputs = b .0;
+          outputs = b .1;
+          variables = b .2;
+          statements = c .0;
+          depth = c .1;
+          items = d .0;
+          parens = d .1;
+          literals = a .1;
+        }),
     λ w. (
       Tokens.tokens-kept ts es t r .1 (w .names, w .literals),
       Headings.headings-kept ts es t r .1 (w .inputs, w .outputs, w .variables),

@@ -16,9 +16,12 @@ use Rattle.spec_grammar.proofs.Exact.{ok-text, reads-has}
 
 -- Two lists that symbols derive, alike on w, have the same marks on w.
 abbrev Alike : List Token → Type 0
-Alike w = (S : NonTerminal) (γ : List Sym) (κ : Fun γ (Says S)) → Ok γ → (a b : List Token) (es fs : List Mark) (u v : Says S) → Has S γ κ (w ++ a) es u → Has S γ κ (w ++ b) fs v → take (length w) es ≡ take (length w) fs
+Alike w = (S : NonTerminal) (γ : List Sym) (κ : Fun γ (Says S)) → Ok γ → (a b : List Token) (es fs : List Mark) (u v : Says S) → Has S γ κ (w ++ a) es u
+    → Has S γ κ (w ++ b) fs v → take (length w) es ≡ take (length w) fs
 
-alike-step : (x : Token) (w : List Token) → Alike w → (S : NonTerminal) (γ : List Sym) (κ : Fun γ (Says S)) (a b : List Token) (es fs : List Mark) (u v : Says S) → Has S γ κ (x ∷ (w ++ a)) es u → Has S γ κ (x ∷ (w ++ b)) fs v → (s : Step S []) → Spec S x γ κ [] (Unit {0}) s → take (suc (length w)) es ≡ take (suc (length w)) fs
+alike-step : (x : Token) (w : List Token) → Alike w
+    → (S : NonTerminal) (γ : List Sym) (κ : Fun γ (Says S)) (a b : List Token) (es fs : List Mark) (u v : Says S) → Has S γ κ (x ∷ (w ++ a)) es u
+    → Has S γ κ (x ∷ (w ++ b)) fs v → (s : Step S []) → Spec S x γ κ [] (Unit {0}) s → take (suc (length w)) es ≡ take (suc (length w)) fs
 alike-step x w ih S γ κ a b es fs u v h k stuck n = absurd (n (w ++ a) es u h)
 alike-step x w ih S γ κ a b es fs u v h k (skip κ′) n = absurd (nothing-left S κ′ x (w ++ a) es u (n .2 (w ++ a) es u h))
 alike-step x w ih S γ κ a b es fs u v h k (to m δ κ′) n =
@@ -32,7 +35,8 @@ alike [] S γ κ o a b es fs u v h k = refl
 alike (x ∷ w) S γ κ o a b es fs u v h k = alike-step x w (alike w) S γ κ a b es fs u v h k (advance S x γ κ) (advance-spec S x γ κ o)
 
 -- Two texts that begin with the tokens w have the same marks on w.
-pub marks-alike : (w a b : List Token) (es fs : List Mark) (u v : Text) → Reads text (w ++ a) es u → Reads text (w ++ b) fs v → take (length w) es ≡ take (length w) fs
+pub marks-alike : (w a b : List Token) (es fs : List Mark) (u v : Text) → Reads text (w ++ a) es u → Reads text (w ++ b) fs v
+    → take (length w) es ≡ take (length w) fs
 marks-alike w a b es fs u v h k =
     alike w text (textProduction .rhs) (textProduction .says) ok-text a b es fs u v (reads-has (w ++ a) es u h) (reads-has (w ++ b) fs v k)
 

@@ -104,7 +104,8 @@ end-right lim S c (s ∷ γ) κ o = record {
 }
 
 -- no text begins with x: refused there
-here-right : (lim : Meter → Bool) (S : NonTerminal) (c : Meter) (γ : List Sym) (κ : Fun γ (Says S)) (x : Token) (ts : List Token) → Never S x γ κ → Refused lim S γ κ c (x ∷ ts) (x ∷ ts)
+here-right : (lim : Meter → Bool) (S : NonTerminal) (c : Meter) (γ : List Sym) (κ : Fun γ (Says S)) (x : Token) (ts : List Token) → Never S x γ κ
+    → Refused lim S γ κ c (x ∷ ts) (x ∷ ts)
 here-right lim S c γ κ x ts h = record
     { before = []; parts = refl; goes-on = some-text S γ κ; cannot = λ s. h (s .later) (s .es) (s .v) (s .has); clear = clear-nil lim S γ κ c }
 
@@ -116,7 +117,8 @@ nothing-left S κ x us es v h = go (h .trees) (h .spanned)
     go empty e = nil-cons e
 
 -- the token x is taken, with the mark m: what is known after it is known before it
-module _ (lim : Meter → Bool) (S : NonTerminal) (γ : List Sym) (κ : Fun γ (Says S)) (δ : List Sym) (κ′ : Fun δ (Says S)) (c : Meter) (x : Token) (m : Mark) (on : Onto S x m γ κ δ κ′) (off : Off S x m γ κ δ κ′) where
+module _ (lim : Meter → Bool) (S : NonTerminal) (γ : List Sym) (κ : Fun γ (Says S)) (δ : List Sym) (κ′ : Fun δ (Says S)) (c : Meter) (x : Token) (m : Mark)
+    (on : Onto S x m γ κ δ κ′) (off : Off S x m γ κ δ κ′) where
   starts-on : (w : List Token) → Starts S δ κ′ w → Starts S γ κ (x ∷ w)
   starts-on w s = record { later = s .later; es = m ∷ s .es; v = s .v; has = on (w ++ s .later) (s .es) (s .v) (s .has) }
 
@@ -133,7 +135,14 @@ module _ (lim : Meter → Bool) (S : NonTerminal) (γ : List Sym) (κ : Fun γ (
   unfolding gauge
   over-off w s =
       let p : Past S m δ κ′ (w ++ s .later) (s .es) (s .v) = off (w ++ s .later) (s .es) (s .v) (s .has) in
-      record { later = s .later; es = p .others; v = s .v; has = p .has; passed = subst (λ (fs : List Mark). T (lim (gauge c (x ∷ w) fs))) (p .begin) (s .passed) }
+      record {
+        later = s .later;
+        es = p .others;
+        v = s .v;
+        has = p .has;
+        passed = subst (λ (fs : List Mark). T (lim (gauge c (x ∷ w) fs))) (p .begin)
+            (s .passed);
+      }
 
   clear-on : (lim (tick c m x) ≡ false) → (w : List Token) → Clear lim S δ κ′ (tick c m x) w → Clear lim S γ κ c (x ∷ w)
   unfolding gauge
@@ -168,7 +177,8 @@ module _ (lim : Meter → Bool) (S : NonTerminal) (γ : List Sym) (κ : Fun γ (
     clear = clear-on e (h .before) (h .clear);
   }
 
-  keep-right : (ts : List Token) (o : Outcome (Says S)) → Right lim S δ κ′ (tick c m x) ts o → (b : Bool) → lim (tick c m x) ≡ b → Right lim S γ κ c (x ∷ ts) (keep (x ∷ ts) b o)
+  keep-right : (ts : List Token) (o : Outcome (Says S)) → Right lim S δ κ′ (tick c m x) ts o → (b : Bool) → lim (tick c m x) ≡ b
+      → Right lim S γ κ c (x ∷ ts) (keep (x ∷ ts) b o)
   unfolding keep gauge
   keep-right ts o h true e = record {
     before = [];
@@ -176,19 +186,28 @@ module _ (lim : Meter → Bool) (S : NonTerminal) (γ : List Sym) (κ : Fun γ (
     others = ts;
     left = refl;
     parts = refl;
-    passes = over-on [] (record { later = some-text S δ κ′ .later; es = some-text S δ κ′ .es; v = some-text S δ κ′ .v; has = some-text S δ κ′ .has; passed = subst T (sym e) tt });
+    passes = over-on [] (record {
+      later = some-text S δ κ′ .later;
+      es = some-text S δ κ′ .es;
+      v = some-text S δ κ′ .v;
+      has = some-text S δ κ′ .has;
+      passed = subst T (sym e) tt;
+    });
     clear = clear-nil lim S γ κ c;
   }
   keep-right ts o h false e = taken-right e ts o h
 
-after-right : (lim : Meter → Bool) (S : NonTerminal) (c : Meter) (γ : List Sym) (κ : Fun γ (Says S)) (x : Token) (ts : List Token) (s : Step S []) → Spec S x γ κ [] (Unit {0}) s → ((b : Meter) (δ : List Sym) (κ′ : Fun δ (Says S)) → Ok δ → Right lim S δ κ′ b ts (run lim ts S b δ κ′)) → Right lim S γ κ c (x ∷ ts) (after lim c x ts s (run lim ts S))
+after-right : (lim : Meter → Bool) (S : NonTerminal) (c : Meter) (γ : List Sym) (κ : Fun γ (Says S)) (x : Token) (ts : List Token) (s : Step S [])
+    → Spec S x γ κ [] (Unit {0}) s → ((b : Meter) (δ : List Sym) (κ′ : Fun δ (Says S)) → Ok δ → Right lim S δ κ′ b ts (run lim ts S b δ κ′))
+    → Right lim S γ κ c (x ∷ ts) (after lim c x ts s (run lim ts S))
 unfolding after
 after-right lim S c γ κ x ts stuck h ih = here-right lim S c γ κ x ts h
 after-right lim S c γ κ x ts (skip κ′) h ih = here-right lim S c γ κ x ts (λ us es v a. nothing-left S κ′ x us es v (h .2 us es v a))
 after-right lim S c γ κ x ts (to m δ κ′) h ih =
     keep-right lim S γ κ δ κ′ c x m (h .1) (h .2) ts (run lim ts S (tick c m x) δ κ′) (ih (tick c m x) δ κ′ (h .0)) (lim (tick c m x)) refl
 
-pub run-right : (lim : Meter → Bool) (ts : List Token) (S : NonTerminal) (c : Meter) (γ : List Sym) (κ : Fun γ (Says S)) → Ok γ → Right lim S γ κ c ts (run lim ts S c γ κ)
+pub run-right : (lim : Meter → Bool) (ts : List Token) (S : NonTerminal) (c : Meter) (γ : List Sym) (κ : Fun γ (Says S)) → Ok γ
+    → Right lim S γ κ c ts (run lim ts S c γ κ)
 unfolding run
 run-right lim [] S c γ κ o = end-right lim S c γ κ o
 run-right lim (x ∷ ts) S c γ κ o = after-right lim S c γ κ x ts (advance S x γ κ) (advance-spec S x γ κ o) (λ b δ κ′ p. run-right lim ts S b δ κ′ p)

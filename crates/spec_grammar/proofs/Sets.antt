@@ -38,7 +38,8 @@ not-T false t u = u
 pub elem-left : (k : ℕ) (a b : List ℕ) → T (elem k a) → T (elem k (a ++ b))
 unfolding elem
 elem-left k [] b t = absurd t
-elem-left k (j ∷ a) b t = elim (or-cases (eqb k j) (elem k a) t) [ inl u ↦ or-left (eqb k j) (elem k (a ++ b)) u | inr u ↦ or-right (eqb k j) (elem k (a ++ b)) (elem-left k a b u) ]
+elem-left k (j ∷ a) b t = elim (or-cases (eqb k j) (elem k a) t)
+    [ inl u ↦ or-left (eqb k j) (elem k (a ++ b)) u | inr u ↦ or-right (eqb k j) (elem k (a ++ b)) (elem-left k a b u) ]
 
 pub elem-right : (k : ℕ) (a b : List ℕ) → T (elem k b) → T (elem k (a ++ b))
 unfolding elem

@@ -124,7 +124,8 @@ mutual
       let c2 : State = onBody (byMarks act) a c1 in
       let g : Ends (suc n) (bodyCount a) (bodyDepth (suc n) a) c1 c2 = body-ends a (suc n) c1 (ap suc h) in
       let k : Ends (suc n) (bodyCount b) (bodyDepth (suc n) b) c2 (onBody (byMarks act) b c2) = body-ends b (suc n) c2 (g .depth) in
-      rw (expr-same e) (ends-deeper n (bodyCount a + bodyCount b) (max (bodyDepth (suc n) a) (bodyDepth (suc n) b)) c (onBody (byMarks act) b c2) h (omega (arith, below n a))
+      rw (expr-same e) (ends-deeper n (bodyCount a + bodyCount b) (max (bodyDepth (suc n) a) (bodyDepth (suc n) b)) c (onBody (byMarks act) b c2) h
+      (omega (arith, below n a))
       (ends-twice (suc n) (bodyCount a) (bodyCount b) (bodyDepth (suc n) a) (bodyDepth (suc n) b) c1 c2 (onBody (byMarks act) b c2) g k))
   stmt-ends (while w e a) n c h = rw (expr-same e) (
       ends-deeper n (bodyCount a) (bodyDepth (suc n) a) c _ h (below n a) (body-ends a (suc n) (act deeper (begun c)) (ap suc h)))
@@ -133,7 +134,8 @@ mutual
   body-ends (only s) n c h = stmt-ends s n c h
   body-ends (andThen s b) n c h =
       let g : Ends n (stmtCount s) (stmtDepth n s) c (onStmt (byMarks act) s c) = stmt-ends s n c h in
-      ends-twice n (stmtCount s) (bodyCount b) (stmtDepth n s) (bodyDepth n b) c (onStmt (byMarks act) s c) (onBody (byMarks act) b (onStmt (byMarks act) s c)) g
+      ends-twice n (stmtCount s) (bodyCount b) (stmtDepth n s) (bodyDepth n b) c (onStmt (byMarks act) s c)
+      (onBody (byMarks act) b (onStmt (byMarks act) s c)) g
       (body-ends b n (onStmt (byMarks act) s c) (g .depth))
 
 start : State

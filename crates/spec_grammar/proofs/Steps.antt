@@ -47,10 +47,13 @@ firsts-append k (nt M ∷ γ) δ t = go (elem-cases k (first M) (choose (nullabl
     both true b t u = u
     both false b t u = t
 
-    go : T (elem k (first M)) ⊎ T (elem k (choose (nullable M) (firsts (γ ++ δ)) [])) → (T (elem k (firsts (γ ++ δ))) → T (elem k (firsts γ)) ⊎ (T (nullables γ) × T (elem k (firsts δ)))) → T (elem k (first M ++ choose (nullable M) (firsts γ) [])) ⊎ (T (nullable M && nullables γ) × T (elem k (firsts δ)))
+    go : T (elem k (first M)) ⊎ T (elem k (choose (nullable M) (firsts (γ ++ δ)) []))
+        → (T (elem k (firsts (γ ++ δ))) → T (elem k (firsts γ)) ⊎ (T (nullables γ) × T (elem k (firsts δ))))
+        → T (elem k (first M ++ choose (nullable M) (firsts γ) [])) ⊎ (T (nullable M && nullables γ) × T (elem k (firsts δ)))
     go (inl u) ih = inl (elem-left k (first M) (choose (nullable M) (firsts γ) []) u)
     go (inr u) ih = elim (ih (elem-choose k (nullable M) (firsts (γ ++ δ)) u .1)) [
-      | inl w ↦ inl (elem-right k (first M) (choose (nullable M) (firsts γ) []) (choose-elem k (nullable M) (firsts γ) (elem-choose k (nullable M) (firsts (γ ++ δ)) u .0) w))
+      | inl w ↦ inl (elem-right k (first M) (choose (nullable M) (firsts γ) [])
+          (choose-elem k (nullable M) (firsts γ) (elem-choose k (nullable M) (firsts (γ ++ δ)) u .0) w))
       | inr w ↦ inr (both (nullable M) (nullables γ) (elem-choose k (nullable M) (firsts (γ ++ δ)) u .0) (w .0), w .1)
     ]
 
@@ -67,11 +70,15 @@ ok-rule M [] δ t o = o .2
 ok-rule M (tk m k ∷ γ) δ t o = ok-rule M γ δ t o
 ok-rule M (nt A ∷ γ) δ t o = (
   λ k u. elim (firsts-append k γ δ u) [
-    | inl w ↦ within (firsts γ) (follow A) (and-left (subset (firsts γ) (follow A)) (choose (nullables γ) (subset (follow M) (follow A)) true && inside M γ) t) k w
-    | inr w ↦ within (follow M) (follow A) (if-so (nullables γ) (subset (follow M) (follow A)) (and-left (choose (nullables γ) (subset (follow M) (follow A)) true) (inside M γ) (and-right (subset (firsts γ) (follow A)) (choose (nullables γ) (subset (follow M) (follow A)) true && inside M γ) t)) (w .0)) k (o .0 k (w .1))
+    | inl w ↦ within (firsts γ) (follow A) (and-left (subset (firsts γ) (follow A)) (choose (nullables γ) (subset (follow M) (follow A)) true && inside M γ) t)
+        k w
+    | inr w ↦ within (follow M) (follow A) (if-so (nullables γ) (subset (follow M) (follow A))
+        (and-left (choose (nullables γ) (subset (follow M) (follow A)) true) (inside M γ)
+        (and-right (subset (firsts γ) (follow A)) (choose (nullables γ) (subset (follow M) (follow A)) true && inside M γ) t)) (w .0)) k (o .0 k (w .1))
   ],
   (λ u. o .1 (nullables-append γ δ u)),
-  ok-rule M γ δ (and-right (choose (nullables γ) (subset (follow M) (follow A)) true) (inside M γ) (and-right (subset (firsts γ) (follow A)) (choose (nullables γ) (subset (follow M) (follow A)) true && inside M γ) t)) o,
+  ok-rule M γ δ (and-right (choose (nullables γ) (subset (follow M) (follow A)) true) (inside M γ)
+      (and-right (subset (firsts γ) (follow A)) (choose (nullables γ) (subset (follow M) (follow A)) true && inside M γ) t)) o,
 )
 
 -- What a step says of σ, κ before it, with x the token: Q is what a skip shows besides.
@@ -103,12 +110,15 @@ Spec S x σ κ γ Q (skip κ′) = Q × Back S σ κ γ κ′ × Forth S x σ κ
 Spec S x σ κ γ Q (to m δ κ′) = Ok δ × Onto S x m σ κ δ κ′ × Off S x m σ κ δ κ′
 
 -- one step after another
-then-spec : (S : NonTerminal) (x : Token) (σ : List Sym) (κ : Fun σ (Says S)) (γ δ : List Sym) (P Q : Type 0) (κ′ : Fun γ (Says S)) → Back S σ κ γ κ′ → Forth S x σ κ γ κ′ → (P → Q) → (s : Step S δ) → Spec S x γ κ′ δ P s → Spec S x σ κ δ Q s
+then-spec : (S : NonTerminal) (x : Token) (σ : List Sym) (κ : Fun σ (Says S)) (γ δ : List Sym) (P Q : Type 0) (κ′ : Fun γ (Says S)) → Back S σ κ γ κ′
+    → Forth S x σ κ γ κ′ → (P → Q) → (s : Step S δ) → Spec S x γ κ′ δ P s → Spec S x σ κ δ Q s
 then-spec S x σ κ γ δ P Q κ′ b f i stuck h = λ ts es v a. h ts es v (f ts es v a)
 then-spec S x σ κ γ δ P Q κ′ b f i (skip κ″) h = (i (h .0), (λ ts es v a. b ts es v (h .1 ts es v a)), λ ts es v a. h .2 ts es v (f ts es v a))
 then-spec S x σ κ γ δ P Q κ′ b f i (to m ε κ″) h = (h .0, (λ ts es v a. b (x ∷ ts) (m ∷ es) v (h .1 ts es v a)), λ ts es v a. h .2 ts es v (f ts es v a))
 
-onSkip-spec : (S : NonTerminal) (x : Token) (σ : List Sym) (κ : Fun σ (Says S)) (γ δ : List Sym) (P P′ Q : Type 0) (s : Step S γ) (f : Fun γ (Says S) → Step S δ) → Spec S x σ κ γ P s → ((κ′ : Fun γ (Says S)) → P → Spec S x γ κ′ δ P′ (f κ′)) → (P → P′ → Q) → Spec S x σ κ δ Q (onSkip s f)
+onSkip-spec : (S : NonTerminal) (x : Token) (σ : List Sym) (κ : Fun σ (Says S)) (γ δ : List Sym) (P P′ Q : Type 0) (s : Step S γ)
+    (f : Fun γ (Says S) → Step S δ) → Spec S x σ κ γ P s → ((κ′ : Fun γ (Says S)) → P → Spec S x γ κ′ δ P′ (f κ′)) → (P → P′ → Q)
+    → Spec S x σ κ δ Q (onSkip s f)
 unfolding onSkip
 onSkip-spec S x σ κ γ δ P P′ Q stuck f h g i = h
 onSkip-spec S x σ κ γ δ P P′ Q (skip κ′) f h g i = then-spec S x σ κ γ δ P′ Q κ′ (h .1) (h .2) (i (h .0)) (f κ′) (g κ′ (h .0))
@@ -120,7 +130,8 @@ unfolding spans marks saysAll
 token-up S x m k δ κ e ts es v h = record
     { trees = token x e (h .trees); spanned = ap (λ (l : List Token). x ∷ l) (h .spanned); marked = ap (λ (l : List Mark). m ∷ l) (h .marked); said = h .said }
 
-token-down′ : (S : NonTerminal) (x : Token) {m : Mark} {k : ℕ} {δ : List Sym} (κ : Token → Fun δ (Says S)) (ts : List Token) (es : List Mark) (v : Says S) (ds : Trees (tk m k ∷ δ)) → spans ds ≡ x ∷ ts → marks ds ≡ es → saysAll ds S κ ≡ v → (x .kind ≡ k) × Past S m δ (κ x) ts es v
+token-down′ : (S : NonTerminal) (x : Token) {m : Mark} {k : ℕ} {δ : List Sym} (κ : Token → Fun δ (Says S)) (ts : List Token) (es : List Mark) (v : Says S)
+    (ds : Trees (tk m k ∷ δ)) → spans ds ≡ x ∷ ts → marks ds ≡ es → saysAll ds S κ ≡ v → (x .kind ≡ k) × Past S m δ (κ x) ts es v
 unfolding spans marks saysAll
 token-down′ S x {m} {k} {δ} κ ts es v (token y w ds) e p q = (
   subst (λ (z : Token). z .kind ≡ k) (cons-head e) w,
@@ -131,24 +142,28 @@ token-down′ S x {m} {k} {δ} κ ts es v (token y w ds) e p q = (
   },
 )
 
-token-down : (S : NonTerminal) (x : Token) (m : Mark) (k : ℕ) (δ : List Sym) (κ : Token → Fun δ (Says S)) (ts : List Token) (es : List Mark) (v : Says S) → Has S (tk m k ∷ δ) κ (x ∷ ts) es v → (x .kind ≡ k) × Past S m δ (κ x) ts es v
+token-down : (S : NonTerminal) (x : Token) (m : Mark) (k : ℕ) (δ : List Sym) (κ : Token → Fun δ (Says S)) (ts : List Token) (es : List Mark) (v : Says S)
+    → Has S (tk m k ∷ δ) κ (x ∷ ts) es v → (x .kind ≡ k) × Past S m δ (κ x) ts es v
 token-down S x m k δ κ ts es v h = token-down′ S x κ ts es v (h .trees) (h .spanned) (h .marked) (h .said)
 
-shift-spec : (S : NonTerminal) (x : Token) (m : Mark) (k : ℕ) (δ γ : List Sym) (κ : Token → Fun δ (Says S)) (Q : Type 0) → Ok δ → (b : Bool) → eqb (x .kind) k ≡ b → Spec S x (tk m k ∷ δ) κ γ Q (shift S γ m δ b (κ x))
+shift-spec : (S : NonTerminal) (x : Token) (m : Mark) (k : ℕ) (δ γ : List Sym) (κ : Token → Fun δ (Says S)) (Q : Type 0) → Ok δ → (b : Bool)
+    → eqb (x .kind) k ≡ b → Spec S x (tk m k ∷ δ) κ γ Q (shift S γ m δ b (κ x))
 unfolding shift
 shift-spec S x m k δ γ κ Q o true e = (o, token-up S x m k δ κ (eqb→eq (x .kind) k (subst T (sym e) tt)), λ ts es v h. token-down S x m k δ κ ts es v h .1)
 shift-spec S x m k δ γ κ Q o false e = λ ts es v h. subst T (ap (eqb (x .kind)) (token-down S x m k δ κ ts es v h .0) ∙ e) (eqb-refl (x .kind))
 
 -- a nonterminal, as rec has it
 abbrev Entered : (S : NonTerminal) (x : Token) (n : ℕ) (rec : (M : NonTerminal) (γ : List Sym) → (Says M → Fun γ (Says S)) → Step S γ) → Type 0
-Entered S x n rec = (M : NonTerminal) → rank M < n → (γ : List Sym) (κ : Says M → Fun γ (Says S)) → Ok (nt M ∷ γ) → Spec S x (nt M ∷ γ) κ γ (T (nullable M)) (rec M γ κ)
+Entered S x n rec = (M : NonTerminal) → rank M < n → (γ : List Sym) (κ : Says M → Fun γ (Says S)) → Ok (nt M ∷ γ)
+    → Spec S x (nt M ∷ γ) κ γ (T (nullable M)) (rec M γ κ)
 
 both : (a b : Bool) → T a → T b → T (a && b)
 both true b t u = u
 both false b t u = t
 
 -- through the symbols of a right-hand side
-through-spec : (S : NonTerminal) (x : Token) (n : ℕ) (rec : (M : NonTerminal) (γ : List Sym) → (Says M → Fun γ (Says S)) → Step S γ) → Entered S x n rec → (δ γ : List Sym) (κ : Fun (δ ++ γ) (Says S)) → T (lead n δ) → Ok (δ ++ γ) → Spec S x (δ ++ γ) κ γ (T (nullables δ)) (through S x rec δ γ κ)
+through-spec : (S : NonTerminal) (x : Token) (n : ℕ) (rec : (M : NonTerminal) (γ : List Sym) → (Says M → Fun γ (Says S)) → Step S γ) → Entered S x n rec
+    → (δ γ : List Sym) (κ : Fun (δ ++ γ) (Says S)) → T (lead n δ) → Ok (δ ++ γ) → Spec S x (δ ++ γ) κ γ (T (nullables δ)) (through S x rec δ γ κ)
 unfolding through nullables lead
 through-spec S x n rec h [] γ κ l o = (tt, (λ ts es v a. a), λ ts es v a. a)
 through-spec S x n rec h (tk m k ∷ δ) γ κ l o = shift-spec S x m k (δ ++ γ) γ κ (T false) o (eqb (x .kind) k) refl
@@ -160,20 +175,24 @@ through-spec S x n rec h (nt M ∷ δ) γ κ l o =
     (both (nullable M) (nullables δ))
 
 -- a tree of a nonterminal is by the production that the token's kind picks
-picked : (S M : NonTerminal) (γ : List Sym) (κ : Says M → Fun γ (Says S)) → Ok (nt M ∷ γ) → (x : Token) (ts : List Token) (es : List Mark) (v : Says S) (b : By S M γ κ (x ∷ ts) es v) → pick (productions M) (x .kind) ≡ take (b .rule)
+picked : (S M : NonTerminal) (γ : List Sym) (κ : Says M → Fun γ (Says S)) → Ok (nt M ∷ γ)
+    → (x : Token) (ts : List Token) (es : List Mark) (v : Says S) (b : By S M γ κ (x ∷ ts) es v) → pick (productions M) (x .kind) ≡ take (b .rule)
 unfolding chosen
 picked S M γ κ o x ts es v b =
     let r : Production M = b .rule in
     pick-finds (x .kind) (b .one-of)
     (elim (firsts-append (x .kind) (r .rhs) γ (starts (b .has .trees) x ts (b .has .spanned))) [
       | inl u ↦ elem-left (x .kind) (firsts (r .rhs)) (choose (nullables (r .rhs)) (follow M) []) u
-      | inr u ↦ elem-right (x .kind) (firsts (r .rhs)) (choose (nullables (r .rhs)) (follow M) []) (choose-elem (x .kind) (nullables (r .rhs)) (follow M) (u .0) (o .0 (x .kind) (u .1)))
+      | inr u ↦ elem-right (x .kind) (firsts (r .rhs)) (choose (nullables (r .rhs)) (follow M) [])
+          (choose-elem (x .kind) (nullables (r .rhs)) (follow M) (u .0) (o .0 (x .kind) (u .1)))
     ])
 
 lower : (n m : ℕ) (rec-M : ℕ) → m < suc n → rec-M < m → rec-M < n
 lower n m k h g = omega arith
 
-byRule-spec : (S : NonTerminal) (x : Token) (n : ℕ) (rec : (M : NonTerminal) (γ : List Sym) → (Says M → Fun γ (Says S)) → Step S γ) → Entered S x n rec → (M : NonTerminal) → rank M < suc n → (γ : List Sym) (κ : Says M → Fun γ (Says S)) → Ok (nt M ∷ γ) → (p : Pick M) → pick (productions M) (x .kind) ≡ p → Spec S x (nt M ∷ γ) κ γ (T (nullable M)) (byRule S x rec M γ κ p)
+byRule-spec : (S : NonTerminal) (x : Token) (n : ℕ) (rec : (M : NonTerminal) (γ : List Sym) → (Says M → Fun γ (Says S)) → Step S γ) → Entered S x n rec
+    → (M : NonTerminal) → rank M < suc n → (γ : List Sym) (κ : Says M → Fun γ (Says S)) → Ok (nt M ∷ γ) → (p : Pick M) → pick (productions M) (x .kind) ≡ p
+    → Spec S x (nt M ∷ γ) κ γ (T (nullable M)) (byRule S x rec M γ κ p)
 unfolding byRule
 byRule-spec S x n rec h M l γ κ o no-rule e = λ ts es v a.
     let b : By S M γ κ (x ∷ ts) es v = down S M γ κ (x ∷ ts) es v a in
@@ -183,10 +202,12 @@ byRule-spec S x n rec h M l γ κ o (take r) e =
     (λ ts es v a. up S M γ κ ts es v (record { rule = r; one-of = m; has = a }))
     (λ ts es v a.
     let b : By S M γ κ (x ∷ ts) es v = down S M γ κ (x ∷ ts) es v a in
-    subst (λ (q : Production M). Has S (q .rhs ++ γ) (compose M S (q .rhs) γ (q .says) κ) (x ∷ ts) es v) (take-same (b .rule) r (sym (picked S M γ κ o x ts es v b) ∙ e)) (b .has))
+    subst (λ (q : Production M). Has S (q .rhs ++ γ) (compose M S (q .rhs) γ (q .says) κ) (x ∷ ts) es v)
+    (take-same (b .rule) r (sym (picked S M γ κ o x ts es v b) ∙ e)) (b .has))
     (vanishes m)
     (through S x rec (r .rhs) γ (compose M S (r .rhs) γ (r .says) κ))
-    (through-spec S x (rank M) rec (λ A q. h A (lower n (rank M) (rank A) l q)) (r .rhs) γ (compose M S (r .rhs) γ (r .says) κ) (lead-ok m) (ok-rule M (r .rhs) γ (inside-ok m) o))
+    (through-spec S x (rank M) rec (λ A q. h A (lower n (rank M) (rank A) l q)) (r .rhs) γ (compose M S (r .rhs) γ (r .says) κ) (lead-ok m)
+    (ok-rule M (r .rhs) γ (inside-ok m) o))
   where
     m : r ∈ productions M
     m = pick-rule r (x .kind) e

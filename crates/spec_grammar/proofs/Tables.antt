@@ -94,20 +94,26 @@ module _ {M : NonTerminal} {r : Production M} (m : r ∈ productions M) where
 
   pub begins : (k : ℕ) → T (elem k (firsts (r .rhs))) → T (elem k (first M))
   unfolding okRule
-  begins k t = within (firsts (r .rhs)) (first M) (and-left (subset (firsts (r .rhs)) (first M)) (choose (nullables (r .rhs)) (nullable M) true && (inside M (r .rhs) && lead (rank M) (r .rhs))) rule-ok) k t
+  begins k t = within (firsts (r .rhs)) (first M)
+      (and-left (subset (firsts (r .rhs)) (first M)) (choose (nullables (r .rhs)) (nullable M) true && (inside M (r .rhs) && lead (rank M) (r .rhs))) rule-ok) k
+      t
 
   rest-ok : T (choose (nullables (r .rhs)) (nullable M) true && (inside M (r .rhs) && lead (rank M) (r .rhs)))
   unfolding okRule
-  rest-ok = and-right (subset (firsts (r .rhs)) (first M)) (choose (nullables (r .rhs)) (nullable M) true && (inside M (r .rhs) && lead (rank M) (r .rhs))) rule-ok
+  rest-ok = and-right (subset (firsts (r .rhs)) (first M))
+      (choose (nullables (r .rhs)) (nullable M) true && (inside M (r .rhs) && lead (rank M) (r .rhs))) rule-ok
 
   pub vanishes : T (nullables (r .rhs)) → T (nullable M)
-  vanishes u = if-so (nullables (r .rhs)) (nullable M) (and-left (choose (nullables (r .rhs)) (nullable M) true) (inside M (r .rhs) && lead (rank M) (r .rhs)) rest-ok) u
+  vanishes u = if-so (nullables (r .rhs)) (nullable M)
+      (and-left (choose (nullables (r .rhs)) (nullable M) true) (inside M (r .rhs) && lead (rank M) (r .rhs)) rest-ok) u
 
   pub inside-ok : T (inside M (r .rhs))
-  inside-ok = and-left (inside M (r .rhs)) (lead (rank M) (r .rhs)) (and-right (choose (nullables (r .rhs)) (nullable M) true) (inside M (r .rhs) && lead (rank M) (r .rhs)) rest-ok)
+  inside-ok = and-left (inside M (r .rhs)) (lead (rank M) (r .rhs))
+      (and-right (choose (nullables (r .rhs)) (nullable M) true) (inside M (r .rhs) && lead (rank M) (r .rhs)) rest-ok)
 
   pub lead-ok : T (lead (rank M) (r .rhs))
-  lead-ok = and-right (inside M (r .rhs)) (lead (rank M) (r .rhs)) (and-right (choose (nullables (r .rhs)) (nullable M) true) (inside M (r .rhs) && lead (rank M) (r .rhs)) rest-ok)
+  lead-ok = and-right (inside M (r .rhs)) (lead (rank M) (r .rhs))
+      (and-right (choose (nullables (r .rhs)) (nullable M) true) (inside M (r .rhs) && lead (rank M) (r .rhs)) rest-ok)
 
 -- the reader takes the production that a kind is for
 alone-ok : {M : NonTerminal} (q : Production M) {r : Production M} {rs : List (Production M)} → T (alone q rs) → r ∈ rs → T (disjoint (chosen q) (chosen r))
@@ -138,7 +144,8 @@ pick-finds {M} k m u = pick′ k (rules-ok M) m u
 take-inj : {M : NonTerminal} (q r : Production M) → take q ≡ take r → q ≡ r
 take-inj q r e = cc
 
-pick-case : {M : NonTerminal} (q r : Production M) (rs : List (Production M)) (b : Bool) (p : Pick M) → choose b (take q) p ≡ take r → (p ≡ take r → r ∈ rs) → r ∈ (q ∷ rs)
+pick-case : {M : NonTerminal} (q r : Production M) (rs : List (Production M)) (b : Bool) (p : Pick M) → choose b (take q) p ≡ take r → (p ≡ take r → r ∈ rs)
+    → r ∈ (q ∷ rs)
 pick-case q r rs true p e ih = subst (λ (s : Production _). r ∈ (s ∷ rs)) (sym (take-inj q r e)) here
 pick-case q r rs false p e ih = there (ih e)
 

@@ -168,7 +168,8 @@ literal-is c m x false e = rw e
 not-both : (k : ℕ) → eqb k NAME ≡ true → eqb k NUMBER ≡ true → ⊥
 not-both k e f = omega (arith, eqb→eq k NAME (rw e tt), eqb→eq k NUMBER (rw f tt))
 
-follows-as : (c : Meter) (n : ℕ) (m : Mark) (x : Token) (a b : Bool) → eqb (x .kind) NAME ≡ a → eqb (x .kind) NUMBER ≡ b → Follows Fits Kept Well n (cond a (n + longer x) (cond b (n + greater x) n)) (tick c m x)
+follows-as : (c : Meter) (n : ℕ) (m : Mark) (x : Token) (a b : Bool) → eqb (x .kind) NAME ≡ a → eqb (x .kind) NUMBER ≡ b
+    → Follows Fits Kept Well n (cond a (n + longer x) (cond b (n + greater x) n)) (tick c m x)
 unfolding longer greater
 follows-as c n m x true true e f = absurd (not-both (x .kind) e f)
 follows-as c n m x true false e f =
@@ -203,7 +204,8 @@ greater-is x = ((λ h. omega arith), λ h. omega arith)
 pub tokens-kept : (ts : List Token) (es : List Mark) (t : Text) → Reads text ts es t → Along Kept zeroes ts es ↔ Keeps t
 tokens-kept ts es t r =
     let k : Along Kept zeroes ts es ↔ Well (onText (adds longer greater) t 0) =
-    text-along (adds longer greater) Fits Kept Well (λ c n f m x. follows-as c n m x (eqb (x .kind) NAME) (eqb (x .kind) NUMBER) refl refl) ts es t r 0 tt refl in
+    text-along (adds longer greater) Fits Kept Well
+    (λ c n f m x. follows-as c n m x (eqb (x .kind) NAME) (eqb (x .kind) NUMBER) refl refl) ts es t r 0 tt refl in
     let e : onText (adds longer greater) t 0 ≡ total longer (textNames t) + total greater (textNumbers t) = text-adds longer greater t in
     let i = each-total longer (λ (x : Token). x .size) 32 longer-is (textNames t) in
     let j = each-total greater (λ (x : Token). x .value) 2147483647 greater-is (textNumbers t) in (

@@ -147,4 +147,5 @@ module _ (P : Token → Type 0) where
 
 -- what holds of each of the tokens that are read holds of each token of the tree
 pub tokens-of : (P : Token → Type 0) {ts : List Token} {es : List Mark} {t : Text} → Reads text ts es t → Each P ts → InText P t
-tokens-of P r h = subst (InText P) (r .said) (tree-keeps (λ (k : ℕ) (x : Token). P x) (Kept P) P (λ k x e h. h) (all-keep P) (r .tree) (subst (Each P) (sym (r .spanned)) h))
+tokens-of P r h = subst (InText P) (r .said)
+    (tree-keeps (λ (k : ℕ) (x : Token). P x) (Kept P) P (λ k x e h. h) (all-keep P) (r .tree) (subst (Each P) (sym (r .spanned)) h))

@@ -40,7 +40,8 @@ marks-join empty bs = refl
 marks-join (token {m} x e cs) bs = ap (λ (l : List Mark). m ∷ l) (marks-join cs bs)
 marks-join (child d cs) bs = ap (λ (l : List Mark). mark d ++ l) (marks-join cs bs) ∙ sym (append-assoc (mark d) (marks cs) (marks bs))
 
-pub says-join : (M S : NonTerminal) {γ δ : List Sym} (cs : Trees γ) (bs : Trees δ) (f : Fun γ (Says M)) (κ : Says M → Fun δ (Says S)) → saysAll (join cs bs) S (compose M S γ δ f κ) ≡ saysAll bs S (κ (saysAll cs M f))
+pub says-join : (M S : NonTerminal) {γ δ : List Sym} (cs : Trees γ) (bs : Trees δ) (f : Fun γ (Says M)) (κ : Says M → Fun δ (Says S))
+    → saysAll (join cs bs) S (compose M S γ δ f κ) ≡ saysAll bs S (κ (saysAll cs M f))
 unfolding join saysAll compose
 says-join M S empty bs f κ = refl
 says-join M S (token x e cs) bs f κ = says-join M S cs bs (f x) κ
@@ -75,15 +76,23 @@ pub record By (S M : NonTerminal) (γ : List Sym) (κ : Says M → Fun γ (Says 
   pub one-of : rule ∈ productions M
   pub has : Has S (rule .rhs ++ γ) (compose M S (rule .rhs) γ (rule .says) κ) ts es v
 
-down′ : (S : NonTerminal) {M : NonTerminal} {γ : List Sym} (κ : Says M → Fun γ (Says S)) (ts : List Token) (es : List Mark) (v : Says S) (ds : Trees (nt M ∷ γ)) → spans ds ≡ ts → marks ds ≡ es → saysAll ds S κ ≡ v → By S M γ κ ts es v
+down′ : (S : NonTerminal) {M : NonTerminal} {γ : List Sym} (κ : Says M → Fun γ (Says S)) (ts : List Token) (es : List Mark) (v : Says S) (ds : Trees (nt M ∷ γ))
+    → spans ds ≡ ts → marks ds ≡ es → saysAll ds S κ ≡ v → By S M γ κ ts es v
 unfolding spans marks saysAll
 down′ S {M} {γ} κ ts es v (child (by r m cs) bs) e q w =
-    record { rule = r; one-of = m; has = record { trees = join cs bs; spanned = spans-join cs bs ∙ e; marked = marks-join cs bs ∙ q; said = says-join M S cs bs (r .says) κ ∙ w } }
+    record {
+      rule = r;
+      one-of = m;
+      has = record
+          { trees = join cs bs; spanned = spans-join cs bs ∙ e; marked = marks-join cs bs ∙ q; said = says-join M S cs bs (r .says) κ ∙ w };
+    }
 
-pub down : (S M : NonTerminal) (γ : List Sym) (κ : Says M → Fun γ (Says S)) (ts : List Token) (es : List Mark) (v : Says S) → Has S (nt M ∷ γ) κ ts es v → By S M γ κ ts es v
+pub down : (S M : NonTerminal) (γ : List Sym) (κ : Says M → Fun γ (Says S)) (ts : List Token) (es : List Mark) (v : Says S) → Has S (nt M ∷ γ) κ ts es v
+    → By S M γ κ ts es v
 down S M γ κ ts es v h = down′ S κ ts es v (h .trees) (h .spanned) (h .marked) (h .said)
 
-pub up : (S M : NonTerminal) (γ : List Sym) (κ : Says M → Fun γ (Says S)) (ts : List Token) (es : List Mark) (v : Says S) → By S M γ κ ts es v → Has S (nt M ∷ γ) κ ts es v
+pub up : (S M : NonTerminal) (γ : List Sym) (κ : Says M → Fun γ (Says S)) (ts : List Token) (es : List Mark) (v : Says S) → By S M γ κ ts es v
+    → Has S (nt M ∷ γ) κ ts es v
 unfolding spans marks saysAll
 up S M γ κ ts es v b =
     let r : Production M = b .rule in
@@ -92,12 +101,16 @@ up S M γ κ ts es v b =
       trees = child (by r (b .one-of) (c .front)) (c .back);
       spanned = sym (spans-join (c .front) (c .back)) ∙ (ap spans (c .whole) ∙ b .has .spanned);
       marked = sym (marks-join (c .front) (c .back)) ∙ (ap marks (c .whole) ∙ b .has .marked);
-      said = sym (says-join M S (c .front) (c .back) (r .says) κ) ∙ (ap (λ (t : Trees (r .rhs ++ γ)). saysAll t S (compose M S (r .rhs) γ (r .says) κ)) (c .whole) ∙ b .has .said);
+      said = sym (says-join M S (c .front) (c .back) (r .says) κ)
+          ∙ (ap (λ (t : Trees (r .rhs ++ γ)). saysAll t S (compose M S (r .rhs) γ (r .says) κ)) (c .whole) ∙ b .has .said);
     }
 
 -- What a tree can begin with, and which parts can be empty.
-starts-case : (M : NonTerminal) (γ : List Sym) (l m : List Token) (x : Token) (ts : List Token) → l ++ m ≡ x ∷ ts → (l ≡ [] → T (nullable M)) → ((y : Token) (us : List Token) → l ≡ y ∷ us → T (elem (y .kind) (first M))) → (m ≡ x ∷ ts → T (elem (x .kind) (firsts γ))) → T (elem (x .kind) (first M ++ choose (nullable M) (firsts γ) []))
-starts-case M γ [] m x ts e n f g = elem-right (x .kind) (first M) (choose (nullable M) (firsts γ) []) (choose-elem (x .kind) (nullable M) (firsts γ) (n refl) (g e))
+starts-case : (M : NonTerminal) (γ : List Sym) (l m : List Token) (x : Token) (ts : List Token) → l ++ m ≡ x ∷ ts → (l ≡ [] → T (nullable M))
+    → ((y : Token) (us : List Token) → l ≡ y ∷ us → T (elem (y .kind) (first M))) → (m ≡ x ∷ ts → T (elem (x .kind) (firsts γ)))
+    → T (elem (x .kind) (first M ++ choose (nullable M) (firsts γ) []))
+starts-case M γ [] m x ts e n f g = elem-right (x .kind) (first M) (choose (nullable M) (firsts γ) [])
+    (choose-elem (x .kind) (nullable M) (firsts γ) (n refl) (g e))
 starts-case M γ (y ∷ l) m x ts e n f g =
     elem-left (x .kind) (first M) (choose (nullable M) (firsts γ) []) (subst (λ (z : Token). T (elem (z .kind) (first M))) (cons-head e) (f y l refl))
 

@@ -141,7 +141,8 @@ module _ {C : Type 0} (μ : Machine C) where
   R more f c d = (s : Stmt) (b : C) → c ≡ onStmt s b → d ≡ onBody (f s) b
   R statement s c d = d ≡ onStmt s c
   R target f c d = (x : Token) (b : C) → c ≡ μ .named stmt x b → d ≡ onStmt (f x) b
-  R else-part f c d = (i : Token) (e : Expr) (a : Body) (b : C) → c ≡ onBody a (μ .other deeper (onExpr e (μ .other stmt-fresh b))) → p (p (μ .other shallower d)) ≡ onStmt (f i e a) b
+  R else-part f c d = (i : Token) (e : Expr) (a : Body) (b : C) → c ≡ onBody a (μ .other deeper (onExpr e (μ .other stmt-fresh b)))
+      → p (p (μ .other shallower d)) ≡ onStmt (f i e a) b
   R expression e c d = d ≡ onExpr e c
   R chain f c d = Continues f c d
   R ands f c d = Continues f c d
@@ -167,7 +168,8 @@ module _ {C : Type 0} (μ : Machine C) where
   RAll M (r ∷ rs) = ((c : C) → RFun (r .rhs) M (r .says) c c) × RAll M rs
 
   -- a port group goes by its mode
-  port-as : (c : C) (ns : List Token) (d1 : C) → d1 ≡ onNames declares ns c → (m : Mode) (d2 : C) → IsMode m (p d1) d2 → (t : Token) (d3 : C) → d3 ≡ p d2 → (i : Init) (d4 : C) → d4 ≡ onInit i d3 → d4 ≡ onPort (record { names = ns; mode = m; type = t; init = i }) c
+  port-as : (c : C) (ns : List Token) (d1 : C) → d1 ≡ onNames declares ns c → (m : Mode) (d2 : C) → IsMode m (p d1) d2 → (t : Token) (d3 : C) → d3 ≡ p d2
+      → (i : Init) (d4 : C) → d4 ≡ onInit i d3 → d4 ≡ onPort (record { names = ns; mode = m; type = t; init = i }) c
   unfolding onPort onMode
   port-as c ns d1 h1 input d2 h2 t d3 h3 i d4 h4 = cc
   port-as c ns d1 h1 output-port d2 h2 t d3 h3 i d4 h4 = cc
@@ -202,19 +204,37 @@ module _ {C : Type 0} (μ : Machine C) where
   all-walked target = (λ c _ _ e d h _ _ x b g. cc, (λ c _ _ e d h _ _ x b g. cc, tt))
   all-walked else-part = (λ c i e a b h. cc, (λ c _ _ b d h i e a r g. cc, tt))
   all-walked expression = (λ c a d h f e k. k a c h, tt)
-  all-walked chain =
-      (λ c a b h. h, (λ c x _ b d h f e k a r g. k (binary x a b) r (cc), (λ c x _ b d h f e k a r g. k (binary x a b) r (cc), (λ c x _ b d h f e k a r g. k (binary x a b) r (cc), tt))))
+  all-walked chain = (
+    λ c a b h. h,
+    (
+      λ c x _ b d h f e k a r g. k (binary x a b) r (cc),
+      (λ c x _ b d h f e k a r g. k (binary x a b) r (cc), (λ c x _ b d h f e k a r g. k (binary x a b) r (cc), tt)),
+    ),
+  )
   all-walked ands = (λ c a b h. h, (λ c x _ b d h f e k a r g. k (binary x a b) r (cc), tt))
   all-walked ors = (λ c a b h. h, (λ c x _ b d h f e k a r g. k (binary x a b) r (cc), tt))
   all-walked xors = (λ c a b h. h, (λ c x _ b d h f e k a r g. k (binary x a b) r (cc), tt))
   all-walked relation = (λ c a d h f e k. k a c h, tt)
-  all-walked compared =
-      (λ c a b h. h, (λ c x _ b d h a r g. cc, (λ c x _ b d h a r g. cc, (λ c x _ b d h a r g. cc, (λ c x _ b d h a r g. cc, (λ c x _ b d h a r g. cc, (λ c x _ b d h a r g. cc, tt)))))))
+  all-walked compared = (
+    λ c a b h. h,
+    (
+      λ c x _ b d h a r g. cc,
+      (λ c x _ b d h a r g. cc, (λ c x _ b d h a r g. cc, (λ c x _ b d h a r g. cc, (λ c x _ b d h a r g. cc, (λ c x _ b d h a r g. cc, tt))))),
+    ),
+  )
   all-walked simple = (λ c a d h f e k. k a c h, (λ c s _ a d h f e k. k (sign s a) c h, tt))
   all-walked terms = (λ c a b h. h, (λ c x _ b d h f e k a r g. k (binary x a b) r (cc), (λ c x _ b d h f e k a r g. k (binary x a b) r (cc), tt)))
   all-walked term = (λ c a d h f e k. k a c h, tt)
-  all-walked factors =
-      (λ c a b h. h, (λ c x _ b d h f e k a r g. k (binary x a b) r (cc), (λ c x _ b d h f e k a r g. k (binary x a b) r (cc), (λ c x _ b d h f e k a r g. k (binary x a b) r (cc), (λ c x _ b d h f e k a r g. k (binary x a b) r (cc), tt)))))
+  all-walked factors = (
+    λ c a b h. h,
+    (
+      λ c x _ b d h f e k a r g. k (binary x a b) r (cc),
+      (
+        λ c x _ b d h f e k a r g. k (binary x a b) r (cc),
+        (λ c x _ b d h f e k a r g. k (binary x a b) r (cc), (λ c x _ b d h f e k a r g. k (binary x a b) r (cc), tt)),
+      ),
+    ),
+  )
   all-walked factor = (λ c a d h. h, (λ c x _ a d h. h, tt))
   all-walked primary = (λ c x _. refl, (λ c x _. refl, (λ c x _. refl, (λ c x _. refl, (λ c _ _ a d h _ _. cc, tt)))))
 
@@ -237,7 +257,8 @@ module _ {C : Type 0} (μ : Machine C) where
     tree-walked : {M : NonTerminal} (d : Tree M) (c : C) → R M (says d) c (steps c (span d) (mark d))
     tree-walked {M} (by r m ds) c = trees-walked ds M (r .says) c c (picked r (productions M) m (all-walked M) c)
 
-    trees-walked : {γ : List Sym} (ds : Trees γ) (S : NonTerminal) (f : Fun γ (Says S)) (c d : C) → RFun γ S f c d → R S (saysAll ds S f) c (steps d (spans ds) (marks ds))
+    trees-walked : {γ : List Sym} (ds : Trees γ) (S : NonTerminal) (f : Fun γ (Says S)) (c d : C) → RFun γ S f c d
+        → R S (saysAll ds S f) c (steps d (spans ds) (marks ds))
     trees-walked empty S f c d k = k
     trees-walked (token {m} {k = j} x e ds) S f c d k =
         subst (λ (i : ℕ). R S (saysAll ds S (f x)) c (steps (step m i x d) (spans ds) (marks ds))) (sym e) (trees-walked ds S (f x) c (step m j x d) (k x e))

@@ -26,7 +26,8 @@ one lim m k c [] = not-got []
 one lim m k c (x ∷ ts) = choose (eqb (x .kind) k) (choose (lim (tick c m x)) (past (x ∷ ts)) (got x (tick c m x) ts)) (not-got (x ∷ ts))
 
 -- a right-hand side, one symbol after another
-unfoldable pub each : (Meter → Bool) → (rec : (M : NonTerminal) → Meter → List Token → Got (Says M)) → (M : NonTerminal) (δ : List Sym) → Fun δ (Says M) → Meter → List Token → Got (Says M)
+unfoldable pub each : (Meter → Bool) → (rec : (M : NonTerminal) → Meter → List Token → Got (Says M)) → (M : NonTerminal) (δ : List Sym) → Fun δ (Says M) → Meter
+    → List Token → Got (Says M)
 each lim rec M [] f c ts = got f c ts
 each lim rec M (tk m k ∷ δ) f c ts = next (one lim m k c ts) (λ v c′ ts′. each lim rec M δ (f v) c′ ts′)
 each lim rec M (nt A ∷ δ) f c ts = next (rec A c ts) (λ v c′ ts′. each lim rec M δ (f v) c′ ts′)
@@ -44,7 +45,8 @@ unfoldable pub leave : {A : Type 0} → Option A → Meter → List Token → Go
 leave none c ts = not-got ts
 leave (some v) c ts = got v c ts
 
-unfoldable pub chosenRule : (Meter → Bool) → (rec : (M : NonTerminal) → Meter → List Token → Got (Says M)) → (M : NonTerminal) → Meter → List Token → Pick M → Got (Says M)
+unfoldable pub chosenRule : (Meter → Bool) → (rec : (M : NonTerminal) → Meter → List Token → Got (Says M)) → (M : NonTerminal) → Meter → List Token → Pick M
+    → Got (Says M)
 chosenRule lim rec M c ts (take r) = each lim rec M (r .rhs) (r .says) c ts
 chosenRule lim rec M c ts no-rule = leave (emptyRule (productions M)) c ts
 

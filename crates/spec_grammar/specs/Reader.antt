@@ -214,12 +214,14 @@ shift S γ m δ true κ = to m δ κ
 shift S γ m δ false κ = stuck
 
 -- the symbols δ, with γ after them; rec says what x does to a nonterminal
-unfoldable pub through : (S : NonTerminal) (x : Token) (rec : (M : NonTerminal) (γ : List Sym) → (Says M → Fun γ (Says S)) → Step S γ) (δ γ : List Sym) → Fun (δ ++ γ) (Says S) → Step S γ
+unfoldable pub through : (S : NonTerminal) (x : Token) (rec : (M : NonTerminal) (γ : List Sym) → (Says M → Fun γ (Says S)) → Step S γ) (δ γ : List Sym)
+    → Fun (δ ++ γ) (Says S) → Step S γ
 through S x rec [] γ κ = skip κ
 through S x rec (tk m k ∷ δ) γ κ = shift S γ m (δ ++ γ) (eqb (x .kind) k) (κ x)
 through S x rec (nt M ∷ δ) γ κ = onSkip (rec M (δ ++ γ) κ) (λ κ′. through S x rec δ γ κ′)
 
-unfoldable pub byRule : (S : NonTerminal) (x : Token) (rec : (M : NonTerminal) (γ : List Sym) → (Says M → Fun γ (Says S)) → Step S γ) (M : NonTerminal) (γ : List Sym) → (Says M → Fun γ (Says S)) → Pick M → Step S γ
+unfoldable pub byRule : (S : NonTerminal) (x : Token) (rec : (M : NonTerminal) (γ : List Sym) → (Says M → Fun γ (Says S)) → Step S γ) (M : NonTerminal)
+    (γ : List Sym) → (Says M → Fun γ (Says S)) → Pick M → Step S γ
 byRule S x rec M γ κ (take r) = through S x rec (r .rhs) γ (compose M S (r .rhs) γ (r .says) κ)
 byRule S x rec M γ κ no-rule = stuck
 
@@ -247,7 +249,8 @@ unfoldable pub keep : {A : Type 0} → List Token → Bool → Outcome A → Out
 keep ts true o = limited ts
 keep ts false o = o
 
-unfoldable pub after : {S : NonTerminal} → (Meter → Bool) → Meter → Token → List Token → Step S [] → (Meter → (γ : List Sym) → Fun γ (Says S) → Outcome (Says S)) → Outcome (Says S)
+unfoldable pub after : {S : NonTerminal} → (Meter → Bool) → Meter → Token → List Token → Step S []
+    → (Meter → (γ : List Sym) → Fun γ (Says S) → Outcome (Says S)) → Outcome (Says S)
 after lim c x ts stuck f = refused (x ∷ ts)
 after lim c x ts (skip κ) f = refused (x ∷ ts)
 after lim c x ts (to m γ κ) f = keep (x ∷ ts) (lim (tick c m x)) (f (tick c m x) γ κ)

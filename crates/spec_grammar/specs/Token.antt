@@ -1,4 +1,4 @@
--- Tokens, as the grammar sees them; their kinds are numbers of the crate codes. Assumes nothing.
+-- Tokens, as the grammar sees them; their kinds are numbers of the crate base_codes. Assumes nothing.
 use Prim.Native.Nat.{ℕ}
 
 -- A token's kind; its value (a name: its folded bytes as one number, base 256; a number: its value, cut at 2147483648; '0' and '1': 0 and 1);

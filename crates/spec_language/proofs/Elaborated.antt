@@ -35,23 +35,28 @@ unreads-clock : (Δ : List Decl) (l : List T.Stmt) (c : Option Token) → clockF
 unfolding clockFor
 unreads-clock Δ l none e = tt
 unreads-clock Δ l (some w) e =
-    let s = both-nil (unless (isA clockLike (find Δ (w .value))) (w .place)) (each (strays (w .value)) l ++ cond (isA clockLike (find Δ (w .value))) (each (readsOf (w .value)) l) []) e in
+    let s = both-nil (unless (isA clockLike (find Δ (w .value))) (w .place))
+    (each (strays (w .value)) l ++ cond (isA clockLike (find Δ (w .value))) (each (readsOf (w .value)) l) []) e in
     let s′ = both-nil (each (strays (w .value)) l) (cond (isA clockLike (find Δ (w .value))) (each (readsOf (w .value)) l) []) (s .1) in
     rw (unless-nil (isA clockLike (find Δ (w .value))) (w .place) (s .0)) at (s′ .1)
 
 pub not-doubled : (t : Text) → names t ≡ [] → doubled (declared t) ≡ []
 unfolding names
 not-doubled t e =
-    let a = both-nil (differs (t .entityEnd) (t .entity)) (differs (t .archOf) (t .entity) ++ (differs (t .archEnd) (t .arch) ++ (doubled (declared t) ++ each (namesOf (declared t)) (statements (t .body))))) e in
-    let b = both-nil (differs (t .archOf) (t .entity)) (differs (t .archEnd) (t .arch) ++ (doubled (declared t) ++ each (namesOf (declared t)) (statements (t .body)))) (a .1) in
+    let a = both-nil (differs (t .entityEnd) (t .entity))
+    (differs (t .archOf) (t .entity) ++ (differs (t .archEnd) (t .arch) ++ (doubled (declared t) ++ each (namesOf (declared t)) (statements (t .body))))) e in
+    let b = both-nil (differs (t .archOf) (t .entity))
+    (differs (t .archEnd) (t .arch) ++ (doubled (declared t) ++ each (namesOf (declared t)) (statements (t .body)))) (a .1) in
     let c = both-nil (differs (t .archEnd) (t .arch)) (doubled (declared t) ++ each (namesOf (declared t)) (statements (t .body))) (b .1) in
     both-nil (doubled (declared t)) (each (namesOf (declared t)) (statements (t .body))) (c .1) .0
 
 known-names : (t : Text) → names t ≡ [] → each (namesOf (declared t)) (statements (t .body)) ≡ []
 unfolding names
 known-names t e =
-    let a = both-nil (differs (t .entityEnd) (t .entity)) (differs (t .archOf) (t .entity) ++ (differs (t .archEnd) (t .arch) ++ (doubled (declared t) ++ each (namesOf (declared t)) (statements (t .body))))) e in
-    let b = both-nil (differs (t .archOf) (t .entity)) (differs (t .archEnd) (t .arch) ++ (doubled (declared t) ++ each (namesOf (declared t)) (statements (t .body)))) (a .1) in
+    let a = both-nil (differs (t .entityEnd) (t .entity))
+    (differs (t .archOf) (t .entity) ++ (differs (t .archEnd) (t .arch) ++ (doubled (declared t) ++ each (namesOf (declared t)) (statements (t .body))))) e in
+    let b = both-nil (differs (t .archOf) (t .entity))
+    (differs (t .archEnd) (t .arch) ++ (doubled (declared t) ++ each (namesOf (declared t)) (statements (t .body)))) (a .1) in
     let c = both-nil (differs (t .archEnd) (t .arch)) (doubled (declared t) ++ each (namesOf (declared t)) (statements (t .body))) (b .1) in
     both-nil (doubled (declared t)) (each (namesOf (declared t)) (statements (t .body))) (c .1) .1
 
@@ -108,7 +113,8 @@ begins (T.integer-literal y) x e = Begins.number y
 begins (T.logic-literal y) x e = Begins.bit y
 begins (T.minus s y) x e = negative s y
 
-slots : (p : Decl → Bool) → ((d : Decl) → p d ≡ true → isInput (d .mode) ≡ false) → (Δ : List Decl) → each valued Δ ≡ [] → Slots (filter p Δ) (map slot (filter p Δ))
+slots : (p : Decl → Bool) → ((d : Decl) → p d ≡ true → isInput (d .mode) ≡ false) → (Δ : List Decl) → each valued Δ ≡ []
+    → Slots (filter p Δ) (map slot (filter p Δ))
 unfolding each filter slot valued
 slots p h [] e = nil
 slots p h (d ∷ Δ) e = go (p d) refl (slots p h Δ (s .1))
@@ -170,7 +176,8 @@ slots-only (cons {d} {s} h r) = rw (slot-only d s h, slots-only r)
 
 pub elaborated-only : (t : Text) (p : Process) → Clean t → Elaborates t p → elaborate t ≡ p
 unfolding elaborate processFor scopeOf
-elaborated-only t p q e = same-process (elaborate t) p (sym (e .inputs)) (slots-only (e .outputs)) (slots-only (e .variables)) (all-only (declared t) (clockOf t) (not-doubled t (q .names)) (e .body))
+elaborated-only t p q e = same-process (elaborate t) p (sym (e .inputs)) (slots-only (e .outputs)) (slots-only (e .variables))
+    (all-only (declared t) (clockOf t) (not-doubled t (q .names)) (e .body))
   where
     same-process : (a b : Process) → a .inputs ≡ b .inputs → a .outputs ≡ b .outputs → a .variables ≡ b .variables → a .body ≡ b .body → a ≡ b
     same-process a b p q r s = λ i. record { inputs = p i; outputs = q i; variables = r i; body = s i }

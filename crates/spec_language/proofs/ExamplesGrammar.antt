@@ -41,10 +41,6 @@ examples =
     accepts (stmts "s := s * (-2);") ∷
     accepts (stmts "s := -7 mod 3 * s / 2 rem s - u*u;") ∷
     accepts (stmts "if s/=2 then null; end if;") ∷
-    -- `mod` and `rem` are reserved, in either case
-    refused-at 3 (vars "variable ^mod : integer := 0;") "mod" ∷
-    refused-at 3 (vars "variable ^REM : integer := 0;") "REM" ∷
-    accepts (vars "variable mod_1, remx : integer := 0;") ∷
     -- "not on a primary"
     refused-at 3 (stmts "q <= not ^not a;") "not" ∷
     refused-at 3 (stmts "s := not ^- s;") "-" ∷

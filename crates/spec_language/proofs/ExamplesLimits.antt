@@ -1,4 +1,4 @@
--- Examples of refusal 4: each limit just inside and just outside; 512 statements stand in the crate examples. Assumes nothing.
+-- Examples of refusal 4: each limit just inside and just outside; 512 statements stand in the crate spec_examples. Assumes nothing.
 use mathlib.Core.List.{List, [], _∷_, _++_}
 use Prim.Native.Nat.{ℕ, zero, suc}
 use Prim.Native.String.{String}

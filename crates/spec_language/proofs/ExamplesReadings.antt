@@ -179,7 +179,8 @@ gcd = record {
       seq (while (binary unequal (plain std-logic) (inp 2) (leaf (bit true))) wait)
       (seq (act (D.Act.output 0 (leaf (bit false))))
       (seq (if-else (binary less (plain integer) (inp 0) (inp 1)) (seq (store 0 (inp 1)) (store 1 (inp 0))) (seq (store 0 (inp 0)) (store 1 (inp 1))))
-      (seq (while (binary unequal (plain integer) (var 1) (leaf (int (pos 0)))) (seq (store 2 (binary minus (plain integer) (var 0) (var 1))) (seq wait (seq (store 0 (var 1)) (store 1 (var 2))))))
+      (seq (while (binary unequal (plain integer) (var 1) (leaf (int (pos 0))))
+      (seq (store 2 (binary minus (plain integer) (var 0) (var 1))) (seq wait (seq (store 0 (var 1)) (store 1 (var 2))))))
       (seq (act (D.Act.output 0 (leaf (bit true)))) (seq (act (D.Act.output 1 (var 0))) wait)))));
 }
 

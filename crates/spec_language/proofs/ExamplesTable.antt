@@ -1,5 +1,5 @@
 -- Examples of tokens and of types as one table; one test of it, computed; and the theorem that every one of them holds. The examples of the
--- other stages are computed in the crate examples. Assumes nothing.
+-- other stages are computed in the crate spec_examples. Assumes nothing.
 use mathlib.Core.List.{List, _++_}
 use lib.Dec.{T}
 use Rattle.spec_grammar.specs.Limits.{Each}

@@ -1,4 +1,4 @@
--- Examples of refusal 2 and of what tokens are; those of refusal 1 stand in the crate examples. Each refused text has its nearest accepted neighbour. Assumes nothing.
+-- Examples of refusal 2 and of what tokens are; those of refusal 1 stand in the crate spec_examples. Each refused text has its nearest accepted neighbour. Assumes nothing.
 use mathlib.Core.List.{List, [], _∷_, _++_}
 use Rattle.spec_language.specs.Bytes.{bytes}
 use Rattle.spec_language.proofs.Examples.{Example, accepts, refused-at, whole, stmts, vars}
@@ -33,6 +33,10 @@ examples =
     -- "Reserved words are compared without regard to case, and so are names."
     accepts (bytes "ENTITY e Is pOrT(CLK:IN STD_LOGIC;O:OUT INTEGER:=0);END E;Architecture T Of E IS BEGIN PROCESS VARIABLE S:Integer:=1;BEGIN " ++
     bytes "IF NOT(s=1)Then O<=S;ELSE NULL;END IF;WHILE (s<1 AND S>1)Or(S=1 XOR s=2)LOOP WAIT UNTIL Clk='1';END LOOP;wait Until cLK='1';END PROCESS;END T;") ∷
+    -- `mod` and `rem` are reserved, in either case
+    refused-at 3 (vars "variable ^mod : integer := 0;") "mod" ∷
+    refused-at 3 (vars "variable ^REM : integer := 0;") "REM" ∷
+    accepts (vars "variable mod_1, remx : integer := 0;") ∷
     -- words that document 01 does not show are names
     accepts (whole "clk : in std_logic" "variable elsif, mod_1, boolean, signal, remx : integer := 0;" "process" (bytes "elsif := mod_1; wait until clk = '1';")) ∷
     []

@@ -111,7 +111,8 @@ read-name Δ c x n u = go (find Δ (x .value)) refl
 
 -- operators, over variables for the facts of their operands
 whole : (Δ : List Decl) (c : Option Token) (x : Token) (a b : T.Expr) (t u : ExprTy) (o : Binary) → operatorOf (x .kind) ≡ some o → binaryType o t ≡ some u
-    → typeOf Δ a ≡ some t → Means (scopeFor Δ c) a (code Δ (scopeFor Δ c) a) t → typeOf Δ b ≡ some t → Means (scopeFor Δ c) b (code Δ (scopeFor Δ c) b) t → Typed Δ c (T.binary x a b)
+    → typeOf Δ a ≡ some t → Means (scopeFor Δ c) a (code Δ (scopeFor Δ c) a) t → typeOf Δ b ≡ some t → Means (scopeFor Δ c) b (code Δ (scopeFor Δ c) b) t
+    → Typed Δ c (T.binary x a b)
 unfolding typeOf code onTwo resultOf orBoolean orPlus
 whole Δ c x a b t u o e f p m q l = record { type = u; typed = rw (p, q, sameType-refl t, e) f; means = rw (p, e) (binary x e f m l) }
 
@@ -170,7 +171,11 @@ only Δ c n (input {k} {t} x h) = go (r .decl .mode) refl
     r = found-kth (isData c) Δ (x .value) k t n h
 
     go : (m : Mode) → r .decl .mode ≡ m → Only Δ c (T.name x) (leaf (E.input k)) (plain t)
-    go T.input f = record { typed = rw (r .found) (ap (λ (y : Ty). some (plain y)) (r .type)); coded = rw (r .found, f) (ap (λ (y : ℕ). leaf (E.input y)) (r .position)) }
+    go T.input f = record {
+      typed = rw (r .found) (ap (λ (y : Ty). some (plain y)) (r .type));
+      coded = rw (r .found, f)
+          (ap (λ (y : ℕ). leaf (E.input y)) (r .position));
+    }
     go T.output-port f = clash (sym (r .passes) ∙ rw f)
     go T.variable-mode f = clash (sym (r .passes) ∙ rw f)
 only Δ c n (variable {k} {t} x h) = go (r .decl .mode) refl
@@ -181,7 +186,11 @@ only Δ c n (variable {k} {t} x h) = go (r .decl .mode) refl
     go : (m : Mode) → r .decl .mode ≡ m → Only Δ c (T.name x) (leaf (E.variable k)) (plain t)
     go T.input f = clash (sym (r .passes) ∙ rw f)
     go T.output-port f = clash (sym (r .passes) ∙ rw f)
-    go T.variable-mode f = record { typed = rw (r .found) (ap (λ (y : Ty). some (plain y)) (r .type)); coded = rw (r .found, f) (ap (λ (y : ℕ). leaf (E.variable y)) (r .position)) }
+    go T.variable-mode f = record {
+      typed = rw (r .found) (ap (λ (y : Ty). some (plain y)) (r .type));
+      coded = rw (r .found, f)
+          (ap (λ (y : ℕ). leaf (E.variable y)) (r .position));
+    }
 only Δ c n (sign {t} x e m) = let i = only Δ c n m in record { typed = rw (i .typed) e; coded = rw (i .typed) (ap (E.unary E.sign t) (i .coded)) }
 only Δ c n (invert {t} x e m) = let i = only Δ c n m in record { typed = rw (i .typed) e; coded = rw (i .typed) (ap (E.unary E.invert t) (i .coded)) }
 only Δ c n (binary {o} {t} x e f m l) =

@@ -76,7 +76,8 @@ unfolding find filter position
 kth-found p [] v d e h = no-some e
 kth-found p (x ∷ Δ) v d e h = go (eqb (x .name .value) v) refl (p x) refl (λ f. kth-found p Δ v d f h)
   where
-    go : (b : Bool) → eqb (x .name .value) v ≡ b → (c : Bool) → p x ≡ c → (find Δ v ≡ some d → Kth (filter p Δ) v (position (filter p Δ) v) (d .type)) → Kth (filter p (x ∷ Δ)) v (position (filter p (x ∷ Δ)) v) (d .type)
+    go : (b : Bool) → eqb (x .name .value) v ≡ b → (c : Bool) → p x ≡ c → (find Δ v ≡ some d → Kth (filter p Δ) v (position (filter p Δ) v) (d .type))
+        → Kth (filter p (x ∷ Δ)) v (position (filter p (x ∷ Δ)) v) (d .type)
     go true q c f ih =
         let s : some x ≡ some d = rw q at e in
         let z : x ≡ d = cc in
@@ -94,7 +95,8 @@ again-not (x ∷ Δ) v d a e =
     let n = not-true (eqb (x .name .value) v) (unless-nil (not (eqb (x .name .value) v)) (x .name .place) (s .0)) in
     again-not Δ v d (s .1) (rw n at e)
 
-pub kth-cons : {x : Decl} {l : List Decl} {v k : ℕ} {t : Ty} → Kth (x ∷ l) v k t → ((x .name .value ≡ v) × (k ≡ zero) × (t ≡ x .type)) ⊎ ((j : ℕ) × (k ≡ suc j) × Kth l v j t)
+pub kth-cons : {x : Decl} {l : List Decl} {v k : ℕ} {t : Ty} → Kth (x ∷ l) v k t
+    → ((x .name .value ≡ v) × (k ≡ zero) × (t ≡ x .type)) ⊎ ((j : ℕ) × (k ≡ suc j) × Kth l v j t)
 kth-cons (here e) = inl (e, refl, refl)
 kth-cons (there {k = j} h) = inr (j, refl, h)
 
@@ -131,5 +133,7 @@ found-kth p (x ∷ Δ) v k t n h = go (p x) refl (λ j. found-kth p Δ v j t ((d
       where
         on : ((x .name .value ≡ v) × (k ≡ zero) × (t ≡ x .type)) ⊎ ((j : ℕ) × (k ≡ suc j) × Kth (filter p Δ) v j t) → Found p (x ∷ Δ) v k t
         on (inl (e, z, w)) = let q = eq-eqb (x .name .value) v e in record { decl = x; found = rw q; passes = f; type = sym w; position = rw (f, q) (sym z) }
-        on (inr (j, z, g)) = let r = ih j g in let q = other (r .decl) (r .found) in record { decl = r .decl; found = rw q (r .found); passes = r .passes; type = r .type; position = rw (f, q) (ap suc (r .position) ∙ sym z) }
-    go false f ih = let r = ih k (rw f at h) in let q = other (r .decl) (r .found) in record { decl = r .decl; found = rw q (r .found); passes = r .passes; type = r .type; position = rw f (r .position) }
+        on (inr (j, z, g)) = let r = ih j g in let q = other (r .decl) (r .found) in
+            record { decl = r .decl; found = rw q (r .found); passes = r .passes; type = r .type; position = rw (f, q) (ap suc (r .position) ∙ sym z) }
+    go false f ih = let r = ih k (rw f at h) in let q = other (r .decl) (r .found) in
+        record { decl = r .decl; found = rw q (r .found); passes = r .passes; type = r .type; position = rw f (r .position) }

@@ -25,7 +25,8 @@ word-byte b e = first (between 97 122 b) refl
     fourth false h l u d = others (elem b (32 ∷ 9 ∷ 10 ∷ 13 ∷ [])) (eqb b 39) (elem b (bytesOf fixed)) (rw (l, u, d, h) at e)
       where
         others : (x y z : Bool)
-            → (eqb 0 (kindCode (cond x blank (cond y quote (cond z mark none)))) || (eqb 1 (kindCode (cond x blank (cond y quote (cond z mark none)))) || eqb 2 (kindCode (cond x blank (cond y quote (cond z mark none)))))) ≡ true
+            → (eqb 0 (kindCode (cond x blank (cond y quote (cond z mark none)))) ||
+            (eqb 1 (kindCode (cond x blank (cond y quote (cond z mark none)))) || eqb 2 (kindCode (cond x blank (cond y quote (cond z mark none)))))) ≡ true
             → (0 < b) × (b < 123)
         others true y z f = clash (sym f)
         others false true z f = clash (sym f)
@@ -102,6 +103,8 @@ one-name w u p q = (there, λ e. folded-packed 0 w ∙ (ap (packed 0) e ∙ sym 
   where
     there : folded 0 w ≡ folded 0 u → map lower w ≡ map lower u
     there e =
-        let r : map lower (reverse w) ≡ map lower (reverse u) = radix-one (reverse w) (reverse u) (all-reverse inWord w [] p refl) (all-reverse inWord u [] q refl) (sym (folded-radix w []) ∙ (e ∙ folded-radix u [])) in
+        let r : map lower (reverse w) ≡ map lower (reverse u) =
+        radix-one (reverse w) (reverse u) (all-reverse inWord w [] p refl) (all-reverse inWord u [] q refl)
+        (sym (folded-radix w []) ∙ (e ∙ folded-radix u [])) in
         let s : reverse (map lower w) ≡ reverse (map lower u) = sym (mapped-reverse w []) ∙ (r ∙ mapped-reverse u []) in
         sym (reverse-reverse (map lower w)) ∙ (ap reverse s ∙ reverse-reverse (map lower u))

@@ -74,7 +74,8 @@ abbrev Right : List ℕ → Verdict → Type 0
 Right b v = onAccepted (Valid b) (Refuses b) v
 
 parses : (b : List ℕ) (ts : List Token) (t : Text) → length b ≤ 16384 → lex b ≡ tokens ts → answer ts ≡ P.accepted t → Parses b t
-parses b ts t s l e = let x = exactly-limits ts t .0 e in record { short = s; tokens = ts; lexes = lex-tokens b ts .0 l; marks = x .0; reads = x .1; limits = x .2 }
+parses b ts t s l e = let x = exactly-limits ts t .0 e in
+    record { short = s; tokens = ts; lexes = lex-tokens b ts .0 l; marks = x .0; reads = x .1; limits = x .2 }
 
 pub right : (b : List ℕ) → Right b (verdict b)
 unfolding verdict lexed parsed
@@ -114,7 +115,8 @@ parses-computed b t p =
     rw (s, l, a)
 
 valid-computed : (b : List ℕ) (d : Process) → Valid b d → verdict b ≡ accepted d
-valid-computed b d v = parses-computed b (v .tree) (v .parses) ∙ (ruled-free table (v .tree) (v .free) ∙ ap accepted (elaborated-only (v .tree) d (clean (v .tree) (v .free)) (v .means)))
+valid-computed b d v = parses-computed b (v .tree) (v .parses)
+    ∙ (ruled-free table (v .tree) (v .free) ∙ ap accepted (elaborated-only (v .tree) d (clean (v .tree) (v .free)) (v .means)))
 
 refuses-computed : (b : List ℕ) (n p : ℕ) → Refuses b n p → verdict b ≡ refused n p
 unfolding verdict lexed parsed
@@ -124,8 +126,10 @@ refuses-computed b n p (Q.too-long h) = at (leb (length b) 16384) refl
     at true e = let k = leb→le (length b) 16384 (is-T e) in absurd (omega arith)
     at false e = rw e
 refuses-computed b n p (Q.no-token s h) = rw (T-is (leb (length b) 16384) (le→leb (length b) 16384 s), lex-stops b p .1 h)
-refuses-computed b n p (Q.no-sentence {k} ts s l e) = rw (T-is (leb (length b) 16384) (le→leb (length b) 16384 s), lex-tokens b ts .1 l, answers ts (P.no-sentence k) .1 e)
-refuses-computed b n p (Q.past-limit {k} ts s l e) = rw (T-is (leb (length b) 16384) (le→leb (length b) 16384 s), lex-tokens b ts .1 l, answers ts (P.past-limit k) .1 e)
+refuses-computed b n p (Q.no-sentence {k} ts s l e) =
+    rw (T-is (leb (length b) 16384) (le→leb (length b) 16384 s), lex-tokens b ts .1 l, answers ts (P.no-sentence k) .1 e)
+refuses-computed b n p (Q.past-limit {k} ts s l e) =
+    rw (T-is (leb (length b) 16384) (le→leb (length b) 16384 s), lex-tokens b ts .1 l, answers ts (P.past-limit k) .1 e)
 refuses-computed b n p (Q.offends {t} q f) = parses-computed b t q ∙ ruled-first table t n p f
 
 -- THE THEOREMS

@@ -30,25 +30,36 @@ bad-something e = let z : _≡_ {A = ℕ} 0 1 = cc in omega arith
 
 -- what startOf says where a piece is known
 pub step-gap : (w rest t : List ℕ) (o : Start) → Here t o → Piece w rest Meaning.gap → t ≡ w ++ rest → o ≡ L.gap (length w)
-step-gap w rest t o (gap {w = v} {rest = s} q f) p e = let u = one-piece v s w rest Meaning.gap Meaning.gap q p gap-something gap-something (sym f ∙ e) in ap (λ (x : List ℕ). L.gap (length x)) (u .piece)
-step-gap w rest t o (token {w = v} {rest = s} {k} {v = x} q f) p e = let u = one-piece v s w rest (Meaning.token k x) Meaning.gap q p (token-something k x) gap-something (sym f ∙ e) in let m = u .meaning in absurd (let z : _≡_ {A = ℕ} 0 1 = cc in omega arith)
-step-gap w rest t o (bad {w = v} {rest = s} q f) p e = let u = one-piece v s w rest Meaning.malformed Meaning.gap q p bad-something gap-something (sym f ∙ e) in let m = u .meaning in absurd (let z : _≡_ {A = ℕ} 0 1 = cc in omega arith)
+step-gap w rest t o (gap {w = v} {rest = s} q f) p e = let u = one-piece v s w rest Meaning.gap Meaning.gap q p gap-something gap-something (sym f ∙ e) in
+    ap (λ (x : List ℕ). L.gap (length x)) (u .piece)
+step-gap w rest t o (token {w = v} {rest = s} {k} {v = x} q f) p e = let u =
+    one-piece v s w rest (Meaning.token k x) Meaning.gap q p (token-something k x) gap-something (sym f ∙ e) in let m = u .meaning in
+    absurd (let z : _≡_ {A = ℕ} 0 1 = cc in omega arith)
+step-gap w rest t o (bad {w = v} {rest = s} q f) p e = let u = one-piece v s w rest Meaning.malformed Meaning.gap q p bad-something gap-something (sym f ∙ e) in
+    let m = u .meaning in absurd (let z : _≡_ {A = ℕ} 0 1 = cc in omega arith)
 step-gap w rest t o (none h) p e = absurd (gap-something (sym (p .is) ∙ h w rest e))
 
 pub step-token : (w rest t : List ℕ) (k v : ℕ) (o : Start) → Here t o → Piece w rest (Meaning.token k v) → t ≡ w ++ rest → o ≡ lexeme k v (length w)
-step-token w rest t k v o (gap {w = y} {rest = s} q f) p e = let u = one-piece y s w rest Meaning.gap (Meaning.token k v) q p gap-something (token-something k v) (sym f ∙ e) in let m = u .meaning in absurd (let z : _≡_ {A = ℕ} 0 1 = cc in omega arith)
+step-token w rest t k v o (gap {w = y} {rest = s} q f) p e = let u =
+    one-piece y s w rest Meaning.gap (Meaning.token k v) q p gap-something (token-something k v) (sym f ∙ e) in let m = u .meaning in
+    absurd (let z : _≡_ {A = ℕ} 0 1 = cc in omega arith)
 step-token w rest t k v o (token {w = y} {rest = s} {k = j} {v = x} q f) p e =
     let u = one-piece y s w rest (Meaning.token j x) (Meaning.token k v) q p (token-something j x) (token-something k v) (sym f ∙ e) in
     let m = u .meaning in
     let a : j ≡ k = cc in
     let b : x ≡ v = cc in
     rw (a, b, u .piece)
-step-token w rest t k v o (bad {w = y} {rest = s} q f) p e = let u = one-piece y s w rest Meaning.malformed (Meaning.token k v) q p bad-something (token-something k v) (sym f ∙ e) in let m = u .meaning in absurd (let z : _≡_ {A = ℕ} 0 1 = cc in omega arith)
+step-token w rest t k v o (bad {w = y} {rest = s} q f) p e = let u =
+    one-piece y s w rest Meaning.malformed (Meaning.token k v) q p bad-something (token-something k v) (sym f ∙ e) in let m = u .meaning in
+    absurd (let z : _≡_ {A = ℕ} 0 1 = cc in omega arith)
 step-token w rest t k v o (none h) p e = absurd (token-something k v (sym (p .is) ∙ h w rest e))
 
 pub step-bad : (w rest t : List ℕ) (o : Start) → Here t o → Piece w rest Meaning.malformed → t ≡ w ++ rest → o ≡ unknown
-step-bad w rest t o (gap {w = v} {rest = s} q f) p e = let u = one-piece v s w rest Meaning.gap Meaning.malformed q p gap-something bad-something (sym f ∙ e) in let m = u .meaning in absurd (let z : _≡_ {A = ℕ} 0 1 = cc in omega arith)
-step-bad w rest t o (token {w = v} {rest = s} {k} {v = x} q f) p e = let u = one-piece v s w rest (Meaning.token k x) Meaning.malformed q p (token-something k x) bad-something (sym f ∙ e) in let m = u .meaning in absurd (let z : _≡_ {A = ℕ} 0 1 = cc in omega arith)
+step-bad w rest t o (gap {w = v} {rest = s} q f) p e = let u = one-piece v s w rest Meaning.gap Meaning.malformed q p gap-something bad-something (sym f ∙ e) in
+    let m = u .meaning in absurd (let z : _≡_ {A = ℕ} 0 1 = cc in omega arith)
+step-bad w rest t o (token {w = v} {rest = s} {k} {v = x} q f) p e = let u =
+    one-piece v s w rest (Meaning.token k x) Meaning.malformed q p (token-something k x) bad-something (sym f ∙ e) in let m = u .meaning in
+    absurd (let z : _≡_ {A = ℕ} 0 1 = cc in omega arith)
 step-bad w rest t o (bad q f) p e = refl
 step-bad w rest t o (none h) p e = refl
 
@@ -66,9 +77,11 @@ empty-nothing = refl
 at-gap : (w rest : List ℕ) (n : ℕ) → Piece w rest Meaning.gap → lexFrom (w ++ rest) 0 n ≡ lexFrom rest 0 (n + length w)
 unfolding lexFrom onStart
 at-gap [] rest n p = absurd (gap-something (sym (p .is) ∙ empty-nothing))
-at-gap (b ∷ w) rest n p = rw (step-gap (b ∷ w) rest (b ∷ (w ++ rest)) (startOf b (w ++ rest)) (starts b (w ++ rest)) p refl) (passed w rest (suc n) ∙ ap (lexFrom rest 0) (omega arith))
+at-gap (b ∷ w) rest n p = rw (step-gap (b ∷ w) rest (b ∷ (w ++ rest)) (startOf b (w ++ rest)) (starts b (w ++ rest)) p refl)
+    (passed w rest (suc n) ∙ ap (lexFrom rest 0) (omega arith))
 
-at-token : (w rest : List ℕ) (k v n : ℕ) → Piece w rest (Meaning.token k v) → lexFrom (w ++ rest) 0 n ≡ _▸_ (record { kind = k; value = v; size = length w; place = n }) (lexFrom rest 0 (n + length w))
+at-token : (w rest : List ℕ) (k v n : ℕ) → Piece w rest (Meaning.token k v)
+    → lexFrom (w ++ rest) 0 n ≡ _▸_ (record { kind = k; value = v; size = length w; place = n }) (lexFrom rest 0 (n + length w))
 unfolding lexFrom onStart
 at-token [] rest k v n p = absurd (token-something k v (sym (p .is) ∙ empty-nothing))
 at-token (b ∷ w) rest k v n p =
@@ -89,14 +102,16 @@ pub lexes-computed : {n : ℕ} {t : List ℕ} {ts : List Token} → Lexes n t ts
 unfolding lexFrom _▸_
 lexes-computed S.end = refl
 lexes-computed {n} (S.gap {w} {rest} p r) = at-gap w rest n p ∙ lexes-computed r
-lexes-computed {n} (S.token {k} {v} {w} {rest} p r) = at-token w rest k v n p ∙ ap (_▸_ (record { kind = k; value = v; size = length w; place = n })) (lexes-computed r)
+lexes-computed {n} (S.token {k} {v} {w} {rest} p r) = at-token w rest k v n p
+    ∙ ap (_▸_ (record { kind = k; value = v; size = length w; place = n })) (lexes-computed r)
 
 pub stops-computed : {n p : ℕ} {t : List ℕ} → Stops n t p → lexFrom t 0 n ≡ L.malformed p
 unfolding _▸_
 stops-computed {n} (S.no-token {b} {l} h) = at-none b l n h
 stops-computed {n} (S.Stops.malformed {w} {rest} q) = at-bad w rest n q
 stops-computed {n} (S.Stops.gap {w} {rest} q r) = at-gap w rest n q ∙ stops-computed r
-stops-computed {n} (S.Stops.token {k} {v} {w} {rest} q r) = at-token w rest k v n q ∙ ap (_▸_ (record { kind = k; value = v; size = length w; place = n })) (stops-computed r)
+stops-computed {n} (S.Stops.token {k} {v} {w} {rest} q r) = at-token w rest k v n q
+    ∙ ap (_▸_ (record { kind = k; value = v; size = length w; place = n })) (stops-computed r)
 
 -- what is computed is so
 abbrev Right : ℕ → List ℕ → Lexed → Type 0
@@ -107,7 +122,8 @@ right-gap : (w rest : List ℕ) (n : ℕ) (x : Lexed) → Piece w rest Meaning.g
 right-gap w rest n (tokens ts) p r = S.Lexes.gap p r
 right-gap w rest n (L.malformed q) p r = S.Stops.gap p r
 
-right-token : (w rest : List ℕ) (k v n : ℕ) (x : Lexed) → Piece w rest (Meaning.token k v) → Right (n + length w) rest x → Right n (w ++ rest) (_▸_ (record { kind = k; value = v; size = length w; place = n }) x)
+right-token : (w rest : List ℕ) (k v n : ℕ) (x : Lexed) → Piece w rest (Meaning.token k v) → Right (n + length w) rest x
+    → Right n (w ++ rest) (_▸_ (record { kind = k; value = v; size = length w; place = n }) x)
 unfolding _▸_
 right-token w rest k v n (tokens ts) p r = S.Lexes.token p r
 right-token w rest k v n (L.malformed q) p r = S.Stops.token p r
@@ -119,7 +135,8 @@ shorter (b ∷ w) rest t m h e l = omega (arith, length-append (b ∷ w) rest, a
 pub piece-some : (w rest : List ℕ) (m : Meaning) → Piece w rest m → Something m → w ≡ [] → ⊥
 piece-some w rest m p s e = s (sym (p .is) ∙ (ap meaning e ∙ empty-nothing))
 
-step : (m : ℕ) → ((rest : List ℕ) (k : ℕ) → length rest ≤ m → Right k rest (lexFrom rest 0 k)) → (t : List ℕ) (n : ℕ) → length t ≤ suc m → Right n t (lexFrom t 0 n)
+step : (m : ℕ) → ((rest : List ℕ) (k : ℕ) → length rest ≤ m → Right k rest (lexFrom rest 0 k)) → (t : List ℕ) (n : ℕ) → length t ≤ suc m
+    → Right n t (lexFrom t 0 n)
 unfolding lexFrom
 step m ih [] n l = S.end
 step m ih (b ∷ t) n l = go (starts b t)
@@ -127,11 +144,14 @@ step m ih (b ∷ t) n l = go (starts b t)
     go : {o : Start} → Here (b ∷ t) o → Right n (b ∷ t) (lexFrom (b ∷ t) 0 n)
     go (gap {w} {rest} p e) =
         subst (λ (y : List ℕ). Right n y (lexFrom y 0 n)) (sym e) (subst (Right n (w ++ rest)) (sym (at-gap w rest n p))
-        (right-gap w rest n (lexFrom rest 0 (n + length w)) p (ih rest (n + length w) (shorter w rest (b ∷ t) m (piece-some w rest Meaning.gap p gap-something) e l))))
+        (right-gap w rest n (lexFrom rest 0 (n + length w)) p
+        (ih rest (n + length w) (shorter w rest (b ∷ t) m (piece-some w rest Meaning.gap p gap-something) e l))))
     go (token {w} {rest} {k} {v} p e) =
         subst (λ (y : List ℕ). Right n y (lexFrom y 0 n)) (sym e) (subst (Right n (w ++ rest)) (sym (at-token w rest k v n p))
-        (right-token w rest k v n (lexFrom rest 0 (n + length w)) p (ih rest (n + length w) (shorter w rest (b ∷ t) m (piece-some w rest (Meaning.token k v) p (token-something k v)) e l))))
-    go (bad {w} {rest} p e) = subst (λ (y : List ℕ). Right n y (lexFrom y 0 n)) (sym e) (subst (Right n (w ++ rest)) (sym (at-bad w rest n p)) (S.Stops.malformed p))
+        (right-token w rest k v n (lexFrom rest 0 (n + length w)) p
+        (ih rest (n + length w) (shorter w rest (b ∷ t) m (piece-some w rest (Meaning.token k v) p (token-something k v)) e l))))
+    go (bad {w} {rest} p e) = subst (λ (y : List ℕ). Right n y (lexFrom y 0 n)) (sym e)
+        (subst (Right n (w ++ rest)) (sym (at-bad w rest n p)) (S.Stops.malformed p))
     go (none h) = subst (Right n (b ∷ t)) (sym (at-none b t n h)) (S.no-token h)
 
 pub right : (m : ℕ) (t : List ℕ) (n : ℕ) → length t ≤ m → Right n t (lexFrom t 0 n)

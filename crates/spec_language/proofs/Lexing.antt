@@ -13,7 +13,6 @@ use Rattle.spec_language.specs.Lexer.{run, begins, Start, lexeme, unknow
 use Rattle.spec_language.specs.Words.{wellMade, folded, value, reserved, wordKind, peek, isDashes}
 use Rattle.spec_language.specs.Lexer as L
 use Rattle.spec_language.specs.Lexing.{Meaning, nothing, all, equal, alone, wordMeaning, fixedMeaning, meaningFrom, meaning, Piece}
-use Rattle.spec_language.specs.Lexing as S
 use Rattle.spec_language.proofs.Facts.{clash, no-cons, and-true-both, eqb-eq, eq-eqb, is-T}
 
 -- What starts at a place, as pieces say it.
@@ -130,7 +129,8 @@ upto-nothing n (f ∷ fs) w h u = rw (longer-not (f .bytes) w (omega arith)) (up
 
 -- what fixedStart answers, in terms of fixedMeaning
 pub data Fix (fs : List Fixed) (t : List ℕ) : Start → Type 0 where
-  found : (w rest : List ℕ) {k v : ℕ} → t ≡ w ++ rest → fixedMeaning fs w ≡ Meaning.token k v → ((c : ℕ) (v r : List ℕ) → rest ≡ c ∷ (v ++ r) → fixedMeaning fs (w ++ (c ∷ v)) ≡ nothing) → Fix fs t (lexeme k v (length w))
+  found : (w rest : List ℕ) {k v : ℕ} → t ≡ w ++ rest → fixedMeaning fs w ≡ Meaning.token k v
+      → ((c : ℕ) (v r : List ℕ) → rest ≡ c ∷ (v ++ r) → fixedMeaning fs (w ++ (c ∷ v)) ≡ nothing) → Fix fs t (lexeme k v (length w))
   missing : ((w r : List ℕ) → t ≡ w ++ r → fixedMeaning fs w ≡ nothing) → Fix fs t unknown
 
 fixed-is : (fs : List Fixed) (t : List ℕ) → Sorted fs → Fix fs t (fixedStart fs t)
@@ -142,7 +142,8 @@ fixed-is (f ∷ fs) t s = go (begins (f .bytes) t) refl (fixed-is fs t (s .1))
     skip e w r h = not-equal (f .bytes) w r (ap (begins (f .bytes)) (sym h) ∙ e)
 
     on : {o : Start} → begins (f .bytes) t ≡ false → Fix fs t o → Fix (f ∷ fs) t o
-    on e (found w rest {k} {v} h m l) = let m′ : fixedMeaning (f ∷ fs) w ≡ Meaning.token k v = rw (skip e w rest h) m in found w rest h m′ (λ c v r g. rw (skip e (w ++ (c ∷ v)) r (h ∙ (ap (λ (k : List ℕ). w ++ k) g ∙ sym (append-assoc w (c ∷ v) r)))) (l c v r g))
+    on e (found w rest {k} {v} h m l) = let m′ : fixedMeaning (f ∷ fs) w ≡ Meaning.token k v = rw (skip e w rest h) m in
+        found w rest h m′ (λ c v r g. rw (skip e (w ++ (c ∷ v)) r (h ∙ (ap (λ (k : List ℕ). w ++ k) g ∙ sym (append-assoc w (c ∷ v) r)))) (l c v r g))
     on e (missing h) = missing (λ w r g. rw (skip e w r g) (h w r g))
 
     go : (q : Bool) → begins (f .bytes) t ≡ q → Fix fs t (fixedStart fs t) → Fix (f ∷ fs) t (fixedStart (f ∷ fs) t)
@@ -160,12 +161,14 @@ fixed-is (f ∷ fs) t s = go (begins (f .bytes) t) refl (fixed-is fs t (s .1))
 upto-tested : (n : ℕ) (fs : List Fixed) → upto n fs ≡ true → Upto n fs
 unfolding upto
 upto-tested n [] e = tt
-upto-tested n (f ∷ fs) e = let s = and-true-both (leb (length (f .bytes)) n) (upto n fs) e in (leb→le (length (f .bytes)) n (is-T (s .0)), upto-tested n fs (s .1))
+upto-tested n (f ∷ fs) e = let s = and-true-both (leb (length (f .bytes)) n) (upto n fs) e in
+    (leb→le (length (f .bytes)) n (is-T (s .0)), upto-tested n fs (s .1))
 
 sorted-tested : (fs : List Fixed) → sorted fs ≡ true → Sorted fs
 unfolding sorted
 sorted-tested [] e = tt
-sorted-tested (f ∷ fs) e = let s = and-true-both (upto (length (f .bytes)) fs) (sorted fs) e in (upto-tested (length (f .bytes)) fs (s .0), sorted-tested fs (s .1))
+sorted-tested (f ∷ fs) e = let s = and-true-both (upto (length (f .bytes)) fs) (sorted fs) e in
+    (upto-tested (length (f .bytes)) fs (s .0), sorted-tested fs (s .1))
 
 fixed-sorted : Sorted fixed
 unfolding fixed bytes upto sorted
@@ -189,10 +192,13 @@ word-here b l e = rw e (go (wellMade false (b ∷ run inWord l)) refl)
     split : b ∷ l ≡ (b ∷ run inWord l) ++ r .rest
     split = ap (λ (k : List ℕ). b ∷ k) (r .split)
 
-    means : wellMade false (b ∷ run inWord l) ≡ true → meaning (b ∷ run inWord l) ≡ Meaning.token (wordKind reserved (folded 0 (b ∷ run inWord l))) (folded 0 (b ∷ run inWord l))
+    means : wellMade false (b ∷ run inWord l) ≡ true
+        → meaning (b ∷ run inWord l) ≡ Meaning.token (wordKind reserved (folded 0 (b ∷ run inWord l))) (folded 0 (b ∷ run inWord l))
     means h = rw (e, r .passes, h)
 
-    go : (q : Bool) → wellMade false (b ∷ run inWord l) ≡ q → Here (b ∷ l) (cond (wellMade false (b ∷ run inWord l)) (lexeme (wordKind reserved (folded 0 (b ∷ run inWord l))) (folded 0 (b ∷ run inWord l)) (length (b ∷ run inWord l))) unknown)
+    go : (q : Bool) → wellMade false (b ∷ run inWord l) ≡ q
+        → Here (b ∷ l) (cond (wellMade false (b ∷ run inWord l))
+        (lexeme (wordKind reserved (folded 0 (b ∷ run inWord l))) (folded 0 (b ∷ run inWord l)) (length (b ∷ run inWord l))) unknown)
     go true h = rw h (token {w = b ∷ run inWord l} {rest = r .rest} (record { is = means h; longest = broken }) split)
     go false h = rw h (bad {w = b ∷ run inWord l} {rest = r .rest} (record { is = rw (e, r .passes, h); longest = broken }) split)
 
@@ -274,14 +280,16 @@ unfolding fixedMeaning fixed bytes equal
 fixed-nil e = let z : _≡_ {A = ℕ} 0 1 = cc in omega arith
 
 -- where every beginning means what the table of fixed tokens says of it, the one that startOf finds is the longest
-fixed-here : (b : ℕ) (l : List ℕ) → startOf b l ≡ fixedStart fixed (b ∷ l) → ((w r : List ℕ) → l ≡ w ++ r → meaning (b ∷ w) ≡ fixedMeaning fixed (b ∷ w)) → Here (b ∷ l) (startOf b l)
+fixed-here : (b : ℕ) (l : List ℕ) → startOf b l ≡ fixedStart fixed (b ∷ l) → ((w r : List ℕ) → l ≡ w ++ r → meaning (b ∷ w) ≡ fixedMeaning fixed (b ∷ w))
+    → Here (b ∷ l) (startOf b l)
 unfolding meaning
 fixed-here b l s m = rw s (go (fixed-is fixed (b ∷ l) fixed-sorted))
   where
     prefix : (c : ℕ) (w r : List ℕ) → b ∷ l ≡ c ∷ (w ++ r) → meaning (c ∷ w) ≡ fixedMeaning fixed (c ∷ w)
     prefix c w r e = subst (λ (y : ℕ). meaning (y ∷ w) ≡ fixedMeaning fixed (y ∷ w)) (cons-head e) (m w r (cons-tail e))
 
-    piece : (w rest : List ℕ) {k v : ℕ} → b ∷ l ≡ w ++ rest → fixedMeaning fixed w ≡ Meaning.token k v → ((c : ℕ) (v r : List ℕ) → rest ≡ c ∷ (v ++ r) → fixedMeaning fixed (w ++ (c ∷ v)) ≡ nothing) → Piece w rest (Meaning.token k v)
+    piece : (w rest : List ℕ) {k v : ℕ} → b ∷ l ≡ w ++ rest → fixedMeaning fixed w ≡ Meaning.token k v
+        → ((c : ℕ) (v r : List ℕ) → rest ≡ c ∷ (v ++ r) → fixedMeaning fixed (w ++ (c ∷ v)) ≡ nothing) → Piece w rest (Meaning.token k v)
     piece [] rest h m g = absurd (fixed-nil m)
     piece (c ∷ w) rest h m g = record {
       is = prefix c w rest h ∙ m;

@@ -99,4 +99,5 @@ all-keep primary = free primary (λ v. tt) (productions primary)
 pub moded : {ts : List Token} {es : List Mark} {t : Text} → Reads text ts es t → Moded t
 moded r =
     subst Moded (r .said)
-    (tree-keeps (λ (k : ℕ) (x : Token). Unit {0}) Kept (λ (x : Token). Unit {0}) (λ k x e _. tt) all-keep (r .tree) (each-any (λ (x : Token). Unit {0}) (λ x. tt) (span (r .tree))))
+    (tree-keeps (λ (k : ℕ) (x : Token). Unit {0}) Kept (λ (x : Token). Unit {0}) (λ k x e _. tt) all-keep (r .tree)
+    (each-any (λ (x : Token). Unit {0}) (λ x. tt) (span (r .tree))))

@@ -42,7 +42,8 @@ pub word-bytes : (w : List ℕ) → all inWord w ≡ true → length w ≤ 32 �
 unfolding nameBytes
 word-bytes w p h =
     let z : 32 ≡ (32 - length w) + length w = omega arith in
-    ap (λ (n : ℕ). digits n (folded 0 w) []) z ∙ (digits-off w p (32 - length w) 0 [] ∙ (no-digits (32 - length w) (map lower w ++ []) ∙ append-nil (map lower w)))
+    ap (λ (n : ℕ). digits n (folded 0 w) []) z
+    ∙ (digits-off w p (32 - length w) 0 [] ∙ (no-digits (32 - length w) (map lower w ++ []) ∙ append-nil (map lower w)))
 
 -- at most 32 bytes, whatever the number
 digits-short : (n v : ℕ) (l : List ℕ) → length (digits n v l) ≤ n + length l

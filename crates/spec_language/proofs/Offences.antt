@@ -72,7 +72,8 @@ earliest-low a (x ∷ l) =
     let k = earlier-low a x in
     (no-later-too (earliest (earlier a x) l) (earlier a x) a (h .0) (k .0), λ b i. go b i (h .0) (h .1) (k .1))
   where
-    go : (b : Offence) → In b (x ∷ l) → NoLater (earliest (earlier a x) l) (earlier a x) → ((b : Offence) → In b l → NoLater (earliest (earlier a x) l) b) → NoLater (earlier a x) x
+    go : (b : Offence) → In b (x ∷ l) → NoLater (earliest (earlier a x) l) (earlier a x) → ((b : Offence) → In b l → NoLater (earliest (earlier a x) l) b)
+        → NoLater (earlier a x) x
         → NoLater (earliest (earlier a x) l) b
     go b Q.In.here u v w = no-later-too (earliest (earlier a x) l) (earlier a x) b u w
     go b (Q.In.there i) u v w = v b i

@@ -66,15 +66,18 @@ fair-cons Δ c s l f =
     (record { names = n .0; types = t .0; reads = u .0 }, record { names = n .1; types = t .1; reads = u .1 })
 
 -- an expression where a type is wanted has that type
-wanted : (Δ : List Decl) (c : Option Token) (e : Expr) (w : Option ExprTy) (t : ExprTy) (p : ℕ) → w ≡ some t → namesIn Δ e ≡ [] → typesIn Δ e ++ wants w (typeOf Δ e) p ≡ [] → Unread c e → Means (scopeFor Δ c) e (code Δ (scopeFor Δ c) e) t
+wanted : (Δ : List Decl) (c : Option Token) (e : Expr) (w : Option ExprTy) (t : ExprTy) (p : ℕ) → w ≡ some t → namesIn Δ e ≡ []
+    → typesIn Δ e ++ wants w (typeOf Δ e) p ≡ [] → Unread c e → Means (scopeFor Δ c) e (code Δ (scopeFor Δ c) e) t
 unfolding wants
 wanted Δ c e w t p q n k u =
     let s = both-nil (typesIn Δ e) (wants w (typeOf Δ e) p) k in
     let i = typed Δ c e n (s .0) u in
     fits (i .type) (typeOf Δ e) (i .typed) (s .1) (i .means)
   where
-    fits : (r : ExprTy) (o : Option ExprTy) → o ≡ some r → wants w o p ≡ [] → Means (scopeFor Δ c) e (code Δ (scopeFor Δ c) e) r → Means (scopeFor Δ c) e (code Δ (scopeFor Δ c) e) t
-    fits r o h k m = let z : unless (sameType t r) p ≡ [] = rw (q, h) at k in subst (Means (scopeFor Δ c) e (code Δ (scopeFor Δ c) e)) (sym (sameType-eq t r (unless-nil (sameType t r) p z))) m
+    fits : (r : ExprTy) (o : Option ExprTy) → o ≡ some r → wants w o p ≡ [] → Means (scopeFor Δ c) e (code Δ (scopeFor Δ c) e) r
+        → Means (scopeFor Δ c) e (code Δ (scopeFor Δ c) e) t
+    fits r o h k m = let z : unless (sameType t r) p ≡ [] = rw (q, h) at k in
+        subst (Means (scopeFor Δ c) e (code Δ (scopeFor Δ c) e)) (sym (sameType-eq t r (unless-nil (sameType t r) p z))) m
 
 unread-at : (c : Option Token) (s : T.Stmt) (e : Expr) → ((v : ℕ) → readsOf v s ≡ readsIn v e) → UnreadBy c s → Unread c e
 unread-at none s e h u = tt
@@ -98,7 +101,12 @@ target p Δ c x e n k u =
     let m = both-nil (unless (isA p (find Δ (x .value))) (x .place)) (namesIn Δ e) n in
     let d = isA-some p (find Δ (x .value)) (unless-nil (isA p (find Δ (x .value))) (x .place) (m .0)) in
     let w : typeIn (find Δ (x .value)) ≡ some (plain (d .0 .type)) = ap typeIn (d .1) in
-    record { type = d .0 .type; kth = kth-found p Δ (x .value) (d .0) (d .1) (d .2); means = wanted Δ c e (typeIn (find Δ (x .value))) (plain (d .0 .type)) (x .place) w (m .1) k u }
+    record {
+      type = d .0 .type;
+      kth = kth-found p Δ (x .value) (d .0) (d .1) (d .2);
+      means = wanted Δ c e (typeIn (find Δ (x .value))) (plain (d .0 .type))
+          (x .place) w (m .1) k u;
+    }
 
 -- without offences they mean the computed statement
 mutual
@@ -117,14 +125,17 @@ mutual
   does Δ c (T.wait x) f = wait x
   does Δ c (T.if-then i e a) f =
       let h = fair-cons Δ c (T.if-then i e a) (statements a) f in
-      if-then i (wanted Δ c e (some boolean) boolean (i .place) refl (h .0 .names) (h .0 .types) (unread-at c (T.if-then i e a) e (λ v. refl) (h .0 .reads))) (doesAll Δ c a (h .1))
+      if-then i (wanted Δ c e (some boolean) boolean (i .place) refl (h .0 .names) (h .0 .types) (unread-at c (T.if-then i e a) e (λ v. refl) (h .0 .reads)))
+      (doesAll Δ c a (h .1))
   does Δ c (T.if-else i e a b) f =
       let h = fair-cons Δ c (T.if-else i e a b) (statements a ++ statements b) f in
       let g = fair-append Δ c (statements a) (statements b) (h .1) in
-      if-else i (wanted Δ c e (some boolean) boolean (i .place) refl (h .0 .names) (h .0 .types) (unread-at c (T.if-else i e a b) e (λ v. refl) (h .0 .reads))) (doesAll Δ c a (g .0)) (doesAll Δ c b (g .1))
+      if-else i (wanted Δ c e (some boolean) boolean (i .place) refl (h .0 .names) (h .0 .types) (unread-at c (T.if-else i e a b) e (λ v. refl) (h .0 .reads)))
+      (doesAll Δ c a (g .0)) (doesAll Δ c b (g .1))
   does Δ c (T.while i e a) f =
       let h = fair-cons Δ c (T.while i e a) (statements a) f in
-      while i (wanted Δ c e (some boolean) boolean (i .place) refl (h .0 .names) (h .0 .types) (unread-at c (T.while i e a) e (λ v. refl) (h .0 .reads))) (doesAll Δ c a (h .1))
+      while i (wanted Δ c e (some boolean) boolean (i .place) refl (h .0 .names) (h .0 .types) (unread-at c (T.while i e a) e (λ v. refl) (h .0 .reads)))
+      (doesAll Δ c a (h .1))
 
   pub doesAll : (Δ : List Decl) (c : Option Token) (b : Body) → Fair Δ c (statements b) → DoesAll (scopeFor Δ c) b (stmts Δ (scopeFor Δ c) b)
   doesAll Δ c (T.only s) f = only (does Δ c s f)

@@ -9,7 +9,6 @@ use lib.Dec.{eqb}
 use lib.ListN.{length}
 use lib.Seq.{take-at}
 use Rattle.spec_language.specs.Lexer.{Start, unknown, startOf, onToken, tokenFrom, tokenAt}
-use Rattle.spec_language.specs.Lexer as L
 use Rattle.spec_language.specs.Lexing.{Meaning, Piece, Stops, Starts}
 use Rattle.spec_language.specs.Lexing as S
 use Rattle.spec_language.proofs.Facts.{eqb-eq, eq-eqb}
@@ -25,14 +24,18 @@ passed (b ∷ w) rest n p = passed w rest (suc n) p ∙ ap (λ (m : ℕ). tokenF
 at-gap : (w rest : List ℕ) (n p : ℕ) → Piece w rest Meaning.gap → tokenFrom (w ++ rest) 0 n p ≡ tokenFrom rest 0 (n + length w) p
 unfolding tokenFrom onToken
 at-gap [] rest n p q = absurd (gap-something (sym (q .is) ∙ empty-nothing))
-at-gap (b ∷ w) rest n p q = rw (step-gap (b ∷ w) rest (b ∷ (w ++ rest)) (startOf b (w ++ rest)) (starts b (w ++ rest)) q refl) (passed w rest (suc n) p ∙ ap (λ (m : ℕ). tokenFrom rest 0 m p) (omega arith))
+at-gap (b ∷ w) rest n p q = rw (step-gap (b ∷ w) rest (b ∷ (w ++ rest)) (startOf b (w ++ rest)) (starts b (w ++ rest)) q refl)
+    (passed w rest (suc n) p ∙ ap (λ (m : ℕ). tokenFrom rest 0 m p) (omega arith))
 
-at-token : (w rest : List ℕ) (k v n p : ℕ) → Piece w rest (Meaning.token k v) → tokenFrom (w ++ rest) 0 n p ≡ cond (eqb n p) w (tokenFrom rest 0 (n + length w) p)
+at-token : (w rest : List ℕ) (k v n p : ℕ) → Piece w rest (Meaning.token k v)
+    → tokenFrom (w ++ rest) 0 n p ≡ cond (eqb n p) w (tokenFrom rest 0 (n + length w) p)
 unfolding tokenFrom onToken
 at-token [] rest k v n p q = absurd (token-something k v (sym (q .is) ∙ empty-nothing))
 at-token (b ∷ w) rest k v n p q =
-    let e : tokenFrom (w ++ rest) (length w) (suc n) p ≡ tokenFrom rest 0 (n + length (b ∷ w)) p = passed w rest (suc n) p ∙ ap (λ (m : ℕ). tokenFrom rest 0 m p) (omega arith) in
-    rw (step-token (b ∷ w) rest (b ∷ (w ++ rest)) k v (startOf b (w ++ rest)) (starts b (w ++ rest)) q refl, e) (ap (λ (y : List ℕ). cond (eqb n p) y (tokenFrom rest 0 (n + length (b ∷ w)) p)) (take-at (b ∷ w) rest (length (b ∷ w)) refl))
+    let e : tokenFrom (w ++ rest) (length w) (suc n) p ≡ tokenFrom rest 0 (n + length (b ∷ w)) p = passed w rest (suc n) p
+    ∙ ap (λ (m : ℕ). tokenFrom rest 0 m p) (omega arith) in
+    rw (step-token (b ∷ w) rest (b ∷ (w ++ rest)) k v (startOf b (w ++ rest)) (starts b (w ++ rest)) q refl, e)
+    (ap (λ (y : List ℕ). cond (eqb n p) y (tokenFrom rest 0 (n + length (b ∷ w)) p)) (take-at (b ∷ w) rest (length (b ∷ w)) refl))
 
 -- what starts at or after n stands there
 not-before : {n p : ℕ} {t u : List ℕ} → Starts n t p u → n ≤ p
@@ -62,7 +65,8 @@ starts-computed {n} {p} (S.Starts.token {k} {v} {w} {rest} q r) =
 Answer : ℕ → List ℕ → ℕ → List ℕ → Type 0
 Answer n t p u = (u ≡ []) ⊎ Starts n t p u
 
-step : (p m : ℕ) → ((rest : List ℕ) (k : ℕ) → length rest ≤ m → Answer k rest p (tokenFrom rest 0 k p)) → (t : List ℕ) (n : ℕ) → length t ≤ suc m → Answer n t p (tokenFrom t 0 n p)
+step : (p m : ℕ) → ((rest : List ℕ) (k : ℕ) → length rest ≤ m → Answer k rest p (tokenFrom rest 0 k p)) → (t : List ℕ) (n : ℕ) → length t ≤ suc m
+    → Answer n t p (tokenFrom t 0 n p)
 unfolding tokenFrom onToken Answer
 step p m ih [] n l = inl refl
 step p m ih (b ∷ t) n l = go (startOf b t) (starts b t) refl
@@ -71,22 +75,27 @@ step p m ih (b ∷ t) n l = go (startOf b t) (starts b t) refl
     later u q (inl e) = inl e
     later u q (inr s) = inr (S.Starts.gap q s)
 
-    later-token : {w rest : List ℕ} {k v : ℕ} (u : List ℕ) → Piece w rest (Meaning.token k v) → (u ≡ []) ⊎ Starts (n + length w) rest p u → (u ≡ []) ⊎ Starts n (w ++ rest) p u
+    later-token : {w rest : List ℕ} {k v : ℕ} (u : List ℕ) → Piece w rest (Meaning.token k v) → (u ≡ []) ⊎ Starts (n + length w) rest p u
+        → (u ≡ []) ⊎ Starts n (w ++ rest) p u
     later-token u q (inl e) = inl e
     later-token u q (inr s) = inr (S.Starts.token q s)
 
-    picked : (w rest : List ℕ) (k v : ℕ) (q : Bool) → eqb n p ≡ q → Piece w rest (Meaning.token k v) → (tokenFrom rest 0 (n + length w) p ≡ []) ⊎ Starts (n + length w) rest p (tokenFrom rest 0 (n + length w) p)
+    picked : (w rest : List ℕ) (k v : ℕ) (q : Bool) → eqb n p ≡ q → Piece w rest (Meaning.token k v)
+        → (tokenFrom rest 0 (n + length w) p ≡ []) ⊎ Starts (n + length w) rest p (tokenFrom rest 0 (n + length w) p)
         → (cond q w (tokenFrom rest 0 (n + length w) p) ≡ []) ⊎ Starts n (w ++ rest) p (cond q w (tokenFrom rest 0 (n + length w) p))
     picked w rest k v true e q r = inr (subst (λ (y : ℕ). Starts n (w ++ rest) y w) (eqb-eq n p e) (S.here q))
     picked w rest k v false e q r = later-token (tokenFrom rest 0 (n + length w) p) q r
 
     go : (o : Start) → Here (b ∷ t) o → startOf b t ≡ o → (tokenFrom (b ∷ t) 0 n p ≡ []) ⊎ Starts n (b ∷ t) p (tokenFrom (b ∷ t) 0 n p)
     go o (gap {w} {rest} q e) z =
-        subst (λ (y : List ℕ). (tokenFrom y 0 n p ≡ []) ⊎ Starts n y p (tokenFrom y 0 n p)) (sym e) (subst (λ (y : List ℕ). (y ≡ []) ⊎ Starts n (w ++ rest) p y) (sym (at-gap w rest n p q))
+        subst (λ (y : List ℕ). (tokenFrom y 0 n p ≡ []) ⊎ Starts n y p (tokenFrom y 0 n p)) (sym e)
+        (subst (λ (y : List ℕ). (y ≡ []) ⊎ Starts n (w ++ rest) p y) (sym (at-gap w rest n p q))
         (later (tokenFrom rest 0 (n + length w) p) q (ih rest (n + length w) (shorter w rest (b ∷ t) m (piece-some w rest Meaning.gap q gap-something) e l))))
     go o (token {w} {rest} {k} {v} q e) z =
-        subst (λ (y : List ℕ). (tokenFrom y 0 n p ≡ []) ⊎ Starts n y p (tokenFrom y 0 n p)) (sym e) (subst (λ (y : List ℕ). (y ≡ []) ⊎ Starts n (w ++ rest) p y) (sym (at-token w rest k v n p q))
-        (picked w rest k v (eqb n p) refl q (ih rest (n + length w) (shorter w rest (b ∷ t) m (piece-some w rest (Meaning.token k v) q (token-something k v)) e l))))
+        subst (λ (y : List ℕ). (tokenFrom y 0 n p ≡ []) ⊎ Starts n y p (tokenFrom y 0 n p)) (sym e)
+        (subst (λ (y : List ℕ). (y ≡ []) ⊎ Starts n (w ++ rest) p y) (sym (at-token w rest k v n p q))
+        (picked w rest k v (eqb n p) refl q (ih rest (n + length w)
+        (shorter w rest (b ∷ t) m (piece-some w rest (Meaning.token k v) q (token-something k v)) e l))))
     go o (bad q e) z = inl (rw z)
     go o (none h) z = inl (rw z)
 
@@ -101,7 +110,8 @@ pub token-at : (t : List ℕ) (p : ℕ) → ((tokenAt t p ≡ []) × ((u : List 
 unfolding tokenAt Answer
 token-at t p = go (right p (length t) t 0 (omega arith))
   where
-    go : (tokenFrom t 0 0 p ≡ []) ⊎ Starts 0 t p (tokenFrom t 0 0 p) → ((tokenFrom t 0 0 p ≡ []) × ((u : List ℕ) → Starts 0 t p u → u ≡ [])) ⊎ Starts 0 t p (tokenFrom t 0 0 p)
+    go : (tokenFrom t 0 0 p ≡ []) ⊎ Starts 0 t p (tokenFrom t 0 0 p)
+        → ((tokenFrom t 0 0 p ≡ []) × ((u : List ℕ) → Starts 0 t p u → u ≡ [])) ⊎ Starts 0 t p (tokenFrom t 0 0 p)
     go (inl e) = inl (e, λ u s. sym (starts-computed s) ∙ e)
     go (inr s) = inr s
 

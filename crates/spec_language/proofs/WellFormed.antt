@@ -71,7 +71,8 @@ module _ (t : Text) (m : Moded t) (w : WithinLimits t) (q : Clean t) where
   initial-values : (p : Decl → Bool) → ((d : Decl) → p d ≡ true → isInput (d .mode) ≡ false) → Initialised (map slot (filter p (declared t)))
   unfolding types values declared groups
   initial-values p h =
-      initialised p h (t .ports ++ t .vars) (both-nil (each initialsOf (groups t)) (each (typesOf (declared t)) (statements (t .body))) (q .types) .0) (q .values)
+      initialised p h (t .ports ++ t .vars) (both-nil (each initialsOf (groups t)) (each (typesOf (declared t)) (statements (t .body))) (q .types) .0)
+      (q .values)
       (numbers-append Small (t .ports) (t .vars) (small .0) (small .1))
 
   well-typed : typedProcess (elaborate t) ≡ true

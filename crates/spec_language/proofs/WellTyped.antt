@@ -77,7 +77,8 @@ given2-same f t o q e g = rw (e, sameType-refl t) (given-same f t q g)
 
 module _ (Γ : Scope) where
   -- the design's type of what an expression means is the tree's
-  pub has-type : {e : G.Expr} {c : Expr} {t : ExprTy} → Means Γ e c t → Each Small (exprNumbers e) → typeOf (types (Γ .inputs)) (types (Γ .variables)) c ≡ some t
+  pub has-type : {e : G.Expr} {c : Expr} {t : ExprTy} → Means Γ e c t → Each Small (exprNumbers e)
+      → typeOf (types (Γ .inputs)) (types (Γ .variables)) c ≡ some t
   unfolding exprNumbers typeOf leafType plainly unaryType
   has-type (L.Means.number x) h = rw (number-fits (x .value) (h .0))
   has-type (L.Means.bit x) h = refl
@@ -198,6 +199,7 @@ held-slots p h (d ∷ Δ) k = go (p d) refl (held-slots p h Δ (k .1))
     go false e r = r
 
 -- the outputs, or the variables, that such groups declare
-pub initialised : (p : Decl → Bool) → ((d : Decl) → p d ≡ true → isInput (d .mode) ≡ false) → (gs : List Group) → each initialsOf gs ≡ [] → each valuesOf gs ≡ []
+pub initialised : (p : Decl → Bool) → ((d : Decl) → p d ≡ true → isInput (d .mode) ≡ false) → (gs : List Group) → each initialsOf gs ≡ []
+    → each valuesOf gs ≡ []
     → Each Small (groupNumbers gs) → Initialised (map slot (filter p (spread gs)))
 initialised p h gs a b n = held-slots p h (spread gs) (held-groups gs a b n)

@@ -40,12 +40,15 @@ pub data Means (Γ : Scope) : T.Expr → Expr → ExprTy → Type 0 where
 -- statements, in text order; the clock is left out of a wait
 mutual
   pub data Does (Γ : Scope) : T.Stmt → Stmt → Type 0 where
-    output : {e : T.Expr} {c : Expr} {k : ℕ} {t : Ty} (x : Token) → Kth (Γ .outputs) (x .value) k t → Means Γ e c (plain t) → Does Γ (T.output x e) (D.act (D.Act.output k c))
-    assign : {e : T.Expr} {c : Expr} {k : ℕ} {t : Ty} (x : Token) → Kth (Γ .variables) (x .value) k t → Means Γ e c (plain t) → Does Γ (T.assign x e) (D.act (D.Act.variable k c))
+    output : {e : T.Expr} {c : Expr} {k : ℕ} {t : Ty} (x : Token) → Kth (Γ .outputs) (x .value) k t → Means Γ e c (plain t)
+        → Does Γ (T.output x e) (D.act (D.Act.output k c))
+    assign : {e : T.Expr} {c : Expr} {k : ℕ} {t : Ty} (x : Token) → Kth (Γ .variables) (x .value) k t → Means Γ e c (plain t)
+        → Does Γ (T.assign x e) (D.act (D.Act.variable k c))
     null : Does Γ T.null (D.act D.null)
     wait : (x : Token) → Does Γ (T.wait x) D.wait
     if-then : {e : T.Expr} {c : Expr} {a : Body} {s : Stmt} (x : Token) → Means Γ e c boolean → DoesAll Γ a s → Does Γ (T.if-then x e a) (D.if-then c s)
-    if-else : {e : T.Expr} {c : Expr} {a b : Body} {s r : Stmt} (x : Token) → Means Γ e c boolean → DoesAll Γ a s → DoesAll Γ b r → Does Γ (T.if-else x e a b) (D.if-else c s r)
+    if-else : {e : T.Expr} {c : Expr} {a b : Body} {s r : Stmt} (x : Token) → Means Γ e c boolean → DoesAll Γ a s → DoesAll Γ b r
+        → Does Γ (T.if-else x e a b) (D.if-else c s r)
     while : {e : T.Expr} {c : Expr} {a : Body} {s : Stmt} (x : Token) → Means Γ e c boolean → DoesAll Γ a s → Does Γ (T.while x e a) (D.while c s)
 
   pub data DoesAll (Γ : Scope) : Body → Stmt → Type 0 where

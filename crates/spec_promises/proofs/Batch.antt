@@ -36,10 +36,10 @@ use Rattle.spec_format.specs.Batch.{Batch, callsIn, rowsLeft, answersLeft, stat
 use Rattle.spec_format.proofs.Batch.{three}
 use Rattle.spec_format.proofs.Unmoved.{none-long, state-kept, rows-kept}
 use Rattle.spec_format.proofs.Refusals.{refused-exactly}
-use Rattle.spec_images.specs.Outcome.{Outcome, row-refused, state-refused, operator-refused, performs}
-use Rattle.spec_images.proofs.Outcomes.{image-outcome, row-long}
-use Rattle.spec_images.proofs.Processes.{encode-opens}
-use Rattle.spec_images.proofs.Places.{image-place, cycle-place, cycle-count}
+use Rattle.spec_simulation.specs.Outcome.{Outcome, row-refused, state-refused, operator-refused, performs}
+use Rattle.spec_simulation.proofs.Outcomes.{image-outcome, row-long}
+use Rattle.spec_simulation.proofs.Processes.{encode-opens}
+use Rattle.spec_simulation.proofs.Places.{image-place, cycle-place, cycle-count}
 use Rattle.spec_promises.specs.Compile.{written, compileOf}
 use Rattle.spec_promises.specs.Promises.{answerInC, RefusedAs}
 use Rattle.spec_promises.specs.Batch.{Due, DueTo, BatchRefused, by-image, by-length, endToEnd, Comes, turned-away, takes, Singly, Batched, BatchTold, BatchOfText}
@@ -90,17 +90,23 @@ module _ (image : List ℕ) (s : State) (n : ℕ) (is os : List ℤ) (ns : List 
     unfolding batchOf
     opened-batch = ap (λ (o : Opened). laidOut (rowsOn o image s n is os ns) s os ns) e
 
-    pub batch-taken : DueTo t n is os ns → batchOf image s n is os ns ≡ endToEnd s (callsOf image s (callsIn n (length (t .signature .inputs)) (length (t .signature .outputs)) is os))
+    pub batch-taken : DueTo t n is os ns → batchOf image s n is os ns ≡ endToEnd s
+        (callsOf image s (callsIn n (length (t .signature .inputs)) (length (t .signature .outputs)) is os))
     batch-taken d =
-        opened-batch ∙ ap (λ (b : Bool). laidOut (cond b (done (callsOf image s (callsIn n (length (t .signature .inputs)) (length (t .signature .outputs)) is os))) (refusal 17 0)) s os ns) (due-is (t .signature) n is os ns d)
+        opened-batch ∙ ap (λ (b : Bool). laidOut
+        (cond b (done (callsOf image s (callsIn n (length (t .signature .inputs)) (length (t .signature .outputs)) is os))) (refusal 17 0)) s os ns)
+        (due-is (t .signature) n is os ns d)
 
     batch-17 : (DueTo t n is os ns → ⊥) → batchOf image s n is os ns ≡ record { answer = refusal 17 0; state = s; rows = os; answers = ns }
     batch-17 h =
-        opened-batch ∙ ap (λ (b : Bool). laidOut (cond b (done (callsOf image s (callsIn n (length (t .signature .inputs)) (length (t .signature .outputs)) is os))) (refusal 17 0)) s os ns) (not-due-is (t .signature) n is os ns h)
+        opened-batch ∙ ap (λ (b : Bool). laidOut
+        (cond b (done (callsOf image s (callsIn n (length (t .signature .inputs)) (length (t .signature .outputs)) is os))) (refusal 17 0)) s os ns)
+        (not-due-is (t .signature) n is os ns h)
 
   -- a call is turned away and leaves all as it came, or it is its rows end to end
   pub batch-cases : (P : Batch → Type 0) → ((q k : ℕ) → P (record { answer = refusal q k; state = s; rows = os; answers = ns }))
-      → ((t : Table) → openOf image ≡ opened t → DueTo t n is os ns → P (endToEnd s (callsOf image s (callsIn n (length (t .signature .inputs)) (length (t .signature .outputs)) is os))))
+      → ((t : Table) → openOf image ≡ opened t → DueTo t n is os ns
+      → P (endToEnd s (callsOf image s (callsIn n (length (t .signature .inputs)) (length (t .signature .outputs)) is os))))
       → P (batchOf image s n is os ns)
   batch-cases P back rows = on (openOf image) refl
     where
@@ -161,7 +167,8 @@ numbers-are (performed way) = refl
 numbers-are (not-performed q k) = refl
 
 module _ (image : List ℕ) (t : Table) (e : openOf image ≡ opened t) where
-  singly : (s : State) (n : ℕ) (is os : List ℤ) (ns : List ℕ) → DueTo t n is os ns → Singly image (length (t .signature .inputs)) (length (t .signature .outputs)) s n is os ns
+  singly : (s : State) (n : ℕ) (is os : List ℤ) (ns : List ℕ) → DueTo t n is os ns
+      → Singly image (length (t .signature .inputs)) (length (t .signature .outputs)) s n is os ns
   unfolding callsIn callsOf rowsLeft answersLeft stateLeft
   singly s zero is os ns d =
       let a : os ≡ [] = none-long os (let f = d .outputs in omega arith) in
@@ -177,7 +184,9 @@ module _ (image : List ℕ) (t : Table) (e : openOf image ≡ opened t) where
       record {
         state = ap (λ (b : Batch). b .state) x ∙ sym (ap (λ (b : Batch). b .state) y);
         rows = ap (λ (b : Batch). b .rows) x ∙ ap (λ (l : List ℤ). r .row ++ l) (sym (ap (λ (b : Batch). b .rows) y));
-        answers = ap (λ (b : Batch). b .answers) x ∙ (ap (λ (l : List ℕ). l ++ answersLeft rs) (numbers-are (r .answer)) ∙ ap (λ (l : List ℕ). answerInC (r .answer) ++ l) (sym (ap (λ (b : Batch). b .answers) y)));
+        answers = ap (λ (b : Batch). b .answers) x
+            ∙ (ap (λ (l : List ℕ). l ++ answersLeft rs) (numbers-are (r .answer))
+            ∙ ap (λ (l : List ℕ). answerInC (r .answer) ++ l) (sym (ap (λ (b : Batch). b .answers) y)));
         taken = (rs, ap (λ (b : Batch). b .answer) y, ap (λ (b : Batch). b .answer) x);
       }
 
@@ -213,7 +222,8 @@ module _ (image : List ℕ) (h : Bytes image) (t : Table) (e : openOf image ≡ 
       let b = three (cycleAnswer (r .answer)) in
       omega arith
 
-  numbers-small : (a : Answer) → ((way : List ℕ) → a ≡ performed way → length way ≤ 512) → ((q k : ℕ) → a ≡ not-performed q k → q ≤ 18) → ((q k : ℕ) → a ≡ not-performed q k → k ≤ 512)
+  numbers-small : (a : Answer) → ((way : List ℕ) → a ≡ performed way → length way ≤ 512) → ((q k : ℕ) → a ≡ not-performed q k → q ≤ 18)
+      → ((q k : ℕ) → a ≡ not-performed q k → k ≤ 512)
       → (l : List ℕ) → ((k : ℕ) → getD l k 0 ≤ 512) → (k : ℕ) → getD (numbersOf (cycleAnswer a) ++ l) k 0 ≤ 512
   numbers-small (performed way) x y z l g zero = omega arith
   numbers-small (performed way) x y z l g (suc zero) = omega arith
@@ -288,7 +298,8 @@ text-due p n is os ns =
     (λ d. rw (inputs-wide p, outputs-wide p) d, λ d. rw (← inputs-wide p, ← outputs-wide p) d)
 
 pub text-calls : (p : Process) (n : ℕ) (is os : List ℤ)
-    → callsIn n (length (tableOf p .signature .inputs)) (length (tableOf p .signature .outputs)) is os ≡ callsIn n (length (p .inputs)) (length (p .outputs)) is os
+    → callsIn n (length (tableOf p .signature .inputs)) (length (tableOf p .signature .outputs)) is os ≡ callsIn n (length (p .inputs))
+    (length (p .outputs)) is os
 text-calls p n is os = rw (inputs-wide p, outputs-wide p)
 
 pub batch-of-text : (text buffer : List ℕ) (m : ℕ) → compileOf text buffer .answer ≡ written m → BatchOfText text buffer m
@@ -303,6 +314,7 @@ batch-of-text text buffer m e =
       state = d .state;
       starts = d .starts;
       same = λ n is os ns x. batch-taken image (d .state) n is os ns (tableOf p) o (text-due p n is os ns .0 x)
-          ∙ ap (endToEnd (d .state)) (ap (callsOf image (d .state)) (text-calls p n is os) ∙ d .same (callsIn n (length (p .inputs)) (length (p .outputs)) is os));
+          ∙ ap (endToEnd (d .state)) (ap (callsOf image (d .state)) (text-calls p n is os)
+          ∙ d .same (callsIn n (length (p .inputs)) (length (p .outputs)) is os));
       not-due = λ s n is os ns x. batch-17 image s n is os ns (tableOf p) o (λ y. x (text-due p n is os ns .1 y));
     }

@@ -20,8 +20,8 @@ use Rattle.spec_format.specs.Cycle.{cycleOf, callsOf}
 use Rattle.spec_format.specs.Encode.{tableOf}
 use Rattle.spec_format.specs.Batch.{Batch, callsIn, rowsLeft, answersLeft, stateLeft, batchOf, onePerformed, isMoved}
 use Rattle.spec_format.proofs.Unmoved.{state-kept}
-use Rattle.spec_images.specs.Outcome.{Outcome, row-refused, state-refused, operator-refused, performs}
-use Rattle.spec_images.proofs.Outcomes.{image-outcome}
+use Rattle.spec_simulation.specs.Outcome.{Outcome, row-refused, state-refused, operator-refused, performs}
+use Rattle.spec_simulation.proofs.Outcomes.{image-outcome}
 use Rattle.spec_promises.specs.Compile.{compileOf}
 use Rattle.spec_promises.specs.CInterface.{stateOfC, cOfState, cycledSlots, compileInC, cycleInC, callsInC, slotsLeft, batchSlots, batchLeft, batchInC}
 use Rattle.spec_promises.specs.Promises.{doneNumbers}
@@ -37,10 +37,12 @@ module _ (image : List ℕ) where
   rows-moved s l [] = refl
   rows-moved s l (c ∷ cs) =
       let r = cycleOf image s (c .inputs) (c .outputs) in
-      on (r .state) (callsOf image (r .state) cs) (r .answer) (rows-moved (r .state) (cOfState (r .state)) cs) (rows-moved (r .state) l cs) (state-kept image (r .state) cs)
+      on (r .state) (callsOf image (r .state) cs) (r .answer) (rows-moved (r .state) (cOfState (r .state)) cs) (rows-moved (r .state) l cs)
+      (state-kept image (r .state) cs)
     where
       on : (x : State) (rs : List Called) (a : Answer)
-          → slotsLeft (cOfState x) rs ≡ cond (onePerformed rs) (cOfState (stateLeft x rs)) (cOfState x) → slotsLeft l rs ≡ cond (onePerformed rs) (cOfState (stateLeft x rs)) l
+          → slotsLeft (cOfState x) rs ≡ cond (onePerformed rs) (cOfState (stateLeft x rs)) (cOfState x)
+          → slotsLeft l rs ≡ cond (onePerformed rs) (cOfState (stateLeft x rs)) l
           → (onePerformed rs ≡ false → stateLeft x rs ≡ x)
           → slotsLeft (cycledSlots a x l) rs ≡ cond (isDone (cycleAnswer a) || onePerformed rs) (cOfState (stateLeft x rs)) l
       on x rs (performed way) stored kept f = stored ∙ again (onePerformed rs) refl
@@ -82,11 +84,13 @@ module _ (image : List ℕ) (h : Bytes image) (t : Table) (e : openOf image ≡ 
       record {
         slots = ap (λ (s : State). slotsLeft x (callsOf image s cs)) (sym f) ∙ k .slots;
         rows = ap (λ (s : State). r .row ++ rowsLeft (callsOf image s cs)) (sym f) ∙ ap (λ (a : List ℤ). r .row ++ a) (k .rows);
-        answers = ap (λ (s : State). numbersOf (cycleAnswer (r .answer)) ++ answersLeft (callsOf image s cs)) (sym f) ∙ ap (λ (a : List ℕ). numbersOf (cycleAnswer (r .answer)) ++ a) (k .answers);
+        answers = ap (λ (s : State). numbersOf (cycleAnswer (r .answer)) ++ answersLeft (callsOf image s cs)) (sym f)
+            ∙ ap (λ (a : List ℕ). numbersOf (cycleAnswer (r .answer)) ++ a) (k .answers);
       }
 
   taken-in-c : (l : List ℤ) (n : ℕ) (is os : List ℤ) (ns : List ℕ) → DueTo t n is os ns
-      → batchInC image l n is os ns ≡ endToEndInC l (callsInC (cycleInC image) l (callsIn n (length (t .signature .inputs)) (length (t .signature .outputs)) is os))
+      → batchInC image l n is os ns ≡ endToEndInC l
+      (callsInC (cycleInC image) l (callsIn n (length (t .signature .inputs)) (length (t .signature .outputs)) is os))
   taken-in-c l n is os ns d =
       let k = same-singly l (callsIn n (length (t .signature .inputs)) (length (t .signature .outputs)) is os) in
       ap (λ (b : Batch). batchLeft b l) (batch-taken image (stateOfC l) n is os ns t e d)
@@ -111,6 +115,7 @@ batch-of-text-in-c text buffer m e =
       process = p;
       valid = k .valid;
       starts = k .starts;
-      same = λ n is os ns d. taken-in-c image (wrote-bytes text buffer m a) (tableOf p) (text-opens text buffer m a p (k .valid)) l n is os ns (text-due p n is os ns .0 d)
+      same = λ n is os ns d. taken-in-c image (wrote-bytes text buffer m a) (tableOf p) (text-opens text buffer m a p (k .valid)) l n is os ns
+          (text-due p n is os ns .0 d)
           ∙ ap (endToEndInC l) (ap (callsInC (cycleInC image) l) (text-calls p n is os) ∙ k .same (callsIn n (length (p .inputs)) (length (p .outputs)) is os));
     }

@@ -29,8 +29,8 @@ use Rattle.spec_format.specs.Encode.{encode}
 use Rattle.spec_format.specs.Writing.{Writing}
 use Rattle.spec_format.proofs.Opens.{opens-exactly}
 use Rattle.spec_format.proofs.Calls.{refused-untouched}
-use Rattle.spec_images.specs.Outcome as Image
-use Rattle.spec_images.proofs.Processes.{encode-bytes}
+use Rattle.spec_simulation.specs.Outcome as Image
+use Rattle.spec_simulation.proofs.Processes.{encode-bytes}
 use Rattle.spec_behaviour.specs.Direct.{directOf}
 use Rattle.spec_behaviour.proofs.DirectRun.{direct-run}
 use Rattle.spec_promises.specs.Compile.{written, not-compiled, compileOf}
@@ -56,7 +56,8 @@ left-refused : (call : State → Called) (l o : List ℤ) (q k : ℕ) → call (
 left-refused call l o q k e f = rw (e, f)
 
 -- a cycle that is performed
-left-performed : (call : State → Called) (l : List ℤ) (way : List ℕ) (s : State) (row : List ℤ) → call (stateOfC l) ≡ record { answer = performed way; state = s; row = row }
+left-performed : (call : State → Called) (l : List ℤ) (way : List ℕ) (s : State) (row : List ℤ)
+    → call (stateOfC l) ≡ record { answer = performed way; state = s; row = row }
     → cycleLeft call l ≡ record { answer = doneNumbers (length way); slots = cOfState s; row = row }
 left-performed call l way s row e = rw e
 
@@ -65,13 +66,15 @@ told-in-c text buffer image h l c =
     record {
       compiled = λ n e. ap (λ (a : Told ℕ). (numbersOf a, compileOf text buffer .buffer)) e;
       compile-refused = λ q k e. ap (λ (a : Told ℕ). (numbersOf a, compileOf text buffer .buffer)) e
-          ∙ ap (λ (b : List ℕ). (refusedNumbers q k, b)) (buffer-kept text buffer q k (compileOf text buffer) (demand1 text buffer image h (stateOfC l) c .compiled) e);
+          ∙ ap (λ (b : List ℕ). (refusedNumbers q k, b))
+          (buffer-kept text buffer q k (compileOf text buffer) (demand1 text buffer image h (stateOfC l) c .compiled) e);
       opened = λ t e. ap openNumbers e;
       open-refused = λ q k e. ap openNumbers e;
       started = λ s e. ap (λ (x : Started). startLeft x l) e;
       start-refused = λ q k e. ap (λ (x : Started). startLeft x l) e;
       cycled = λ way s row e. left-performed (λ x. cycleOf image x (c .inputs) (c .outputs)) l way s row e;
-      cycle-refused = λ q k e. left-refused (λ x. cycleOf image x (c .inputs) (c .outputs)) l (c .outputs) q k e (refused-untouched (stateOfC l) (c .outputs) image (c .inputs) q k e .1);
+      cycle-refused = λ q k e. left-refused (λ x. cycleOf image x (c .inputs) (c .outputs)) l (c .outputs) q k e
+          (refused-untouched (stateOfC l) (c .outputs) image (c .inputs) q k e .1);
       run = λ way s row e. left-performed (λ x. directOf text x c) l way s row e;
       run-refused = λ q k e. left-refused (λ x. directOf text x c) l (c .outputs) q k e (direct-untouched text (stateOfC l) c q k e .1);
       run-started = λ s e. ap (λ (x : Started). startLeft x l) e;
@@ -96,7 +99,8 @@ pub back : (s : State) → Whole s → stateOfC (cOfState s) ≡ s
 back s w =
     let l = slots-in-c s (w .outputs) (w .variables) in
     let place : placeOfC (pos (s .place)) ≡ s .place = rw (lt-ltb (s .place) 65536 (w .place)) in
-    let variables : take 32 (drop 17 (cOfState s)) ≡ s .variables = ap (take 32) (l .variables) ∙ take-all 32 (s .variables) (let e = w .variables in omega arith) in
+    let variables : take 32 (drop 17 (cOfState s)) ≡ s .variables = ap (take 32) (l .variables)
+    ∙ take-all 32 (s .variables) (let e = w .variables in omega arith) in
     λ j. record { place = place j; outputs = l .outputs j; variables = variables j }
 
 -- what a call on the record s leaves in the 49 numbers of s is seen as the call, and the record is whole again
@@ -112,7 +116,8 @@ module _ (image : List ℕ) (h : Bytes image) where
       let g = opens-exactly image t h .0 o .1 .few-lines in
       record { place = omega arith; outputs = pad-length 16 (m .outputs); variables = pad-length 32 (m .variables) }
 
-  row-carried : (t : Table) → openOf image ≡ opened t → (s : State) → Whole s → (c : Call) (r : Called) → Image.Outcome t s (c .inputs) (c .outputs) r → Carried s r
+  row-carried : (t : Table) → openOf image ≡ opened t → (s : State) → Whole s → (c : Call) (r : Called) → Image.Outcome t s (c .inputs) (c .outputs) r
+      → Carried s r
   row-carried t o s w c r (Image.row-refused k m) = record { seen = refl; whole = w }
   row-carried t o s w c r (Image.state-refused m b) = record { seen = refl; whole = w }
   row-carried t o s w c r (Image.operator-refused q x u m b l y) = record { seen = refl; whole = w }
@@ -135,7 +140,8 @@ module _ (image : List ℕ) (h : Bytes image) where
       ap (λ (x : Left). x ∷ callsInC (cycleInC image) (x .slots) cs) e ∙ ap (λ (rest : List Left). seenInC r ∷ rest) (calls-carried (r .state) (k .whole) cs)
 
 -- functions that agree call by call agree on every list of calls
-calls-agree : (f g : List ℤ → List ℤ → List ℤ → Left) → ((l i o : List ℤ) → f l i o ≡ g l i o) → (l : List ℤ) (cs : List Call) → callsInC f l cs ≡ callsInC g l cs
+calls-agree : (f g : List ℤ → List ℤ → List ℤ → Left) → ((l i o : List ℤ) → f l i o ≡ g l i o) → (l : List ℤ) (cs : List Call)
+    → callsInC f l cs ≡ callsInC g l cs
 unfolding callsInC
 calls-agree f g h l [] = refl
 calls-agree f g h l (c ∷ cs) = rw (h l (c .inputs) (c .outputs)) (ap (λ (rest : List Left). g l (c .inputs) (c .outputs) ∷ rest) (calls-agree f g h _ cs))
@@ -179,12 +185,15 @@ calls-in-c text buffer n e =
     let t : fresh (d .state) ≡ fresh (laid (atFirst p)) = sym (d .starts) ∙ s in
     let u : laid (atFirst p) ≡ d .state = cc in
     let same : (cs : List Call) → callsInC (cycleInC image) (cOfState (laid (atFirst p))) cs ≡ map seenInC (equationCalls p (atFirst p) cs) =
-    λ cs. calls-carried image h (laid (atFirst p)) (laid-whole (atFirst p) refl) cs ∙ ap (map seenInC) (ap (λ (x : State). callsOf image x cs) u ∙ d .same cs) in
+    λ cs. calls-carried image h (laid (atFirst p)) (laid-whole (atFirst p) refl) cs
+    ∙ ap (map seenInC) (ap (λ (x : State). callsOf image x cs) u ∙ d .same cs) in
     record {
       process = p;
       valid = d .valid;
       starts = λ l. ap (λ (x : Started). startLeft x l) s;
       same = same;
       direct-starts = λ l. ap (λ (x : Started). startLeft x l) (sym (d .direct-start) ∙ s);
-      direct = λ cs. sym (calls-agree (cycleInC image) (directInC text) (λ l i o. ap (λ (r : Called). cycleLeft (λ x. r) l) (d .direct (stateOfC l) (record { inputs = i; outputs = o }))) (cOfState (laid (atFirst p))) cs) ∙ same cs;
+      direct = λ cs. sym (calls-agree (cycleInC image) (directInC text)
+          (λ l i o. ap (λ (r : Called). cycleLeft (λ x. r) l) (d .direct (stateOfC l) (record { inputs = i; outputs = o }))) (cOfState (laid (atFirst p))) cs)
+          ∙ same cs;
     }

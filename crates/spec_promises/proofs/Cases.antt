@@ -1,5 +1,5 @@
 -- What each call comes to (demand 1): by cases on the verdict, on the opened image and on the direct row. Assumes nothing.
-use mathlib.Core.Path.{_≡_, refl, sym, _∙_, ap, subst}
+use mathlib.Core.Path.{_≡_, refl, sym, _∙_, subst}
 use mathlib.Core.Bool.{Bool, true, false}
 use mathlib.Core.Option.{Option, none, some}
 use mathlib.Core.List.{List}
@@ -12,10 +12,10 @@ use Rattle.spec_language.specs.Verdict.{Verdict, accepted, refused, verdict}
 use Rattle.spec_language.proofs.Judged as J
 use Rattle.spec_language.proofs.Numbers.{refuses-of-text}
 use Rattle.spec_language.proofs.WellFormed.{valid-well-formed}
-use Rattle.spec_semantics.specs.Rows.{rowRefusal, row, atFirst}
+use Rattle.spec_semantics.specs.Rows.{rowRefusal, row}
 use Rattle.spec_semantics.specs.InputRow.{Meets14}
 use Rattle.spec_semantics.specs.Calls.{Call}
-use Rattle.spec_semantics.specs.Comparison.{fed, laid, seen}
+use Rattle.spec_semantics.specs.Comparison.{fed, seen}
 use Rattle.spec_semantics.specs.DirectRow.{fitsText, directRow, Described}
 use Rattle.spec_semantics.proofs.Basic.{none-some, false-true}
 use Rattle.spec_semantics.proofs.Rows.{meets-14-exactly, row-answers}
@@ -31,7 +31,7 @@ use Rattle.spec_format.specs.Writing.{writtenInto}
 use Rattle.spec_format.proofs.Writing.{written-cases}
 use Rattle.spec_format.proofs.Opens.{opens-exactly}
 use Rattle.spec_format.proofs.Refusals.{refused-exactly}
-use Rattle.spec_images.proofs.Outcomes.{image-outcome}
+use Rattle.spec_simulation.proofs.Outcomes.{image-outcome}
 use Rattle.spec_behaviour.specs.Direct.{unlessRefused, directOf, freshText, directFresh}
 use Rattle.spec_promises.specs.Compile.{onVerdict, compileOf}
 use Rattle.spec_promises.specs.Promises.{Compiles, writes, too-short, Opens, opens, Starts, Runs, runs, RunsText, by-14, by-15, answers, StartsText}
@@ -88,7 +88,8 @@ module _ (text : List ℕ) (s : State) (c : Call) where
   -- a state that is described: the row of the equations from what is kept
   described-runs : (d : Process) → Valid text d → WellFormed d → rowRefusal d (fed c) ≡ none → (g : Described d s) → RunsText text s c (directRow d s c)
   described-runs d v w e g =
-      let x : directRow d s c ≡ seen (row d (g .kept) (fed c)) c = subst (λ (z : State). directRow d z c ≡ seen (row d (g .kept) (fed c)) c) (g .layout) (direct-row d w (g .kept) (g .invariant) c) in
+      let x : directRow d s c ≡ seen (row d (g .kept) (fed c)) c =
+      subst (λ (z : State). directRow d z c ≡ seen (row d (g .kept) (fed c)) c) (g .layout) (direct-row d w (g .kept) (g .invariant) c) in
       subst (RunsText text s c) (sym x) (answers d v (not-14 d e) g (row d (g .kept) (fed c)) (row-answers d w (g .kept) (fed c)))
 
   process-runs : (d : Process) → Valid text d → WellFormed d → RunsText text s c (directRow d s c)

@@ -5,13 +5,12 @@ use mathlib.Core.Bool.{Bool, true, false}
 use mathlib.Core.Logic.{_↔_}
 use mathlib.Core.Option.{Option, none, some}
 use mathlib.Core.List.{List, []}
-use Prim.Native.Nat.{ℕ, _≤_, _<_}
+use Prim.Native.Nat.{ℕ}
 use native.Mathlib.Omega.{arith}
 use lib.ListN.{length}
-use lib.IntN.{ℤ}
 use Rattle.base_answers.proofs.Told.{done-refused}
 use Rattle.base_answers.specs.declared.State.{State}
-use Rattle.spec_design.specs.Process.{Process, WellFormed}
+use Rattle.spec_design.specs.Process.{Process}
 use Rattle.spec_language.specs.Validity.{Valid, Refuses}
 use Rattle.spec_language.specs.Verdict.{Verdict, accepted, refused, verdict}
 use Rattle.spec_language.proofs.Judged as J
@@ -22,11 +21,10 @@ use Rattle.spec_semantics.specs.InputRow.{Meets14}
 use Rattle.spec_semantics.specs.Refusal.{CycleFaults}
 use Rattle.spec_semantics.specs.Answer.{Answers}
 use Rattle.spec_semantics.specs.Answer as A
-use Rattle.spec_semantics.specs.Records.{Started, fresh, not-started}
-use Rattle.spec_semantics.specs.Calls.{Answer, performed, not-performed, Call, Called, unless14, turnedBack}
-use Rattle.spec_semantics.specs.Comparison.{fed, laid, told, seen}
+use Rattle.spec_semantics.specs.Records.{not-started}
+use Rattle.spec_semantics.specs.Calls.{not-performed, Call, Called}
+use Rattle.spec_semantics.specs.Comparison.{fed, told, seen}
 use Rattle.spec_semantics.specs.DirectRow.{directRow, Described}
-use Rattle.spec_semantics.proofs.Basic.{none-some}
 use Rattle.spec_semantics.proofs.Rows.{meets-14-exactly}
 use Rattle.spec_semantics.proofs.Refusal.{refusal-exactly}
 use Rattle.spec_semantics.proofs.DirectRows.{direct-row}
@@ -36,17 +34,16 @@ use Rattle.spec_format.specs.Image.{Table}
 use Rattle.spec_format.specs.Good.{GoodTable}
 use Rattle.spec_format.specs.Opening.{Opened, opened, not-opened, openOf}
 use Rattle.spec_format.specs.Refusals.{Refusal}
-use Rattle.spec_format.specs.State.{stateOk, memoryOf, freshFrom, freshOf}
-use Rattle.spec_format.specs.Walk.{tableCycle}
-use Rattle.spec_format.specs.Cycle.{rowPlace, ended, tableRow, rowOf, unlessClosed, cycleOf}
+use Rattle.spec_format.specs.State.{stateOk, freshFrom, freshOf}
+use Rattle.spec_format.specs.Cycle.{rowPlace, tableRow, rowOf, unlessClosed, cycleOf}
 use Rattle.spec_format.specs.Encode.{encode}
 use Rattle.spec_format.specs.Writing.{Writing, writtenInto}
 use Rattle.spec_format.proofs.Writing.{short-written, written-cases}
 use Rattle.spec_format.proofs.Opens.{opens-exactly}
 use Rattle.spec_format.proofs.Refusals.{refused-exactly}
-use Rattle.spec_images.specs.Outcome as O
-use Rattle.spec_images.proofs.InputRows.{row-exactly}
-use Rattle.spec_images.proofs.States.{state-exactly}
+use Rattle.spec_simulation.specs.Outcome as O
+use Rattle.spec_simulation.proofs.InputRows.{row-exactly}
+use Rattle.spec_simulation.proofs.States.{state-exactly}
 use Rattle.spec_behaviour.specs.Direct.{unlessRefused, directOf, freshText, directFresh}
 use Rattle.spec_promises.specs.Compile.{not-compiled, onVerdict, compileOf}
 use Rattle.spec_promises.specs.Promises as P
@@ -58,8 +55,10 @@ module _ (text buffer : List ℕ) (q k : ℕ) where
   unfolding compileOf
   compile-back (P.CompileRefused.by-text r) = ap (λ (v : Verdict). onVerdict v buffer .answer) (J.refuses text q k .1 r)
   compile-back (P.CompileRefused.by-buffer d v h e f) =
-      let z : onVerdict (accepted d) buffer .answer ≡ not-compiled 10 (length (encode d)) = ap (λ (w : Writing). w .answer) (short-written (encode d) buffer h) in
-      ap (λ (x : Verdict). onVerdict x buffer .answer) (J.accepts text d .1 v) ∙ (z ∙ ap (λ (n : ℕ). not-compiled n (length (encode d))) (sym e) ∙ ap (λ (n : ℕ). not-compiled q n) (sym f))
+      let z : onVerdict (accepted d) buffer .answer ≡ not-compiled 10 (length (encode d)) =
+      ap (λ (w : Writing). w .answer) (short-written (encode d) buffer h) in
+      ap (λ (x : Verdict). onVerdict x buffer .answer) (J.accepts text d .1 v)
+      ∙ (z ∙ ap (λ (n : ℕ). not-compiled n (length (encode d))) (sym e) ∙ ap (λ (n : ℕ). not-compiled q n) (sym f))
 
   on-encoded : (d : Process) → Valid text d → writtenInto (encode d) buffer .answer ≡ not-compiled q k → P.CompileRefused text buffer q k
   on-encoded d v =
@@ -101,7 +100,8 @@ module _ (image : List ℕ) (h : Bytes image) (q k : ℕ) where
     unfolding cycleOf
     opened-row t e = ap (λ (o : Opened). unlessClosed o s (c .outputs) (λ u. rowOf u s (c .inputs) (c .outputs))) e
 
-    no-row : (t : Table) → ((x : ℕ) → O.Meets14 (t .signature) (c .inputs) (length (c .outputs)) x → ⊥) → rowPlace (t .signature) (c .inputs) (length (c .outputs)) ≡ none
+    no-row : (t : Table) → ((x : ℕ) → O.Meets14 (t .signature) (c .inputs) (length (c .outputs)) x → ⊥)
+        → rowPlace (t .signature) (c .inputs) (length (c .outputs)) ≡ none
     no-row t m = go (rowPlace (t .signature) (c .inputs) (length (c .outputs))) refl
       where
         go : (o : Option ℕ) → rowPlace (t .signature) (c .inputs) (length (c .outputs)) ≡ o → o ≡ none
@@ -129,7 +129,8 @@ module _ (image : List ℕ) (h : Bytes image) (q k : ℕ) where
         let z : rowOf t s (c .inputs) (c .outputs) .answer ≡ not-performed q k = rw (no-row t m, state-exactly t (opens-exactly image t h .0 e .1) s .1 g, y) in
         ap (λ (r : Called). r .answer) (opened-row t e) ∙ z
 
-    on-outcome : (t : Table) → openOf image ≡ opened t → (r : Called) → O.Outcome t s (c .inputs) (c .outputs) r → r .answer ≡ not-performed q k → P.CycleRefused image s c q k
+    on-outcome : (t : Table) → openOf image ≡ opened t → (r : Called) → O.Outcome t s (c .inputs) (c .outputs) r → r .answer ≡ not-performed q k
+        → P.CycleRefused image s c q k
     on-outcome t o _ (O.row-refused x m) e =
         let a : q ≡ 14 = cc in
         let b : x ≡ k = cc in
@@ -181,7 +182,8 @@ module _ (text : List ℕ) (q k : ℕ) where
         go (some x) e = absurd (m x (meets-14-exactly d (fed c) x .0 e))
 
     faults-row : (d : Process) (g : Kept) → rowRefusal d (fed c) ≡ none
-        → Equations.cycle (d .body) (g .place) (c .inputs) (record { way = []; memory = g .memory }) ≡ Equations.refused q k → told (row d g (fed c) .0) ≡ not-performed q k
+        → Equations.cycle (d .body) (g .place) (c .inputs) (record { way = []; memory = g .memory }) ≡ Equations.refused q k
+        → told (row d g (fed c) .0) ≡ not-performed q k
     unfolding row judged concluded
     faults-row d g n e = rw (n, e)
 
@@ -196,7 +198,8 @@ module _ (text : List ℕ) (q k : ℕ) where
         ∙ (ap (λ (x : ℕ). not-performed x 0) (sym e) ∙ ap (λ (x : ℕ). not-performed q x) (sym f))
     direct-back (P.DirectRefused.by-operator d v m g o) =
         let w = valid-well-formed v in
-        let y : directRow d s c ≡ seen (row d (g .kept) (fed c)) c = subst (λ (z : State). directRow d z c ≡ seen (row d (g .kept) (fed c)) c) (g .layout) (direct-row d w (g .kept) (g .invariant) c) in
+        let y : directRow d s c ≡ seen (row d (g .kept) (fed c)) c =
+        subst (λ (z : State). directRow d z c ≡ seen (row d (g .kept) (fed c)) c) (g .layout) (direct-row d w (g .kept) (g .invariant) c) in
         let x = refusal-exactly (c .inputs) q (d .body) (g .kept .place) (record { way = []; memory = g .kept .memory }) k .1 o in
         ap (λ (r : Called). r .answer) (accepted-row d v ∙ y) ∙ faults-row d (g .kept) (no-14 d m) x
 

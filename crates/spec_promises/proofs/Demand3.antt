@@ -27,7 +27,7 @@ use Rattle.spec_semantics.specs.DirectRow.{directRow}
 use Rattle.spec_behaviour.specs.Direct.{unlessRefused, directOf, freshText, directFresh}
 use Rattle.spec_promises.specs.Promises.{Short, AllShort, Demand3}
 use Rattle.spec_simulation.proofs.Way.{cycle-bound}
-use Rattle.spec_images.proofs.Processes.{encode-opens}
+use Rattle.spec_simulation.proofs.Processes.{encode-opens}
 use Rattle.spec_promises.proofs.Size.{valid-fits}
 use Rattle.spec_promises.proofs.OneRow.{fresh-laid, one-row}
 use Rattle.spec_promises.proofs.Direct.{row-direct}
@@ -47,7 +47,8 @@ module _ (p : Process) (w : WellFormed p) (o : openOf (encode p) ≡ opened (tab
   calls-same : (cs : List Call) (k : Kept) → Invariant p k → callsOf (encode p) (laid k) cs ≡ equationCalls p k cs
   unfolding callsOf equationCalls
   calls-same [] k v = refl
-  calls-same (c ∷ cs) k v = rw (one-call k v c) (ap (λ (l : List Called). seen (row p k (fed c)) c ∷ l) (calls-same cs (row p k (fed c) .1) (row-invariant p w k (fed c) v)))
+  calls-same (c ∷ cs) k v = rw (one-call k v c)
+      (ap (λ (l : List Called). seen (row p k (fed c)) c ∷ l) (calls-same cs (row p k (fed c) .1) (row-invariant p w k (fed c) v)))
 
   -- ways
   way-short : (k : Kept) → Invariant p k → (c : Call) → Short p (laid k .place) (told (row p k (fed c) .0))
@@ -57,7 +58,12 @@ module _ (p : Process) (w : WellFormed p) (o : openOf (encode p) ≡ opened (tab
       go : (r : Outcome × Kept) → Answers p k (fed c) r → Short p (laid k .place) (told (r .0))
       go r (by-14 x m) = tt
       go r (by-operator j n m q) = tt
-      go r (performs x τ m e y) = (y .distinct, y .short, cycle-bound (p .body) (w .class) (w .loops) (w .statements) (k .place) (v .place) (c .inputs) (fresh (k .memory)) τ x refl e)
+      go r (performs x τ m e y) = (
+        y .distinct,
+        y .short,
+        cycle-bound (p .body) (w .class) (w .loops) (w .statements) (k .place) (v .place) (c .inputs)
+            (fresh (k .memory)) τ x refl e,
+      )
 
   ways-short : (cs : List Call) (k : Kept) → Invariant p k → AllShort p (laid k) (equationCalls p k cs)
   unfolding equationCalls
@@ -99,6 +105,7 @@ demand3 text buffer n e =
       starts = starts;
       same = λ cs. ap (λ (b : List ℕ). callsOf b (laid (atFirst p)) cs) (r .image) ∙ calls-same p w o cs (atFirst p) i;
       short = λ cs. ways-short p w o cs (atFirst p) i;
-      direct = λ s c. ap (λ (b : List ℕ). cycleOf b s (c .inputs) (c .outputs)) (r .image) ∙ any-call p w o s c ∙ ap (λ (x : Verdict). unlessRefused x s c) (sym (r .verdict));
+      direct = λ s c. ap (λ (b : List ℕ). cycleOf b s (c .inputs) (c .outputs)) (r .image) ∙ any-call p w o s c
+          ∙ ap (λ (x : Verdict). unlessRefused x s c) (sym (r .verdict));
       direct-start = starts ∙ ap freshText (sym (r .verdict));
     }

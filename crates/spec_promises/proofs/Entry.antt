@@ -18,7 +18,8 @@ use Rattle.spec_promises.specs.Entry.{stateAfter, openingTold}
 use Rattle.spec_promises.specs.Promises.{RefusedAs, AnswersTold, ToldByEntry}
 
 -- a refusal that tells q and k
-pub told-by : {A B : Type 0} (wrap : Refusal → B) (x : Refusal) (q k : ℕ) → _≡_ {A = Told A} (refusal (numberOf x) (placeOf x)) (refusal q k) → RefusedAs wrap (wrap x) q k
+pub told-by : {A B : Type 0} (wrap : Refusal → B) (x : Refusal) (q k : ℕ) → _≡_ {A = Told A} (refusal (numberOf x) (placeOf x)) (refusal q k)
+    → RefusedAs wrap (wrap x) q k
 told-by wrap x q k e = (x, refl, cc, cc)
 
 compiled-is : (r : declared-compiled.Compiled) (n : ℕ) → compileTold r ≡ done n → r ≡ Written n

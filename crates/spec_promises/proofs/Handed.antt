@@ -28,7 +28,13 @@ further n w s =
     let l = s .2 .place in (
       length w + s .0,
       omega arith,
-      record { before = w ++ s .2 .before; behind = s .2 .behind; is = ap (λ (l : List ℕ). w ++ l) (s .2 .is) ∙ sym (append-assoc w (s .2 .before) _); place = omega arith },
+      record {
+        before = w ++ s .2 .before;
+        behind = s .2 .behind;
+        is = ap (λ (l : List ℕ). w ++ l) (s .2 .is)
+            ∙ sym (append-assoc w (s .2 .before) _);
+        place = omega arith;
+      },
     )
 
 stands-from : {n p : ℕ} {t u : List ℕ} → Starts n t p u → Stands n t p u
@@ -53,7 +59,8 @@ token-is : (t : List ℕ) (p : ℕ) (u : List ℕ) → Starts 0 t p u ↔ ((toke
 unfolding tokenAt
 token-is t p u = (
   λ s. (starts-computed s, token-some s),
-  λ h. ⊎-elim (λ n. let z = h .1 in let e : length u ≡ 0 = ap length (sym (h .0) ∙ n .0) in absurd (omega arith)) (λ s. subst (Starts 0 t p) (h .0) s) (token-at t p),
+  λ h. ⊎-elim (λ n. let z = h .1 in let e : length u ≡ 0 = ap length (sym (h .0) ∙ n .0) in absurd (omega arith)) (λ s. subst (Starts 0 t p) (h .0) s)
+      (token-at t p),
 )
 
 -- the empty part, exactly where none starts

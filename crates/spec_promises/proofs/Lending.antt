@@ -23,7 +23,8 @@ pub stands-between : (l : List ℕ) (p : ℕ) (u : List ℕ) → StandsAt l p u 
 stands-between l p u s =
     let z : p + length u - p ≡ length u = omega arith in
     rw (stands-within l p u s, z)
-    (ap (λ (l : List ℕ). take (length u) (drop p l)) (s .is) ∙ (ap (take (length u)) (drop-at (s .before) (u ++ s .behind) p (s .place)) ∙ take-at u (s .behind) (length u) refl))
+    (ap (λ (l : List ℕ). take (length u) (drop p l)) (s .is)
+    ∙ (ap (take (length u)) (drop-at (s .before) (u ++ s .behind) p (s .place)) ∙ take-at u (s .behind) (length u) refl))
 
 -- what is lent between them is that part
 pub stands-lent : (s r : RefT (List ℕ)) (p : ℕ) (u : List ℕ) → StandsAt (now s) p u → Lends s p (p + length u) r → (now r ≡ u) × PartAt s p r

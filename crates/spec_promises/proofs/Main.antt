@@ -8,22 +8,20 @@ use lib.ListN.{length}
 use lib.IntN.{ℤ}
 use Rattle.base_answers.specs.declared.State.{State}
 use Rattle.spec_design.specs.Types.{inRange}
-use Rattle.spec_design.specs.Process.{Process, WellFormed}
 use Rattle.spec_language.specs.Validity.{Valid}
 use Rattle.spec_language.proofs.Judged.{accepts}
 use Rattle.spec_language.proofs.WellFormed.{valid-well-formed}
 use Rattle.spec_semantics.specs.Multiplying.{Multiplying}
 use Rattle.spec_semantics.proofs.Multiplying as M
 use Rattle.spec_semantics.proofs.Faults.{operator-number}
-use Rattle.spec_semantics.specs.Calls.{Answer, performed, not-performed, Called, Call}
+use Rattle.spec_semantics.specs.Calls.{performed, not-performed, Called, Call}
 use Rattle.spec_format.specs.Words.{Bytes}
 use Rattle.spec_format.specs.Image.{Table, sectionsFor}
 use Rattle.spec_format.specs.Opening.{Opened, opened, not-opened, openOf}
 use Rattle.spec_format.specs.Cycle.{cycleOf, callsOf}
-use Rattle.spec_format.specs.Encode.{encode, tableOf}
-use Rattle.spec_images.specs.Outcome.{Outcome, row-refused, state-refused, operator-refused, performs, GoodState}
-use Rattle.spec_images.proofs.Outcomes.{image-outcome}
-use Rattle.spec_images.proofs.Processes.{encode-opens}
+use Rattle.spec_simulation.specs.Outcome.{Outcome, row-refused, state-refused, operator-refused, performs, GoodState}
+use Rattle.spec_simulation.proofs.Outcomes.{image-outcome}
+use Rattle.spec_simulation.proofs.Processes.{encode-opens}
 use Rattle.spec_behaviour.specs.Direct.{directOf, directCalls}
 use Rattle.spec_promises.specs.Compile.{written, compileOf}
 use Rattle.spec_promises.specs.Lending.{boundsOf}
@@ -34,7 +32,7 @@ use Rattle.spec_promises.proofs.Size.{valid-fits}
 use Rattle.spec_promises.proofs.Demand1 as D1
 use Rattle.spec_promises.proofs.Demand2 as D2
 use Rattle.spec_promises.proofs.Demand3 as D3
-use Rattle.spec_promises.proofs.Demand3.{Wrote, wrote}
+use Rattle.spec_promises.proofs.Demand3.{wrote}
 use Rattle.spec_promises.proofs.Handed as H
 use Rattle.spec_promises.proofs.SectionsLent as L
 use Rattle.spec_promises.proofs.Entry as E
@@ -124,7 +122,8 @@ compiled text buffer n e =
     }
 
 -- a call on an image that does not open
-closed-answer : (image : List ℕ) (s : State) (c : Call) (q x : ℕ) → openOf image ≡ not-opened q x → cycleOf image s (c .inputs) (c .outputs) .answer ≡ not-performed q x
+closed-answer : (image : List ℕ) (s : State) (c : Call) (q x : ℕ) → openOf image ≡ not-opened q x
+    → cycleOf image s (c .inputs) (c .outputs) .answer ≡ not-performed q x
 unfolding cycleOf
 closed-answer image s c q x e = rw e
 
@@ -138,7 +137,8 @@ not-15 t s d r k g (state-refused m b) e = b g
 not-15 t s d r k g (operator-refused q x o m b l y) e = let z : q ≡ 15 = cc in omega (arith, operator-number q o .0)
 not-15 t s d r k g (performs p τ m b q w y n l) e = let z : _≡_ {A = ℕ} 0 1 = cc in omega arith
 
-returns-good : (t : Table) (s : State) (c : Call) (r : Called) (way : List ℕ) → Outcome t s (c .inputs) (c .outputs) r → r .answer ≡ performed way → GoodState t (r .state)
+returns-good : (t : Table) (s : State) (c : Call) (r : Called) (way : List ℕ) → Outcome t s (c .inputs) (c .outputs) r → r .answer ≡ performed way
+    → GoodState t (r .state)
 returns-good t s c r way (row-refused x m) e = absurd (let z : _≡_ {A = ℕ} 0 1 = cc in omega arith)
 returns-good t s c r way (state-refused m b) e = absurd (let z : _≡_ {A = ℕ} 0 1 = cc in omega arith)
 returns-good t s c r way (operator-refused q x o m b l y) e = absurd (let z : _≡_ {A = ℕ} 0 1 = cc in omega arith)

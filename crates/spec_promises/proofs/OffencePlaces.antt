@@ -329,7 +329,10 @@ module _ (n : ℕ) where
   unfolding table
   table-inside t h = (
     by-inside 5 names t (names-inside t h),
-    (by-inside 6 types t (types-inside t h), (by-inside 7 values t (values-inside t h), (by-inside 8 clock t (clock-inside t h), (by-inside 9 loops t (loops-inside t h), tt)))),
+    (
+      by-inside 6 types t (types-inside t h),
+      (by-inside 7 values t (values-inside t h), (by-inside 8 clock t (clock-inside t h), (by-inside 9 loops t (loops-inside t h), tt))),
+    ),
   )
 
   first-inside : (t : Text) (q p : ℕ) (rs : List Stage) → First t q p rs → Kept rs t → p ≤ n

@@ -30,9 +30,9 @@ use Rattle.spec_semantics.specs.Calls.{unless14, Call}
 use Rattle.spec_format.specs.Encode.{cells, signatureFor, tableOf}
 use Rattle.spec_semantics.specs.Records.{number}
 use Rattle.spec_semantics.specs.Comparison.{fed, laid, seen}
-use Rattle.spec_images.proofs.States.{memory-back}
+use Rattle.spec_simulation.proofs.States.{memory-back}
 use Rattle.spec_semantics.proofs.Slots.{pad-length, slots-ok}
-use Rattle.spec_images.proofs.Processes.{cells-types, signature-good, row-refusal}
+use Rattle.spec_simulation.proofs.Processes.{cells-types, signature-good, row-refusal}
 use Rattle.spec_simulation.proofs.Lines.{Each, linesOf-each, linesOf-length}
 use Rattle.spec_simulation.proofs.Cycle.{one-cycle}
 
@@ -48,16 +48,19 @@ unfolding has Each
 wait-line t (act a) n f h p e = false-true e
 wait-line t wait n f h p e = let q : p ≡ n = eqb-true p n e in rw q (ap isWait h)
 wait-line t (if-then c a) n f h p e = wait-line t a (suc n) f (h .1) p e
-wait-line t (if-else c a b) n f h p e = or-case (has a (suc n) p) (has b (suc n + size a) p) e (wait-line t a (suc n) f (h .1) p) (wait-line t b (suc n + size a) f (h .2) p)
+wait-line t (if-else c a b) n f h p e = or-case (has a (suc n) p) (has b (suc n + size a) p) e (wait-line t a (suc n) f (h .1) p)
+    (wait-line t b (suc n + size a) f (h .2) p)
 wait-line t (while c b) n f h p e = wait-line t b (suc n) n (h .1) p e
 wait-line t (seq a b) n f h p e = or-case (has a n p) (has b (n + size a) p) e (wait-line t a n (n + size a) (h .0) p) (wait-line t b (n + size a) f (h .1) p)
 
 pub place-ok : (s : Stmt) (q : Place) → Placed s q → placeOk (linesOf s) (number q) ≡ true
 unfolding placeOk Placed
 place-ok s beginning v = refl
-place-ok s (at p) v = let h : p < length (linesOf s) = rw linesOf-length (omega (arith, has-below s 0 p v)) in go (eqb p 512) (lt-ltb p (length (linesOf s)) h) (wait-line (linesOf s) s 0 0 (linesOf-each s) p v)
+place-ok s (at p) v = let h : p < length (linesOf s) = rw linesOf-length (omega (arith, has-below s 0 p v)) in
+    go (eqb p 512) (lt-ltb p (length (linesOf s)) h) (wait-line (linesOf s) s 0 0 (linesOf-each s) p v)
   where
-    go : (b : Bool) → ltb p (length (linesOf s)) ≡ true → isWait (line (linesOf s) p) ≡ true → (b || (ltb p (length (linesOf s)) && isWait (line (linesOf s) p))) ≡ true
+    go : (b : Bool) → ltb p (length (linesOf s)) ≡ true → isWait (line (linesOf s) p) ≡ true
+        → (b || (ltb p (length (linesOf s)) && isWait (line (linesOf s) p))) ≡ true
     go true x y = refl
     go false x y = rw (x, y)
 
@@ -86,7 +89,8 @@ module _ (p : Process) (w : WellFormed p) (k : Kept) (v : Invariant p k) where
   -- its used slots are what is kept
   kept-back : memoryOf (signatureFor p) (laid k) ≡ k .memory
   unfolding signatureFor
-  kept-back = memory-back (signatureFor p) (signature-good p w) (number (k .place)) (k .memory) (rw (cells-types (p .outputs), cells-types (p .variables)) (v .well-typed))
+  kept-back = memory-back (signatureFor p) (signature-good p w) (number (k .place)) (k .memory)
+      (rw (cells-types (p .outputs), cells-types (p .variables)) (v .well-typed))
 
   -- a cycle's result, told by the table and by the equations
   same-result : (c : Call) (r : Result) → Ended (p .body) r → ended r (laid k) (c .outputs) ≡ seen (concluded r k) c
@@ -97,9 +101,12 @@ module _ (p : Process) (w : WellFormed p) (k : Kept) (v : Invariant p k) where
   pub same-cycle : (c : Call) → tableRow (tableOf p) (laid k) (c .inputs) (c .outputs) ≡ seen (judged none p k (fed c)) c
   unfolding tableRow judged stateFor tableOf signatureFor
   same-cycle c =
-      ap (λ (m : Memory). ended (tableCycle (tableOf p .lines) (tableOf p .reaches) (number (k .place)) (c .inputs) (record { way = []; memory = m })) (laid k) (c .outputs)) kept-back
-      ∙ (ap (λ (r : Result). ended r (laid k) (c .outputs)) (one-cycle (p .body) (w .class) (w .loops) (w .statements) (k .place) (v .place) (c .inputs) (record { way = []; memory = k .memory }))
-      ∙ same-result c (cycle (p .body) (k .place) (c .inputs) (record { way = []; memory = k .memory })) (cycle-ends (p .body) (w .class) (k .place) (c .inputs) (record { way = []; memory = k .memory })))
+      ap (λ (m : Memory). ended (tableCycle (tableOf p .lines) (tableOf p .reaches) (number (k .place)) (c .inputs) (record { way = []; memory = m })) (laid k)
+      (c .outputs)) kept-back
+      ∙ (ap (λ (r : Result). ended r (laid k) (c .outputs))
+      (one-cycle (p .body) (w .class) (w .loops) (w .statements) (k .place) (v .place) (c .inputs) (record { way = []; memory = k .memory }))
+      ∙ same-result c (cycle (p .body) (k .place) (c .inputs) (record { way = []; memory = k .memory }))
+      (cycle-ends (p .body) (w .class) (k .place) (c .inputs) (record { way = []; memory = k .memory })))
 
   -- One call.
   pub one-row : (c : Call) → rowOf (tableOf p) (laid k) (c .inputs) (c .outputs) ≡ seen (row p k (fed c)) c

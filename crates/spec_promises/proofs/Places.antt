@@ -1,5 +1,5 @@
 -- Every place and every count that is answered is small: a place of 1 to 9 is that of a token of the text or the text's length; the bytes of an image are at
--- most 65,535; those of calls on an image, and so of the direct run, are at most 512 (spec_images/proofs/Places.antt). Assumes nothing.
+-- most 65,535; those of calls on an image, and so of the direct run, are at most 512 (spec_simulation/proofs/Places.antt). Assumes nothing.
 use mathlib.Core.Path.{_≡_, refl, sym, _∙_, ap, subst}
 use mathlib.Core.List.{List}
 use Prim.Native.Nat.{ℕ, _≤_}
@@ -17,10 +17,10 @@ use Rattle.spec_format.specs.Words.{Bytes}
 use Rattle.spec_format.specs.Good.{GoodTable}
 use Rattle.spec_format.specs.State.{freshOf}
 use Rattle.spec_format.specs.Encode.{tableOf}
-use Rattle.spec_images.specs.Outcome.{Outcome}
-use Rattle.spec_images.proofs.Outcomes.{row-outcome}
-use Rattle.spec_images.proofs.Processes.{process-good}
-use Rattle.spec_images.proofs.Places.{image-place, outcome-place, outcome-count, open-place, cycle-place, cycle-count}
+use Rattle.spec_simulation.specs.Outcome.{Outcome}
+use Rattle.spec_simulation.proofs.Outcomes.{row-outcome}
+use Rattle.spec_simulation.proofs.Processes.{process-good}
+use Rattle.spec_simulation.proofs.Places.{image-place, outcome-place, outcome-count, open-place, cycle-place, cycle-count}
 use Rattle.spec_behaviour.specs.Direct.{unlessRefused, directOf, directFresh}
 use Rattle.spec_promises.specs.Compile.{written, not-compiled, compileOf}
 use Rattle.spec_promises.specs.Promises as P
@@ -64,7 +64,7 @@ module _ (text buffer : List ℕ) where
   pub compile-count : (n : ℕ) → compileOf text buffer .answer ≡ written n → n ≤ 65535
   compile-count n e = compiled text buffer n e .size
 
--- IMAGES: 11 to 13 are at most the line count; all else is in spec_images/proofs/Places.antt
+-- IMAGES: 11 to 13 are at most the line count; all else is in spec_simulation/proofs/Places.antt
 pub fresh-place : (image : List ℕ) → Bytes image → (q k : ℕ) → freshOf image ≡ not-started q k → k ≤ 512
 fresh-place image h q k e = image-place image q k (D1.fresh-refused image h q k .0 e)
 

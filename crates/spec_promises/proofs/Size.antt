@@ -50,11 +50,13 @@ unfolding operationBytes
 binary-bytes o = refl
 
 -- an operation's bytes before those of others
-bytes-before : (i : Operation) (k : List Operation) (m : ℕ) → length (operationBytes (i ∷ [])) ≤ m → length (operationBytes (i ∷ k)) ≤ m + length (operationBytes k)
+bytes-before : (i : Operation) (k : List Operation) (m : ℕ) → length (operationBytes (i ∷ [])) ≤ m
+    → length (operationBytes (i ∷ k)) ≤ m + length (operationBytes k)
 bytes-before i k m h = let e = bytes-append (i ∷ []) k in omega arith
 
 -- with n bytes before it, at most 3 bytes an item and 2 more
-room-steps : (r : ℕ) → Steps push untyped1 untyped2 (λ (e : Expr) (n : ℕ). Unit {0}) (λ (e : Expr) (n : ℕ). n + (3 * items e + 2)) (λ (k : List Operation) (n : ℕ). n + length (operationBytes k) ≤ r)
+room-steps : (r : ℕ) → Steps push untyped1 untyped2 (λ (e : Expr) (n : ℕ). Unit {0}) (λ (e : Expr) (n : ℕ). n + (3 * items e + 2))
+    (λ (k : List Operation) (n : ℕ). n + length (operationBytes k) ≤ r)
 unfolding items
 room-steps r =
     record {

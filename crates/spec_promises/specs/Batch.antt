@@ -84,7 +84,8 @@ pub record Batched (image : List ℕ) (s : State) (n : ℕ) (is os : List ℤ) (
   pub taken : (t : Table) → openOf image ≡ opened t → DueTo t n is os ns
       → batchOf image s n is os ns ≡ endToEnd s (callsOf image s (callsIn n (length (t .signature .inputs)) (length (t .signature .outputs)) is os))
   -- the same, one row after another
-  pub singly : (t : Table) → openOf image ≡ opened t → DueTo t n is os ns → Singly image (length (t .signature .inputs)) (length (t .signature .outputs)) s n is os ns
+  pub singly : (t : Table) → openOf image ≡ opened t → DueTo t n is os ns
+      → Singly image (length (t .signature .inputs)) (length (t .signature .outputs)) s n is os ns
   -- what is written has the lengths of what is lent, whatever the call came to
   pub long : (length (batchOf image s n is os ns .rows) ≡ length os) × (length (batchOf image s n is os ns .answers) ≡ length ns)
   -- "three numbers per row": each at most 512, so that the 32 bits of an answer lose nothing
@@ -130,10 +131,12 @@ endToEndInC l xs = record { answer = doneNumbers 0; slots = slotsAfter l xs; row
 -- rabtishu_cycles on any bytes and any 49 numbers
 pub record BatchInC (image : List ℕ) (l : List ℤ) (n : ℕ) (is os : List ℤ) (ns : List ℕ) : Type 0 where
   -- "writing nothing": number, place, 0, and all else as it came
-  pub refused : (q k : ℕ) → BatchRefused image n is os ns q k → batchInC image l n is os ns ≡ record { answer = refusedNumbers q k; slots = l; rows = os; answers = ns }
+  pub refused : (q k : ℕ) → BatchRefused image n is os ns q k
+      → batchInC image l n is os ns ≡ record { answer = refusedNumbers q k; slots = l; rows = os; answers = ns }
   -- "The result must equal the same rows given singly": to rabtishu_cycle, each call with the 49 numbers that the one before it left
   pub taken : (t : Table) → openOf image ≡ opened t → DueTo t n is os ns
-      → batchInC image l n is os ns ≡ endToEndInC l (callsInC (cycleInC image) l (callsIn n (length (t .signature .inputs)) (length (t .signature .outputs)) is os))
+      → batchInC image l n is os ns ≡ endToEndInC l
+      (callsInC (cycleInC image) l (callsIn n (length (t .signature .inputs)) (length (t .signature .outputs)) is os))
 
 -- rabtishu_cycles on what rabtishu_compile wrote, m bytes, from the 49 numbers that rabtishu_fresh leaves: the rows of the text's equations
 pub record BatchOfTextInC (text buffer : List ℕ) (m : ℕ) : Type 0 where
@@ -142,4 +145,5 @@ pub record BatchOfTextInC (text buffer : List ℕ) (m : ℕ) : Type 0 where
   pub starts : (l : List ℤ) → freshInC (take m (compileInC text buffer .1)) l ≡ (doneNumbers 0, cOfState (laid (atFirst process)))
   pub same : (n : ℕ) (is os : List ℤ) (ns : List ℕ) → Due (length (process .inputs)) (length (process .outputs)) n is os ns
       → batchInC (take m (compileInC text buffer .1)) (cOfState (laid (atFirst process))) n is os ns
-      ≡ endToEndInC (cOfState (laid (atFirst process))) (map seenInC (equationCalls process (atFirst process) (callsIn n (length (process .inputs)) (length (process .outputs)) is os)))
+      ≡ endToEndInC (cOfState (laid (atFirst process)))
+      (map seenInC (equationCalls process (atFirst process) (callsIn n (length (process .inputs)) (length (process .outputs)) is os)))

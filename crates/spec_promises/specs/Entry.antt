@@ -1,4 +1,4 @@
--- What the operations of the crate entry leave and tell beside their answers: the caller's own state record, number and place of an opened image (document 01,
+-- What the operations of the crate api_rattle leave and tell beside their answers: the caller's own state record, number and place of an opened image (document 01,
 -- "State", "Turned back"). Assumes nothing.
 use Prim.Native.Nat.{ℕ}
 use Rattle.base_answers.specs.declared.State.{State}

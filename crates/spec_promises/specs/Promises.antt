@@ -50,7 +50,7 @@ use Rattle.spec_format.specs.State.{memoryOf, freshTable, freshOf}
 use Rattle.spec_format.specs.Cycle.{cycleOf, callsOf}
 use Rattle.spec_format.specs.Encode.{tableOf, encode}
 use Rattle.spec_format.specs.Writing.{Writing}
-use Rattle.spec_images.specs.Outcome as Image
+use Rattle.spec_simulation.specs.Outcome as Image
 use Rattle.spec_behaviour.specs.Direct.{directOf, directFresh, directCalls}
 use Rattle.spec_behaviour.specs.DirectRun.{DirectRun}
 use Rattle.spec_promises.specs.Compile.{written, not-compiled, compileOf}
@@ -80,7 +80,7 @@ pub data Starts (image : List ℕ) : Started → Type 0 where
   starts : (t : Table) → openOf image ≡ opened t → Starts image (fresh (freshTable t))
   refuses : (q k : ℕ) → 11 ≤ q → q ≤ 13 → Refusal image q k → Starts image (not-started q k)
 
--- cycle: 11, 12 or 13 of the image; else 14, 15, 16 or 18 or a cycle performed, as `Outcome` of the crate images has it. Refused, state and output row are as they came
+-- cycle: 11, 12 or 13 of the image; else 14, 15, 16 or 18 or a cycle performed, as `Outcome` of the crate spec_simulation has it. Refused, state and output row are as they came
 pub data Runs (image : List ℕ) (s : State) (c : Call) : Called → Type 0 where
   runs : (t : Table) → openOf image ≡ opened t → (r : Called) → Image.Outcome t s (c .inputs) (c .outputs) r → Runs image s c r
   refuses : (q k : ℕ) → 11 ≤ q → q ≤ 13 → Refusal image q k → Runs image s c (turnedBack q k s (c .outputs))
@@ -108,7 +108,8 @@ pub data CompileRefused (text buffer : List ℕ) (q k : ℕ) : Type 0 where
 pub data CycleRefused (image : List ℕ) (s : State) (c : Call) (q k : ℕ) : Type 0 where
   by-image : Refusal image q k → CycleRefused image s c q k
   by-row : (t : Table) → openOf image ≡ opened t → Image.Meets14 (t .signature) (c .inputs) (length (c .outputs)) k → q ≡ 14 → CycleRefused image s c q k
-  by-state : (t : Table) → openOf image ≡ opened t → ((x : ℕ) → Image.Meets14 (t .signature) (c .inputs) (length (c .outputs)) x → ⊥) → (Image.GoodState t s → ⊥)
+  by-state : (t : Table) → openOf image ≡ opened t → ((x : ℕ) → Image.Meets14 (t .signature) (c .inputs) (length (c .outputs)) x → ⊥)
+      → (Image.GoodState t s → ⊥)
       → q ≡ 15 → k ≡ 0 → CycleRefused image s c q k
   by-operator : (t : Table) → openOf image ≡ opened t → ((x : ℕ) → Image.Meets14 (t .signature) (c .inputs) (length (c .outputs)) x → ⊥) → Image.GoodState t s
       → tableCycle (t .lines) (t .reaches) (s .place) (c .inputs) (record { way = []; memory = memoryOf (t .signature) s }) ≡ Equations.refused q k
@@ -199,7 +200,8 @@ pub record Handed (text : List ℕ) (place : ℕ) : Type 0 where
   -- "as that part of the text": these bytes, of which the C interface tells the number, stand in the text at the place, ..
   pub stands : place ≤ length text → StandsAt text place (tokenAt text place)
   -- .. and what is lent of the caller's text holds them there
-  pub part : (s r : RefT (List ℕ)) → now s ≡ text → Lends s place (place + length (tokenAt text place)) r → (now r ≡ tokenAt text place) × (place ≤ length text → PartAt s place r)
+  pub part : (s r : RefT (List ℕ)) → now s ≡ text → Lends s place (place + length (tokenAt text place)) r
+      → (now r ≡ tokenAt text place) × (place ≤ length text → PartAt s place r)
 
 -- THE SECTIONS LENT OUT, of an image that opens as the table t, between the bounds o. "The opened image lends out its three sections as parts of the caller's
 -- bytes": what is lent are the bytes of signature, lines and code, each where it stands in the image. The bounds that opening finds are such.
@@ -257,7 +259,8 @@ pub record ToldInC (text buffer image : List ℕ) (l : List ℤ) (c : Call) : Ty
   pub open-refused : (q k : ℕ) → openOf image ≡ not-opened q k → openInC image ≡ refusedNumbers q k
   pub started : (s : State) → freshOf image ≡ fresh s → freshInC image l ≡ (doneNumbers 0, cOfState s)
   pub start-refused : (q k : ℕ) → freshOf image ≡ not-started q k → freshInC image l ≡ (refusedNumbers q k, l)
-  pub cycled : (way : List ℕ) (s : State) (row : List ℤ) → cycleOf image (stateOfC l) (c .inputs) (c .outputs) ≡ record { answer = performed way; state = s; row = row }
+  pub cycled : (way : List ℕ) (s : State) (row : List ℤ)
+      → cycleOf image (stateOfC l) (c .inputs) (c .outputs) ≡ record { answer = performed way; state = s; row = row }
       → cycleInC image l (c .inputs) (c .outputs) ≡ record { answer = doneNumbers (length way); slots = cOfState s; row = row }
   pub cycle-refused : (q k : ℕ) → cycleOf image (stateOfC l) (c .inputs) (c .outputs) .answer ≡ not-performed q k
       → cycleInC image l (c .inputs) (c .outputs) ≡ record { answer = refusedNumbers q k; slots = l; row = c .outputs }
@@ -283,7 +286,8 @@ pub record CallsInC (text buffer : List ℕ) (n : ℕ) : Type 0 where
   pub process : Process
   pub valid : Valid text process
   pub starts : (l : List ℤ) → freshInC (take n (compileInC text buffer .1)) l ≡ (doneNumbers 0, cOfState (laid (atFirst process)))
-  pub same : (cs : List Call) → callsInC (cycleInC (take n (compileInC text buffer .1))) (cOfState (laid (atFirst process))) cs ≡ map seenInC (equationCalls process (atFirst process) cs)
+  pub same : (cs : List Call) → callsInC (cycleInC (take n (compileInC text buffer .1))) (cOfState (laid (atFirst process))) cs ≡ map seenInC
+      (equationCalls process (atFirst process) cs)
   pub direct-starts : (l : List ℤ) → directFreshInC text l ≡ (doneNumbers 0, cOfState (laid (atFirst process)))
   pub direct : (cs : List Call) → callsInC (directInC text) (cOfState (laid (atFirst process))) cs ≡ map seenInC (equationCalls process (atFirst process) cs)
 

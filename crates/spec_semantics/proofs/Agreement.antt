@@ -164,7 +164,8 @@ module _ (i : ι) where
       bind-condition (toB b) (λ q n. refl) (c i sq w) _ _ _ (λ u. tail-A (toB b) (λ q n. refl) (f i so sq u) _ (λ so sq w. refl))
       (λ u. tail-C (toB b) (λ q n. refl) b (g .0 i so sq u) _ (λ so sq v w. refl))
 
-  if-BC : (γ δ : Type 0) (c : condition traced) (f : «type_b_statement» traced γ) (g : «type_c_statement» traced δ) (m : γ ⊎ δ → ℕ) (so : ω) (sq : φ) (w : List ℕ)
+  if-BC : (γ δ : Type 0) (c : condition traced) (f : «type_b_statement» traced γ) (g : «type_c_statement» traced δ) (m : γ ⊎ δ → ℕ) (so : ω) (sq : φ)
+      (w : List ℕ)
       → toB m («IF_THEN_ELSE_BC» traced c f g i so sq none w)
       ≡ branched (c i sq w) (λ u. toB (λ v. m (inl v)) (f i so sq none u)) (λ u. toC (λ v. m (inr v)) (g .0 i so sq u))
   unfolding «IF_THEN_ELSE_BC» «PRIMREC_option» _⇒_∣_
@@ -198,7 +199,8 @@ module _ (i : ι) where
       (a : γ → ℕ) (b : δ → ℕ) (v : ifWaits x y γ δ) (σ : Run)
       → resumes (ifClass x y) (ifWaits x y γ δ) (ifSem tracing x y γ δ c f g) (λ w. ⊎-elim a b (ifPart x y γ δ w)) v i σ
       ≡ ⊎-elim (λ u. resumes x γ f a u i σ) (λ u. resumes y δ g b u i σ) (ifPart x y γ δ v)
-  unfolding ifClass «PRIMREC_option» «PRIMREC_sum» «IF_THEN_ELSE_AB» «IF_THEN_ELSE_AC» «IF_THEN_ELSE_BA» «IF_THEN_ELSE_BB» «IF_THEN_ELSE_BC» «IF_THEN_ELSE_CA» «IF_THEN_ELSE_CB» «IF_THEN_ELSE_CC»
+  unfolding ifClass «PRIMREC_option» «PRIMREC_sum» «IF_THEN_ELSE_AB» «IF_THEN_ELSE_AC» «IF_THEN_ELSE_BA» «IF_THEN_ELSE_BB» «IF_THEN_ELSE_BC» «IF_THEN_ELSE_CA»
+      «IF_THEN_ELSE_CB» «IF_THEN_ELSE_CC»
   if-resume A A γ δ c f g a b v σ = absurd v
   if-resume A B γ δ c f g a b v σ = refl
   if-resume A C γ δ c f g a b v σ = refl
@@ -319,7 +321,8 @@ number-has (act a) n v = absurd v
 number-has wait n v = eqb-same n
 number-has (if-then e a) n v = go (ifPart (classOf a) A (Waits a) ⊥ v) (number-has a (suc n))
   where
-    go : (z : Waits a ⊎ ⊥) → ((v : Waits a) → has a (suc n) (numberOf a (suc n) v) ≡ true) → has a (suc n) (⊎-elim (numberOf a (suc n)) (λ v. absurd v) z) ≡ true
+    go : (z : Waits a ⊎ ⊥) → ((v : Waits a) → has a (suc n) (numberOf a (suc n) v) ≡ true)
+        → has a (suc n) (⊎-elim (numberOf a (suc n)) (λ v. absurd v) z) ≡ true
     go (inl v) h = h v
     go (inr v) h = absurd v
 number-has (if-else e a b) n v =

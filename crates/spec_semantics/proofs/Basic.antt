@@ -2,7 +2,7 @@
 use Prim.Native.Nat.{ℕ}
 use native.Mathlib.Omega.{arith}
 use mathlib.Core.Path.{_≡_, refl, sym, ap}
-use mathlib.Core.Bool.{Bool, true, false, _&&_, _||_}
+use mathlib.Core.Bool.{Bool, true, false, cond, _&&_, _||_}
 use mathlib.Core.Option.{none, some}
 use lib.IntN.{ℤ, pos, negsuc}
 use lib.Dec.{eqb, T, eqb→eq, eqb-refl}
@@ -72,3 +72,8 @@ pub bind-fine : {X Y : Type 0} (o : Out X) (k : X → Out Y) (y : Y) → bind o 
 unfolding bind
 bind-fine (fine x) k y e = (x, refl, e)
 bind-fine (fault q) k y e = fault-fine q y e
+
+-- which of two a test picked
+pub cond-case : {X P : Type 0} (b : Bool) {x y z : X} → cond b x y ≡ z → (b ≡ true → x ≡ z → P) → (b ≡ false → y ≡ z → P) → P
+cond-case true e f g = f refl e
+cond-case false e f g = g refl e

@@ -57,7 +57,8 @@ module _ (p : Process) (s : State) (f : fitsText p s ≡ true) where
   pub used-outputs : Values (slotTypes (p .outputs)) (take (length (p .outputs)) (s .outputs)) × (s .outputs ≡ pad 16 (take (length (p .outputs)) (s .outputs)))
   used-outputs = rw (length-map (p .outputs) (λ (x : Slot). x .type)) at (counted-slots 16 (slotTypes (p .outputs)) (s .outputs) (parts .1))
 
-  pub used-variables : Values (slotTypes (p .variables)) (take (length (p .variables)) (s .variables)) × (s .variables ≡ pad 32 (take (length (p .variables)) (s .variables)))
+  pub used-variables : Values (slotTypes (p .variables)) (take (length (p .variables)) (s .variables))
+      × (s .variables ≡ pad 32 (take (length (p .variables)) (s .variables)))
   used-variables = rw (length-map (p .variables) (λ (x : Slot). x .type)) at (counted-slots 32 (slotTypes (p .variables)) (s .variables) (parts .2))
 
   -- all slots are there
@@ -69,7 +70,11 @@ module _ (p : Process) (s : State) (f : fitsText p s ≡ true) where
 
   pub kept-invariant : Invariant p (keptOf p s)
   unfolding keptOf
-  kept-invariant = record { place = placed-for (p .body) (s .place) (parts .0); well-typed = record { outputs = used-outputs .0; variables = used-variables .0 } }
+  kept-invariant = record {
+    place = placed-for (p .body) (s .place)
+        (parts .0);
+    well-typed = record { outputs = used-outputs .0; variables = used-variables .0 };
+  }
 
   -- it is the layout of what the equations keep of it
   pub kept-laid : laid (keptOf p s) ≡ s
@@ -88,7 +93,8 @@ fits-exactly p w s = (
 )
 
 -- a record that is none gets 15 at 0, where the row does not meet 14
-pub direct-15 : (p : Process) → WellFormed p → (s : State) (c : Call) → rowRefusal p (fed c) ≡ none → (Described p s → ⊥) → directRow p s c ≡ turnedBack 15 0 s (c .outputs)
+pub direct-15 : (p : Process) → WellFormed p → (s : State) (c : Call) → rowRefusal p (fed c) ≡ none → (Described p s → ⊥)
+    → directRow p s c ≡ turnedBack 15 0 s (c .outputs)
 unfolding directRow
 direct-15 p w s c r h = rw r (go (fitsText p s) refl)
   where

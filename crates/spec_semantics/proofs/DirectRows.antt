@@ -1,26 +1,23 @@
 -- The direct run from what the equations keep is a call of the equations: the state laid out is not refused by 15, and what is kept of it is what was laid
 -- out. So, by induction on the list of calls, all calls are. Assumes nothing.
-use mathlib.Core.Path.{_≡_, refl, sym, _∙_, ap}
-use mathlib.Core.Bool.{Bool, true, false, cond, _&&_, _||_}
+use mathlib.Core.Path.{_≡_, refl, _∙_, ap}
+use mathlib.Core.Bool.{Bool, true, false, cond, _||_}
 use mathlib.Core.Option.{Option, none, some}
 use mathlib.Core.List.{List, [], _∷_, map}
-use Prim.Native.Nat.{ℕ, suc, _≤_, _<_}
+use Prim.Native.Nat.{ℕ, _≤_}
 use native.Mathlib.Omega.{arith}
 use lib.ListN.{length, take, length-map}
-use lib.IntN.{ℤ}
 use lib.Dec.{eqb}
-use Rattle.spec_design.specs.Types.{Ty}
 use Rattle.spec_design.specs.Statement.{Stmt, has}
 use Rattle.spec_design.specs.Process.{Process, Slot, slotTypes, WellFormed}
-use Rattle.spec_semantics.specs.Equations.{Memory, Place, beginning, at}
+use Rattle.spec_semantics.specs.Equations.{Place, beginning, at}
 use Rattle.spec_semantics.specs.Rows.{Kept, rowRefusal, judged, row, rowsFrom}
-use Rattle.spec_semantics.specs.Values.{Values}
 use Rattle.spec_semantics.specs.Answer.{Placed, Invariant}
 use Rattle.spec_semantics.specs.Records.{number, pad, stateFor}
-use Rattle.spec_semantics.specs.Calls.{Call, Called, unless14, turnedBack}
+use Rattle.spec_semantics.specs.Calls.{Call, Called, unless14}
 use Rattle.spec_semantics.specs.Comparison.{fed, laid, seen, seenAll, equationCalls}
 use Rattle.spec_semantics.specs.DirectRow.{fitsText, placeFor, keptOf, cycled, directRow, directRows}
-use Rattle.spec_semantics.proofs.Basic.{eqb-true, false-true}
+use Rattle.spec_semantics.proofs.Basic.{eqb-true}
 use Rattle.spec_semantics.proofs.Results.{has-below}
 use Rattle.spec_semantics.proofs.Slots.{pad-length, slots-ok, pad-take}
 use Rattle.spec_semantics.proofs.Rows.{row-invariant}
@@ -65,10 +62,12 @@ module _ (p : Process) (w : WellFormed p) (k : Kept) (v : Invariant p k) where
 
   -- what is kept of it is what was laid out
   outputs-back : take (length (p .outputs)) (pad 16 (k .memory .outputs)) ≡ k .memory .outputs
-  outputs-back = rw (length-map (p .outputs) (λ (s : Slot). s .type)) at (pad-take 16 (slotTypes (p .outputs)) (k .memory .outputs) (v .well-typed .outputs) few-outputs)
+  outputs-back = rw (length-map (p .outputs) (λ (s : Slot). s .type))
+      at (pad-take 16 (slotTypes (p .outputs)) (k .memory .outputs) (v .well-typed .outputs) few-outputs)
 
   variables-back : take (length (p .variables)) (pad 32 (k .memory .variables)) ≡ k .memory .variables
-  variables-back = rw (length-map (p .variables) (λ (s : Slot). s .type)) at (pad-take 32 (slotTypes (p .variables)) (k .memory .variables) (v .well-typed .variables) few-variables)
+  variables-back = rw (length-map (p .variables) (λ (s : Slot). s .type))
+      at (pad-take 32 (slotTypes (p .variables)) (k .memory .variables) (v .well-typed .variables) few-variables)
 
   laid-back : keptOf p (laid k) ≡ k
   unfolding keptOf stateFor

@@ -190,7 +190,8 @@ quotient-outside x y i = (λ e. outside e (eqZ x (negsuc 2147483647)) refl (eqZ 
     inside : (x ≡ negsuc 2147483647 → y ≡ negsuc 0 → ⊥) → inRange (quotZ x y) ≡ true
     inside n = range-mag (quotZ x y) ∙ le-leb (mag (quotZ x y)) 2147483647 (mag-quot x y 2147483647 within n)
 
-    outside : inRange (quotZ x y) ≡ false → (s : Bool) → eqZ x (negsuc 2147483647) ≡ s → (t : Bool) → eqZ y (negsuc 0) ≡ t → (x ≡ negsuc 2147483647) × (y ≡ negsuc 0)
+    outside : inRange (quotZ x y) ≡ false → (s : Bool) → eqZ x (negsuc 2147483647) ≡ s → (t : Bool) → eqZ y (negsuc 0) ≡ t
+        → (x ≡ negsuc 2147483647) × (y ≡ negsuc 0)
     outside e true f true g = (eqZ-true x (negsuc 2147483647) f, eqZ-true y (negsuc 0) g)
     outside e false f t g = false-true (sym e ∙ inside (λ p q. false-true (sym f ∙ ap (λ z. eqZ z (negsuc 2147483647)) p)))
     outside e true f false g = false-true (sym e ∙ inside (λ p q. false-true (sym g ∙ ap (λ z. eqZ z (negsuc 0)) q)))

@@ -31,7 +31,8 @@ refused-integer : (P : ℕ → Type 0) (z : ℤ) (q : ℕ) → asInteger z ≡ f
 refused-integer P z q e f = let r = asInteger-fault z q e in rw (r .1) (f (r .0))
 
 -- a divisor: 0 is refused by 18, any other leaves what comes of the operands
-refused-divisor : (P : ℕ → Type 0) (y : ℤ) (o : Out ℤ) (q : ℕ) → byNonzero y o ≡ fault q → (eqZ y (pos 0) ≡ true → P 18) → (eqZ y (pos 0) ≡ false → o ≡ fault q → P q) → P q
+refused-divisor : (P : ℕ → Type 0) (y : ℤ) (o : Out ℤ) (q : ℕ) → byNonzero y o ≡ fault q → (eqZ y (pos 0) ≡ true → P 18)
+    → (eqZ y (pos 0) ≡ false → o ≡ fault q → P q) → P q
 unfolding byNonzero
 refused-divisor P y o q e f g = go (eqZ y (pos 0)) refl e
   where
@@ -63,7 +64,8 @@ binary-refused or t x y q e = fault-fine q _ (sym e)
 binary-refused xor t x y q e = fault-fine q _ (sym e)
 binary-refused times t x y q e = refused-integer (OperatorRefused times t x y) (x *ℤ y) q e product
 binary-refused divide t x y q e =
-    refused-divisor (OperatorRefused divide t x y) y (asInteger (quotZ x y)) q e divided-by-0 (λ h f. refused-integer (OperatorRefused divide t x y) (quotZ x y) q f (quotient h))
+    refused-divisor (OperatorRefused divide t x y) y (asInteger (quotZ x y)) q e divided-by-0
+    (λ h f. refused-integer (OperatorRefused divide t x y) (quotZ x y) q f (quotient h))
 binary-refused modulo t x y q e = refused-divisor (OperatorRefused modulo t x y) y _ q e modulo-0 (λ h f. fault-fine q _ (sym f))
 binary-refused remainder t x y q e = refused-divisor (OperatorRefused remainder t x y) y _ q e remainder-by-0 (λ h f. fault-fine q _ (sym f))
 
@@ -116,7 +118,8 @@ module _ (i v : List ℤ) where
   fault-faults (leaf l) q h = leaf-fine l q h
   fault-faults (unary o t a) q h = go (evaluate a i v) refl (sym (evaluate-unary o t a) ∙ h) (fault-faults a)
     where
-      go : (r : Out ℤ) → evaluate a i v ≡ r → bind r (λ x. applyUnary o t x) ≡ fault q → ((q : ℕ) → evaluate a i v ≡ fault q → Faults i v a q) → Faults i v (unary o t a) q
+      go : (r : Out ℤ) → evaluate a i v ≡ r → bind r (λ x. applyUnary o t x) ≡ fault q → ((q : ℕ) → evaluate a i v ≡ fault q → Faults i v a q)
+          → Faults i v (unary o t a) q
       go (fine x) g m ia = unary-faults o t a x q g m
       go (fault n) g m ia = rw (← fault-injective {X = ℤ} n q m) (in-operand (ia n g))
   fault-faults (binary o t a b) q h = go (evaluate a i v) refl (sym (evaluate-binary o t a b) ∙ h) (fault-faults a) (fault-faults b)

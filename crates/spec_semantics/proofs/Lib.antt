@@ -1,5 +1,6 @@
 pub mod Basic
 pub mod Slots
+pub mod Typed
 pub mod Faults
 pub mod Divided
 pub mod DividedOnce

@@ -132,7 +132,8 @@ module _ (I J : Interpretation) (Q : Related I J) where
   unfolding «IF_THEN_ELSE_BC»
   if-BC-R γ δ c c′ f f′ g g′ hc hf hg si so sq ss =
       option-R ss _ _ _ _
-      (bind-R _ _ _ _ (hc si sq) (λ b. branch-R b _ _ _ _ (bind-R _ _ _ _ (hf si so sq none) (λ p. pure-R _)) (bind-R _ _ _ _ (hg .0 si so sq) (λ p. pure-R _))))
+      (bind-R _ _ _ _ (hc si sq) (λ b. branch-R b _ _ _ _ (bind-R _ _ _ _ (hf si so sq none) (λ p. pure-R _))
+      (bind-R _ _ _ _ (hg .0 si so sq) (λ p. pure-R _))))
       (λ v. sum-R v _ _ _ _ (λ u. bind-R _ _ _ _ (hf si so sq (some u)) (λ p. pure-R _)) (λ u. bind-R _ _ _ _ (hg .1 si so sq u) (λ p. pure-R _)))
 
   if-R : (x y : Class) (γ δ : Type 0) (c : condition (I .monad)) (c′ : condition (J .monad)) (f : Sem I x γ) (f′ : Sem J x γ) (g : Sem I y δ) (g′ : Sem J y δ)

@@ -14,7 +14,7 @@ use Rattle.spec_semantics.specs.Automaton.{statesOver, assignedRows}
 use Rattle.spec_semantics.specs.Rows.{Kept, atFirst, rowRefusal, Outcome, performed, row-refused, operator-refused, outputRow, row, rowsFrom, rows}
 use Rattle.spec_semantics.specs.Rows as R
 use Rattle.spec_semantics.specs.PublishedRows.{State, initialState, stateOf, keptOf, concludedPublished, judgedPublished, publishedFrom, publishedRows}
-use Rattle.spec_semantics.specs.Calls.{Answer, Called, Call}
+use Rattle.spec_semantics.specs.Calls.{Answer, Call}
 use Rattle.spec_semantics.specs.Comparison.{fed, laid, told, left, seen, equationCalls}
 use Rattle.spec_semantics.specs.PrintedRows.{printedFrom, printedRows, ofPerformed, rowAnswers, rowLeft, rowKept, callAnswers, callLeft, callKept, RowsPrinted, CallsPrinted}
 use Rattle.spec_semantics.proofs.Exact.{cycle-exact}
@@ -26,7 +26,8 @@ Beside p show out k cs rs =
     ofPerformed (rowAnswers rs) (map show rs) ≡ map out (printedFrom (p .body) k (ofPerformed (rowAnswers rs) (map (λ (c : R.Call). c .inputs) cs)))
 
 -- whatever is shown of a performed row that its outputs and what is kept determine
-module _ (p : Process) {X : Type 0} (show : Outcome × Kept → X) (out : Kept → X) (same : (k : Kept) (way : List ℕ) → show (performed (k .memory .outputs) way, k) ≡ out k) where
+module _ (p : Process) {X : Type 0} (show : Outcome × Kept → X) (out : Kept → X)
+    (same : (k : Kept) (way : List ℕ) → show (performed (k .memory .outputs) way, k) ≡ out k) where
   -- one call, where the claim holds of the calls behind it
   module _ (k : State (p .body)) (c : R.Call) (cs : List R.Call) (later : (k : State (p .body)) → Beside p show out k cs (publishedFrom p k cs)) where
     after : Outcome × State (p .body) → List (Outcome × Kept)
@@ -90,5 +91,7 @@ module _ (p : Process) where
   unfolding printedRows publishedRows rows
   calls-printed g cs =
       calls-left (atFirst p) cs
-      ∙ subst (Beside p rowCalled callKept (initialState p) (map fed cs)) (rows-published p g (map fed cs)) (from-printed p rowCalled callKept (λ k way. refl) (initialState p) (map fed cs))
-      ∙ ap₂ (λ (a : List Answer) (l : List ι). map callKept (printedRows p (ofPerformed a l))) (sym (calls-answers (atFirst p) cs)) (map-map (λ (c : R.Call). c .inputs) fed cs)
+      ∙ subst (Beside p rowCalled callKept (initialState p) (map fed cs)) (rows-published p g (map fed cs))
+      (from-printed p rowCalled callKept (λ k way. refl) (initialState p) (map fed cs))
+      ∙ ap₂ (λ (a : List Answer) (l : List ι). map callKept (printedRows p (ofPerformed a l))) (sym (calls-answers (atFirst p) cs))
+      (map-map (λ (c : R.Call). c .inputs) fed cs)

@@ -18,11 +18,13 @@ abbrev shown : (s : Stmt) → Outcome × State s → Outcome × Kept
 shown s r = (r .0, keptOf s (r .1))
 
 -- a cycle's outcome, read either way
-concluded-same : (s : Stmt) (v : Step (ω × φ × Option (Waits s))) (k : State s) → shown s (concludedPublished s v k) ≡ concluded (toB (numberOf s 0) v) (keptOf s k)
+concluded-same : (s : Stmt) (v : Step (ω × φ × Option (Waits s))) (k : State s)
+    → shown s (concludedPublished s v k) ≡ concluded (toB (numberOf s 0) v) (keptOf s k)
 unfolding concludedPublished concluded
 concluded-same s (ends r w) k = go (r .2)
   where
-    go : (o : Option (Waits s)) → shown s (concludedPublished s (ends (r .0, r .1, o) w) k) ≡ concluded (toB (numberOf s 0) (ends (r .0, r .1, o) w)) (keptOf s k)
+    go : (o : Option (Waits s)) → shown s (concludedPublished s (ends (r .0, r .1, o) w) k) ≡ concluded (toB (numberOf s 0) (ends (r .0, r .1, o) w))
+        (keptOf s k)
     go none = refl
     go (some v) = refl
 concluded-same s (stops q n) k = refl

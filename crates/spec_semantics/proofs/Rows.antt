@@ -178,7 +178,11 @@ module _ (p : Process) (g : WellFormed p) (k : Kept) (c : Call) where
     where
       at-end : rowRefusal p c ≡ none → (r : Result) → Ended (p .body) r → result ≡ r → Invariant p (concluded r k .1)
       at-end e r (at-wait x τ h) q =
-          record { place = h; well-typed = cycle-well-typed p (c .inputs) (meets-none p c e .1) (g .typed) (k .place) (fresh (k .memory)) τ x (s .well-typed) q }
+          record {
+            place = h;
+            well-typed = cycle-well-typed p (c .inputs) (meets-none p c e .1) (g .typed) (k .place) (fresh (k .memory)) τ x
+                (s .well-typed) q;
+          }
       at-end e r (at-operator m n) q = s
 
       go : (o : Option ℕ) → rowRefusal p c ≡ o → Invariant p (judged o p k c .1)

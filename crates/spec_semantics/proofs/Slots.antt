@@ -53,7 +53,8 @@ ok-slots (suc n) (t ∷ ts) (z ∷ l) e h =
     let r = ok-slots n ts l (omega arith) (and-right (inType t z) _ h) in
     ((and-left (inType t z) _ h, r .0), ap (λ q. z ∷ q) (r .1))
 
-pub counted-slots : (n : ℕ) (ts : List Ty) (l : List ℤ) → (eqb (length l) n && slotsOk ts l) ≡ true → Values ts (take (length ts) l) × (l ≡ pad n (take (length ts) l))
+pub counted-slots : (n : ℕ) (ts : List Ty) (l : List ℤ) → (eqb (length l) n && slotsOk ts l) ≡ true
+    → Values ts (take (length ts) l) × (l ≡ pad n (take (length ts) l))
 counted-slots n ts l h = ok-slots n ts l (eqb-true (length l) n (and-left (eqb (length l) n) _ h)) (and-right (eqb (length l) n) _ h)
 
 -- values of their types are read back from the slots

@@ -33,16 +33,20 @@ trace =
     ∷ []
 
 pub tally-rows : rows tally tallyCalls ≡ trace
-unfolding rows rowsFrom tallyCalls tally row judged rowRefusal wrongValue inType inRange concluded cycle then enter atFirst start resume tested holds bind evaluate fold applyBinary asInteger binaryResult leafValue perform acted log pick has size
+unfolding rows rowsFrom tallyCalls tally row judged rowRefusal wrongValue inType inRange concluded cycle then enter atFirst start resume tested holds bind
+    evaluate fold applyBinary asInteger binaryResult leafValue perform acted log pick has size
 tally-rows = refl
 
 pub tally-published : publishedRows tally tallyCalls ≡ trace
-unfolding publishedRows publishedFrom tallyCalls tally judgedPublished concludedPublished rowRefusal wrongValue inType inRange process sem classOf seqClass actSem waitSem conditionSem performing raised andThen «PRIMREC_option» «PRIMREC_sum» _⇒_∣_ «SIGNAL_ASSIGNMENT» «VARIABLE_ASSIGNMENT» «WAIT» «SEQ_AC» «SEQ_BC» «WHILE_C» «CLOSE_C» bind evaluate fold applyBinary asInteger binaryResult leafValue size
+unfolding publishedRows publishedFrom tallyCalls tally judgedPublished concludedPublished rowRefusal wrongValue inType inRange process sem classOf seqClass
+    actSem waitSem conditionSem performing raised andThen «PRIMREC_option» «PRIMREC_sum» _⇒_∣_ «SIGNAL_ASSIGNMENT» «VARIABLE_ASSIGNMENT» «WAIT» «SEQ_AC»
+    «SEQ_BC» «WHILE_C» «CLOSE_C» bind evaluate fold applyBinary asInteger binaryResult leafValue size
 tally-published = refl
 
 -- tally is a well-formed process, so that every theorem about well-formed processes speaks of it.
 pub tally-well-formed : WellFormed tally
-unfolding tally size seqClass classOf LoopsC IsLe typed typedAct fits isType items typeOf given given2 leafType plainly nth binaryType sumType orderType sameType sameTy inType inRange
+unfolding tally size seqClass classOf LoopsC IsLe typed typedAct fits isType items typeOf given given2 leafType plainly nth binaryType sumType orderType
+    sameType sameTy inType inRange
 tally-well-formed =
     record {
       inputs = le-by-compare 1 16 tt;
@@ -62,7 +66,8 @@ lent = map (λ (c : Call). record { inputs = c .inputs; outputs = pos 99 ∷ [] 
 
 -- what the equations' outcomes come to as answers of calls: ways, the refusal's number and place
 pub tally-answers : map (λ (r : Called). r .answer) (seenAll trace lent)
-    ≡ C.performed (0 ∷ 1 ∷ 2 ∷ []) ∷ C.performed (0 ∷ 1 ∷ 2 ∷ []) ∷ C.performed (0 ∷ 3 ∷ 4 ∷ 5 ∷ []) ∷ C.performed (0 ∷ 1 ∷ 2 ∷ []) ∷ C.not-performed 16 1 ∷ C.performed (0 ∷ 1 ∷ 2 ∷ []) ∷ []
+    ≡ C.performed (0 ∷ 1 ∷ 2 ∷ []) ∷ C.performed (0 ∷ 1 ∷ 2 ∷ []) ∷ C.performed (0 ∷ 3 ∷ 4 ∷ 5 ∷ []) ∷ C.performed
+    (0 ∷ 1 ∷ 2 ∷ []) ∷ C.not-performed 16 1 ∷ C.performed (0 ∷ 1 ∷ 2 ∷ []) ∷ []
 unfolding seenAll tallyCalls
 tally-answers = refl
 
@@ -81,5 +86,6 @@ tally-performed = refl
 -- over these the printed equations keep what is kept after the calls that are performed
 pub tally-printed : printedRows tally ((pos 7 ∷ []) ∷ (pos 7 ∷ []) ∷ (pos 1 ∷ []) ∷ (negsuc 4 ∷ []) ∷ (pos 20 ∷ []) ∷ [])
     ≡ ofPerformed (rowAnswers trace) (map (λ (r : Outcome × Kept). r .1) trace)
-unfolding ofPerformed printedRows printedFrom statesOver tally process sem classOf seqClass actSem waitSem conditionSem performing «PRIMREC_option» «PRIMREC_sum» _⇒_∣_ «SIGNAL_ASSIGNMENT» «VARIABLE_ASSIGNMENT» «WAIT» «SEQ_AC» «SEQ_BC» «WHILE_C» «CLOSE_C» exactValue fold binaryResult leafValue size
+unfolding ofPerformed printedRows printedFrom statesOver tally process sem classOf seqClass actSem waitSem conditionSem performing «PRIMREC_option»
+    «PRIMREC_sum» _⇒_∣_ «SIGNAL_ASSIGNMENT» «VARIABLE_ASSIGNMENT» «WAIT» «SEQ_AC» «SEQ_BC» «WHILE_C» «CLOSE_C» exactValue fold binaryResult leafValue size
 tally-printed = refl

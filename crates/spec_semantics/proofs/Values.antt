@@ -118,7 +118,8 @@ nonzero-in y o z e = go (eqZ y (pos 0)) refl e
     go true q h = fault-fine 18 z h
     go false q h = (q, h)
 
-binary-in : (o : Binary) (s t : ExprTy) (x y z : ℤ) → ofType s x ≡ true → ofType s y ≡ true → binaryType o s ≡ some t → applyBinary o s x y ≡ fine z → ofType t z ≡ true
+binary-in : (o : Binary) (s t : ExprTy) (x y z : ℤ) → ofType s x ≡ true → ofType s y ≡ true → binaryType o s ≡ some t → applyBinary o s x y ≡ fine z
+    → ofType t z ≡ true
 unfolding binaryType applyBinary binaryResult
 binary-in plus s t x y z p q e h = sum-in s t _ z e h
 binary-in minus s t x y z p q e h = sum-in s t _ z e h

@@ -270,7 +270,8 @@ cycle-went s g c q i σ e =
     (λ y. ⊎-elim (λ m. ⊎-elim inl (λ k. inr (k .0)) (w y m)) (λ k. inr (started-inside s 0 y k))))
 
 -- No statement comes twice on the way of a cycle, and it is at most as long as the body has statements; from any place.
-pub cycle-way : (s : Stmt) → LoopsC s → classOf s ≡ C → (q : Place) (i : List ℤ) (σ τ : Run) (p : ℕ) → σ .way ≡ [] → cycle s q i σ ≡ reached p τ → Path s (τ .way)
+pub cycle-way : (s : Stmt) → LoopsC s → classOf s ≡ C → (q : Place) (i : List ℤ) (σ τ : Run) (p : ℕ) → σ .way ≡ [] → cycle s q i σ ≡ reached p τ
+    → Path s (τ .way)
 unfolding Inside
 cycle-way s g c q i σ τ p e r = go (cycle s q i σ) r (cycle-went s g c q i σ e)
   where

@@ -106,7 +106,8 @@ module _ (p : Process) (i : List ℤ) (hi : Values (sourceTypes (p .inputs)) i) 
       (start-well-typed b (and-right (typedIn a) _ g) (suc n + size a) (log n σ) w)
   start-well-typed (while e b) h n σ w = keeps-tested (WellTyped p) _ n σ _ _ (start-well-typed b (and-right (fits _ _ e _) _ h) (suc n) (log n σ) w) w
   start-well-typed (seq a b) h n σ w =
-      keeps-then (WellTyped p) _ _ (start-well-typed a (and-left (typedIn a) _ h) n σ w) (λ τ v. start-well-typed b (and-right (typedIn a) _ h) (n + size a) τ v)
+      keeps-then (WellTyped p) _ _ (start-well-typed a (and-left (typedIn a) _ h) n σ w)
+      (λ τ v. start-well-typed b (and-right (typedIn a) _ h) (n + size a) τ v)
 
   resume-well-typed : (s : Stmt) → typedIn s ≡ true → (n q : ℕ) (σ : Run) → WellTyped p (σ .memory) → Keeps (WellTyped p) (resume s n q i σ)
   unfolding resume typed
@@ -121,7 +122,8 @@ module _ (p : Process) (i : List ℤ) (hi : Values (sourceTypes (p .inputs)) i) 
       keeps-then (WellTyped p) _ _ (resume-well-typed b (and-right (fits _ _ e _) _ h) (suc n) q σ w) (λ τ v. start-well-typed (while e b) h n τ v)
   resume-well-typed (seq a b) h n q σ w =
       keeps-pick (WellTyped p) (has a n q) _ _
-      (keeps-then (WellTyped p) _ _ (resume-well-typed a (and-left (typedIn a) _ h) n q σ w) (λ τ v. start-well-typed b (and-right (typedIn a) _ h) (n + size a) τ v))
+      (keeps-then (WellTyped p) _ _ (resume-well-typed a (and-left (typedIn a) _ h) n q σ w)
+      (λ τ v. start-well-typed b (and-right (typedIn a) _ h) (n + size a) τ v))
       (resume-well-typed b (and-right (typedIn a) _ h) (n + size a) q σ w)
 
   -- A cycle of a typed process over an input row of the declared types keeps the types.
@@ -130,7 +132,8 @@ module _ (p : Process) (i : List ℤ) (hi : Values (sourceTypes (p .inputs)) i) 
   cycle-keeps h beginning σ w = keeps-then (WellTyped p) _ _ (start-well-typed (p .body) h 0 σ w) (λ τ v. start-well-typed (p .body) h 0 τ v)
   cycle-keeps h (at x) σ w = keeps-then (WellTyped p) _ _ (resume-well-typed (p .body) h 0 x σ w) (λ τ v. start-well-typed (p .body) h 0 τ v)
 
-  pub cycle-well-typed : typedProcess p ≡ true → (q : Place) (σ τ : Run) (x : ℕ) → WellTyped p (σ .memory) → cycle (p .body) q i σ ≡ reached x τ → WellTyped p (τ .memory)
+  pub cycle-well-typed : typedProcess p ≡ true → (q : Place) (σ τ : Run) (x : ℕ) → WellTyped p (σ .memory) → cycle (p .body) q i σ ≡ reached x τ
+      → WellTyped p (τ .memory)
   cycle-well-typed h q σ τ x w e = go (cycle (p .body) q i σ) e (cycle-keeps h q σ w)
     where
       go : (r : Result) → r ≡ reached x τ → Keeps (WellTyped p) r → WellTyped p (τ .memory)

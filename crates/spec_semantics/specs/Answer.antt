@@ -19,7 +19,8 @@ fresh m = record { way = []; memory = m }
 -- outcome and what is kept after the call c on k: refused by 14 or by an operator's number, all as before the row, or performed, the cycle having reached the wait x
 pub data Answers (p : Process) (k : Kept) (c : Call) : Outcome × Kept → Type 0 where
   by-14 : (x : ℕ) → Meets14 p c x → Answers p k c (row-refused x, k)
-  by-operator : (q n : ℕ) → ((x : ℕ) → Meets14 p c x → ⊥) → CycleFaults (c .inputs) (p .body) (k .place) (fresh (k .memory)) q n → Answers p k c (operator-refused q n, k)
+  by-operator : (q n : ℕ) → ((x : ℕ) → Meets14 p c x → ⊥) → CycleFaults (c .inputs) (p .body) (k .place) (fresh (k .memory)) q n
+      → Answers p k c (operator-refused q n, k)
   performs : (x : ℕ) (τ : Run) → ((x : ℕ) → Meets14 p c x → ⊥) → cycle (p .body) (k .place) (c .inputs) (fresh (k .memory)) ≡ reached x τ
       → Path (p .body) (τ .way)
       → Answers p k c (performed (τ .memory .outputs) (τ .way), record { place = at x; memory = τ .memory })

@@ -28,7 +28,10 @@ placeFor n = cond (eqb n 512) beginning (at n)
 
 -- what the equations keep of a state record: its place and the slots that are used
 unfoldable pub keptOf : Process → State → Kept
-keptOf p s = record { place = placeFor (s .place); memory = record { outputs = take (length (p .outputs)) (s .outputs); variables = take (length (p .variables)) (s .variables) } }
+keptOf p s = record {
+  place = placeFor (s .place);
+  memory = record { outputs = take (length (p .outputs)) (s .outputs); variables = take (length (p .variables)) (s .variables) };
+}
 
 -- a cycle of the equations from what is kept
 abbrev pub cycled : Process → Kept → Call → Called

@@ -14,4 +14,5 @@ pub data Faults (i v : List ℤ) : Expr → ℕ → Type 0 where
   at-sign : {t : ExprTy} {a : Expr} (x : ℤ) → evaluate a i v ≡ fine x → inRange (negℤ x) ≡ false → Faults i v (unary sign t a) 16
   in-left : {o : Binary} {t : ExprTy} {a b : Expr} {q : ℕ} → Faults i v a q → Faults i v (binary o t a b) q
   in-right : {o : Binary} {t : ExprTy} {a b : Expr} {q : ℕ} (x : ℤ) → evaluate a i v ≡ fine x → Faults i v b q → Faults i v (binary o t a b) q
-  at-operator : {o : Binary} {t : ExprTy} {a b : Expr} {q : ℕ} (x y : ℤ) → evaluate a i v ≡ fine x → evaluate b i v ≡ fine y → OperatorRefused o t x y q → Faults i v (binary o t a b) q
+  at-operator : {o : Binary} {t : ExprTy} {a b : Expr} {q : ℕ} (x y : ℤ) → evaluate a i v ≡ fine x → evaluate b i v ≡ fine y → OperatorRefused o t x y q
+      → Faults i v (binary o t a b) q

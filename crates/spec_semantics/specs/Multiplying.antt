@@ -22,4 +22,5 @@ pub record Multiplying (x y : ℤ) : Type 0 where
   pub outside : (q r m : ℤ) → Divided x y q r m → (inRange q ≡ false) ↔ ((x ≡ negsuc 2147483647) × (y ≡ negsuc 0))
   -- "18, a zero divisor"
   pub zero-divisor : y ≡ pos 0
-      → (applyBinary divide (plain integer) x y ≡ fault 18) × (applyBinary modulo (plain integer) x y ≡ fault 18) × (applyBinary remainder (plain integer) x y ≡ fault 18)
+      → (applyBinary divide (plain integer) x y ≡ fault 18) × (applyBinary modulo (plain integer) x y ≡ fault 18)
+      × (applyBinary remainder (plain integer) x y ≡ fault 18)

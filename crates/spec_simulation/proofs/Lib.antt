@@ -6,7 +6,10 @@ pub mod Below
 pub mod Steps
 pub mod Walked
 pub mod Way
-pub mod Rest
-pub mod Passes
-pub mod Flat
 pub mod Tally
+pub mod InputRows
+pub mod Tables
+pub mod States
+pub mod Outcomes
+pub mod Processes
+pub mod Places

@@ -38,8 +38,11 @@ module _ {X : Type 0} where
 
   pub segment-right : (t : List X) (n m : ℕ) (p q : List X) → length p ≡ m → Segment t n (p ++ q) → Segment t (n + m) q
   unfolding Segment
-  segment-right t n m p q e h =
-      (h .0, sym (drop-drop m n t) ∙ ap (drop m) (h .1 ∙ append-assoc p q (h .0)) ∙ ap (λ k. drop k (p ++ (q ++ h .0))) (sym e) ∙ drop-append-seam p (q ++ h .0))
+  segment-right t n m p q e h = (
+    h .0,
+    sym (drop-drop m n t) ∙ ap (drop m) (h .1 ∙ append-assoc p q (h .0)) ∙ ap (λ k. drop k (p ++ (q ++ h .0))) (sym e)
+        ∙ drop-append-seam p (q ++ h .0),
+  )
 
 -- Every line of a statement.
 

@@ -19,7 +19,8 @@ use Rattle.spec_simulation.specs.Ranked.{Followers}
 
 -- Refusals.
 
-bind-number : {Y : Type 0} (o : Out ℤ) (f : ℤ → Y) → ((q : ℕ) → o ≡ fault q → OperatorNumber q) → (q : ℕ) → bind o (λ z. fine (f z)) ≡ fault q → OperatorNumber q
+bind-number : {Y : Type 0} (o : Out ℤ) (f : ℤ → Y) → ((q : ℕ) → o ≡ fault q → OperatorNumber q) → (q : ℕ) → bind o (λ z. fine (f z)) ≡ fault q
+    → OperatorNumber q
 unfolding bind
 bind-number (fine z) f h q e = fault-fine q (f z) (sym e)
 bind-number {Y} (fault n) f h q e = subst OperatorNumber (fault-injective {X = Y} n q e) (h n refl)

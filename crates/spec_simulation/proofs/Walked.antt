@@ -80,7 +80,8 @@ module _ (t : List Line) (r : List ℕ) (ranked : Ranked t r) (i : List ℤ) whe
   walked-from x zero y σ lt b = absurd (omega arith)
   walked-from x (suc k) y σ lt b =
       step-holds (Walked t r x) (line t y) y i σ _
-      (λ f e. waits-at y _ (σ .way) refl (record { inside = b .here; follower = f; waiting = e }) (way-after t r x y (σ .way) b)) (λ q o. refuses-at q y o (b .here))
+      (λ f e. waits-at y _ (σ .way) refl (record { inside = b .here; follower = f; waiting = e }) (way-after t r x y (σ .way) b))
+      (λ q o. refuses-at q y o (b .here))
       (λ z m n.
       let low = next-falls r y (line t y) (ranked .reaches y (b .here)) i _ m z n in
       walked-from x k z _ (omega arith)

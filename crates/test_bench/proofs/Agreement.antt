@@ -32,7 +32,8 @@ rows-agree text buffer n e o is =
     ∙ calls-agree (cycleOf (take n (compileOf text buffer .buffer))) (directCycle text) (λ s i o. d .direct s (callOf i o)) (startOf (directFresh text)) o is
 
 -- The rows are the calls of format's and behaviour's lists: each with the output row that the one before it left.
-pub rows-are-calls : (image : List ℕ) (s : State) (o : List ℤ) (is : List (List ℤ)) → calledOn (cycleOf image) s o is ≡ callsOf image s (madeOn (cycleOf image) s o is)
+pub rows-are-calls : (image : List ℕ) (s : State) (o : List ℤ) (is : List (List ℤ))
+    → calledOn (cycleOf image) s o is ≡ callsOf image s (madeOn (cycleOf image) s o is)
 unfolding calledOn callsOf madeOn
 rows-are-calls image s o [] = refl
 rows-are-calls image s o (i ∷ is) =

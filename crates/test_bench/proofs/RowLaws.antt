@@ -92,7 +92,8 @@ module _ (f : Cycle) (l : List ℤ) (w : ℕ) (s₀ : State) (n₀ : ℕ) (o₀ 
 
   -- what the rest comes to is what its first row comes to and what the rest behind it comes to
   rest-lines : (from m : ℕ) (s : State) (o : List ℤ) → w ≤ length l - from
-      → linesIn (restOf from (suc m) s o) ≡ length (wayOf (callAt from s o .answer)) + linesIn (restOf (from + w) m (callAt from s o .state) (callAt from s o .row))
+      → linesIn (restOf from (suc m) s o) ≡ length (wayOf (callAt from s o .answer)) + linesIn
+      (restOf (from + w) m (callAt from s o .state) (callAt from s o .row))
   unfolding calledOn linesIn
   rest-lines from m s o h = rw (rows-there from m h)
 
@@ -115,7 +116,8 @@ module _ (f : Cycle) (l : List ℤ) (w : ℕ) (s₀ : State) (n₀ : ℕ) (o₀ 
       (record {
         within = omega (arith, h .within);
         small = subst (λ k. k ≤ 18446744073709551615) (sym (a .lines)) (told-small (p .lines + n));
-        lines = rw (a .lines, a .state, a .row) (told-sum (p .lines + n) x ∙ ap told (sum ∙ ap (λ k. p .lines + k) (sym (rest-lines from m (p .state) o room))) ∙ h .lines);
+        lines = rw (a .lines, a .state, a .row) (told-sum (p .lines + n) x ∙ ap told (sum ∙ ap (λ k. p .lines + k) (sym (rest-lines from m (p .state) o room)))
+            ∙ h .lines);
         row = rw (a .state, a .row) (sym (rest-row from m (p .state) o room) ∙ h .row);
       })
 
@@ -128,7 +130,8 @@ module _ (f : Cycle) (l : List ℤ) (w : ℕ) (s₀ : State) (n₀ : ℕ) (o₀ 
       let e : leb w (length (drop from l)) ≡ false = rw length-drop (rw z at t) in
       rw e
 
-  pub rest-end : (from left : ℕ) (p : Progress) (o : List ℤ) → (ltb 0 left && leb w (length l - from)) ≡ false → Rest from left p o → Runs f s₀ l w n₀ o₀ (p .lines) o
+  pub rest-end : (from left : ℕ) (p : Progress) (o : List ℤ) → (ltb 0 left && leb w (length l - from)) ≡ false → Rest from left p o
+      → Runs f s₀ l w n₀ o₀ (p .lines) o
   unfolding calledOn linesIn rowAfter
   rest-end from left p o t h =
       let e = rows-none from left t in
@@ -142,13 +145,19 @@ module _ (f : Cycle) (l : List ℤ) (w : ℕ) (s₀ : State) (n₀ : ℕ) (o₀ 
 
 -- the call of the part from .. from + w, whose lines n are put to those before it
 pub adds : (f : Cycle) (s : State) (l : List ℤ) (from w : ℕ) (o : List ℤ)
-    → {before n k : ℕ} (a : Cycled) {t : State} {u : List ℤ} → n ≡ linesOf a → cycleTold a ≡ cycleAnswer (f s (take (from + w - from) (drop from l)) o .answer) → k ≡ told (before + n)
+    → {before n k : ℕ} (a : Cycled) {t : State} {u : List ℤ} → n ≡ linesOf a → cycleTold a ≡ cycleAnswer (f s (take (from + w - from) (drop from l)) o .answer)
+    → k ≡ told (before + n)
     → t ≡ f s (take (from + w - from) (drop from l)) o .state → u ≡ f s (take (from + w - from) (drop from l)) o .row
     → Adds (f s (take w (drop from l)) o) before (record { lines = k; state = t }) u
 adds f s l from w o {before} {n} {k} a {t} {u} e g h i j =
     let z : from + w - from ≡ w = omega arith in
     subst (λ (m : ℕ). Adds (f s (take m (drop from l)) o) before (record { lines = k; state = t }) u) z
-    (record { lines = h ∙ ap (λ (x : ℕ). told (before + x)) (e ∙ ap countOf g ∙ count-way (f s (take (from + w - from) (drop from l)) o .answer)); state = i; row = j })
+    (record {
+      lines = h ∙ ap (λ (x : ℕ). told (before + x))
+          (e ∙ ap countOf g ∙ count-way (f s (take (from + w - from) (drop from l)) o .answer));
+      state = i;
+      row = j;
+    })
 
 -- rows from a state that is another one's name
 pub runs-from : {f : Cycle} {s t : State} {l : List ℤ} {w n : ℕ} {o : List ℤ} {k : ℕ} {u : List ℤ} → s ≡ t → Runs f s l w n o k u → Runs f t l w n o k u

@@ -1,4 +1,4 @@
-// Every public function of the crate entry, and many rows in one call, in the forms that documents 01 and 02 name: the state record by `&mut`, the opened image
+// Every public function of the crate api_rattle, and many rows in one call, in the forms that documents 01 and 02 name: the state record by `&mut`, the opened image
 // with its accessors, the token as a part of the text. The first text is 16385 blanks; each line of a file that an argument names is one more.
 // Of a text are printed the answer of `compile`, whether the buffer still holds 165 where nothing is written, and the tokens. Of a refused one: the token at the
 // refusal's place, and the direct calls. Of an accepted one: a compile into a byte less than it needs; the image opened, with its sections; the calls on the
@@ -11,7 +11,7 @@ ghost use lib.ListN.{length};
 use base_answers::Compiled;
 use base_answers::Refusal;
 use base_answers::State;
-use base_words::byte;
+use image_words::byte;
 use libc::STDOUT_FILENO;
 use rows::Rows;
 

@@ -6,7 +6,7 @@ use crate::sections;
 use api_rattle::Opening;
 use base_answers::Sections;
 use base_answers::State;
-use base_words::byte;
+use image_words::byte;
 
 // Every so many bytes one is changed.
 const STEP: usize = 7;

@@ -4,8 +4,8 @@ use base_answers::Cycled;
 use base_answers::Refusal;
 use base_answers::Started;
 use base_answers::State;
-use base_words::byte;
-use base_words::wide;
+use image_words::byte;
+use image_words::wide;
 use libc::STDOUT_FILENO;
 
 pub(crate) fn words(s: &[u8]) {

@@ -22,9 +22,9 @@ use base_answers::Opened;
 use base_answers::Refusal;
 use base_answers::Started;
 use base_answers::State;
-use base_words::byte;
-use base_words::word2;
-use base_words::word4;
+use image_words::byte;
+use image_words::word2;
+use image_words::word4;
 use libc::STDOUT_FILENO;
 
 fn wide(x: u8) -> usize

@@ -3,7 +3,7 @@
 ghost use Prim.Native.Nat.{_≤_};
 ghost use lib.ListN.{length};
 use base_answers::Refusal;
-use front_accept::Front;
+use front_accept::Acceptance;
 use libc::STDOUT_FILENO;
 
 // How many of the arguments name a file of lines: `lines` has tokens; `cut` has tally ended after each token; `grammar`, `replaced`, `left_out` and
@@ -43,25 +43,11 @@ fn report(text: &[u8]) {
     let mut ops = [0u8; 16384];
     let mut args = [0i32; 16384];
     let mut lines = [0u16; 3072];
-    let mut input_types = [0u8; 32];
-    let mut output_types = [0u8; 32];
-    let mut variable_types = [0u8; 32];
-    let mut output_values = [0i32; 32];
-    let mut variable_values = [0i32; 32];
-    let front = front_accept::accept(
-        text,
-        &mut ops,
-        &mut args,
-        &mut lines,
-        &mut input_types,
-        &mut output_types,
-        &mut variable_types,
-        &mut output_values,
-        &mut variable_values,
-    );
-    match front {
-        Front::Accepted(_) => print_accepted(),
-        Front::Refused(r) => print_refusal(text, r),
+    let front = front_accept::accept(text, &mut ops, &mut args, &mut lines);
+    let answer = front.answer;
+    match answer {
+        Acceptance::Accepted => print_accepted(),
+        Acceptance::Refused(r) => print_refusal(text, r),
     }
     io::write_all(STDOUT_FILENO, b"\n");
 }

@@ -1,8 +1,8 @@
 // The image of a text, and the text compiled again into buffers of other lengths.
 use crate::print;
 use base_answers::Compiled;
-use base_words::byte;
-use base_words::wide;
+use image_words::byte;
+use image_words::wide;
 use libc::STDOUT_FILENO;
 
 // Whether every byte is 165.

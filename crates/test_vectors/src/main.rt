@@ -11,8 +11,8 @@
 // text gave all of this too; where it did not, its own answer follows. Buffers hold 165 before a call; `untouched` says that they still do.
 use base_answers::Compiled;
 use base_answers::Refusal;
-use base_words::byte;
-use base_words::word2;
+use image_words::byte;
+use image_words::word2;
 
 mod compiling;
 mod print;

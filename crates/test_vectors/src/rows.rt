@@ -11,8 +11,8 @@ use base_answers::Cycled;
 use base_answers::Refusal;
 use base_answers::Started;
 use base_answers::State;
-use base_words::byte;
-use base_words::word4;
+use image_words::byte;
+use image_words::word4;
 
 fn wide(x: u8) -> usize
     ensures { λ r. ⌜ r ≤ 255 ⌝ }

@@ -3,8 +3,8 @@ ghost use Prim.Native.Nat.{_≤_};
 ghost use lib.ListN.{length};
 use crate::compiling;
 use crate::print;
-use base_words::byte;
 use front_lexer::parts::part_of;
+use image_words::byte;
 use trace_lines::Begun;
 
 // Copies bytes to the beginning of a buffer, as many as there is room for, and answers how many.

@@ -1,22 +1,16 @@
 -- Bytes put behind others: one, several after each other, and the invariant of a loop that puts them. Assumes nothing.
 use mathlib.Core.Path.{_≡_, refl, sym, _∙_, ap, subst}
-use mathlib.Core.Bool.{Bool}
 use mathlib.Core.List.{List, [], _∷_, _++_, append-assoc, append-nil, map}
 use Prim.Native.Nat.{ℕ, suc, _+_, _-_, _≤_, _<_, min}
 use native.Mathlib.Omega.{arith}
 use native.Mathlib.Numerals.{add-one}
 use lib.ListN.{length, getD, drop, set, replicate, length-append, drop-of-length-le}
 use lib.Seq.{set-at, drop-cons}
-use lib.Dec.{eqb}
-use borrow.Author.Tests.{eq-eqb, ne-eqb}
-use Rattle.spec_grammar.specs.Reader.{choose}
 use Rattle.spec_language.specs.Bytes.{bytes, lower}
 use Rattle.front_token.specs.Places.{part}
-use Rattle.front_syntax.specs.Arrays.{numberIn}
-use Rattle.front_offences.specs.Positions.{modeIn}
-use Rattle.front_scope.specs.Positions.{foldedAt}
+use Rattle.base_ir.specs.declared.Names.{Names}
 use Rattle.trace_header.specs.Lines.{padded, Shows, Puts}
-use Rattle.trace_header.specs.Positions.{nameIn, labelAt, labelsFrom, headerAt}
+use Rattle.trace_header.specs.Positions.{labelAt, labelsFrom, headerAt}
 
 -- an array of zeros holds no bytes
 pub shows-none : Shows (replicate 560 0) 0 []
@@ -34,7 +28,8 @@ put-one {out} {n} b g = record {
         let z : 560 - length l ≡ suc (560 - (length l + 1)) = omega arith in
         let q : length (l ++ (b ∷ [])) ≡ length l + 1 = length-append l (b ∷ []) in
         let o : out ≡ l ++ (0 ∷ replicate (560 - (length l + 1)) 0) = e .0 ∙ ap (λ (k : ℕ). l ++ replicate k 0) z in (
-          ap (λ (x : List ℕ). set x n b) o ∙ (set-at l 0 (replicate (560 - (length l + 1)) 0) b n (sym (e .1)) ∙ (sym (append-assoc l (b ∷ []) (replicate (560 - (length l + 1)) 0)) ∙ ap (λ (k : ℕ). (l ++ (b ∷ [])) ++ replicate (560 - k) 0) (sym q))),
+          ap (λ (x : List ℕ). set x n b) o ∙ (set-at l 0 (replicate (560 - (length l + 1)) 0) b n (sym (e .1))
+              ∙ (sym (append-assoc l (b ∷ []) (replicate (560 - (length l + 1)) 0)) ∙ ap (λ (k : ℕ). (l ++ (b ∷ [])) ++ replicate (560 - k) 0) (sym q))),
           (let y = e .1 in omega arith),
         );
   };
@@ -72,7 +67,8 @@ pub goes-end : {a whole b : List ℕ} {n m : ℕ} → Goes a n whole b m [] → 
 goes-end {b = b} {m = m} g = g .on b m puts-none
 
 -- the bytes of a word, one after the other
-pub word-again : {a b c : List ℕ} {n m k : ℕ} (w : List ℕ) (i x : ℕ) → Goes a n (map lower w) b m (map lower (drop i w)) → i < length w → x ≡ lower (getD w i 0) → Puts b m (x ∷ []) c k
+pub word-again : {a b c : List ℕ} {n m k : ℕ} (w : List ℕ) (i x : ℕ) → Goes a n (map lower w) b m (map lower (drop i w)) → i < length w → x ≡ lower (getD w i 0)
+    → Puts b m (x ∷ []) c k
     → Goes a n (map lower w) c k (map lower (drop (i + 1) w))
 word-again {a} {b} {c} {n} {m} {k} w i x g h e p =
     let z : map lower (drop i w) ≡ (x ∷ []) ++ map lower (drop (i + 1) w) = rw (drop-cons w i 0 h, e, add-one i) in
@@ -100,36 +96,17 @@ module _ (f : ℕ → List ℕ) (last : ℕ) where
   unfolding labelsFrom
   list-end {a} {b} {n} {end} {m} {k} g h = let z : end - k ≡ 0 = omega arith in goes-end (rw z at (g .goes))
 
--- the bytes of a token, from its place and size
-pub token-put : (text starts sizes : List ℕ) (n i : ℕ) {s z : ℕ} {w a b : List ℕ} {m r : ℕ} → s ≡ numberIn starts n i → z ≡ numberIn sizes n i → w ≡ part text s z → Puts a m (map lower w) b r
-    → Puts a m (foldedAt text starts sizes n i) b r
-token-put text starts sizes n i {s} {z} {w} {a} {b} {m} {r} p q e h =
-    subst (λ (l : List ℕ). Puts a m l b r)
-    (ap (map lower) e ∙ (ap (λ (k : ℕ). map lower (part text k z)) p ∙ ap (λ (k : ℕ). map lower (part text (numberIn starts n i) k)) q)) h
-
-module _ (text starts sizes : List ℕ) (n : ℕ) (decls : List ℕ) (d k : ℕ) where
-  -- no label for an input or a variable
-  pub output-none : {a : List ℕ} {m q : ℕ} → q ≡ modeIn decls d k → (q ≡ 1 → ⊥) → Puts a m (labelAt text starts sizes n decls d k) a m
-  unfolding labelAt
-  output-none {a} {m} {q} e h =
-      let l : List ℕ = 32 ∷ foldedAt text starts sizes n (nameIn decls k) in
-      let z : choose (eqb (modeIn decls d k) 1) l [] ≡ [] = ap (λ (x : ℕ). choose (eqb x 1) l []) (sym e) ∙ ap (λ (x : Bool). choose x l []) (ne-eqb q 1 h) in
-      subst (λ (x : List ℕ). Puts a m x a m) (sym z) puts-none
-
-  -- a space and the name for an output
-  pub output-one : {a b c : List ℕ} {m x r q i : ℕ} → q ≡ modeIn decls d k → q ≡ 1 → i ≡ nameIn decls k → Puts a m (32 ∷ []) b x → Puts b x (foldedAt text starts sizes n i) c r
-      → Puts a m (labelAt text starts sizes n decls d k) c r
-  unfolding labelAt
-  output-one {a} {b} {c} {m} {x} {r} {q} {i} e h f u v =
-      let l : List ℕ = 32 ∷ foldedAt text starts sizes n (nameIn decls k) in
-      let z : choose (eqb (modeIn decls d k) 1) l [] ≡ l = ap (λ (y : ℕ). choose (eqb y 1) l []) (sym e) ∙ ap (λ (y : Bool). choose y l []) (eq-eqb q 1 h) in
-      let w : 32 ∷ foldedAt text starts sizes n i ≡ l = ap (λ (y : ℕ). 32 ∷ foldedAt text starts sizes n y) f in
-      subst (λ (y : List ℕ). Puts a m y c r) (w ∙ sym z) (puts-then u v)
+-- a space and the bytes of a name, from its start and size
+pub name-put : (text : List ℕ) (s z : ℕ) {s′ z′ : ℕ} {w a b c : List ℕ} {m x r : ℕ} → s′ ≡ s → z′ ≡ z → Puts a m (32 ∷ []) b x → w ≡ part text s′ z′
+    → Puts b x (map lower w) c r
+    → Puts a m (32 ∷ map lower (part text s z)) c r
+name-put text s z {s′} {z′} {w} {a} {b} {c} {m} {x} {r} p q u e h =
+    subst (λ (l : List ℕ). Puts a m (32 ∷ map lower l) c r) (e ∙ (ap (λ (k : ℕ). part text k z′) p ∙ ap (λ (k : ℕ). part text s k) q)) (puts-then u h)
 
 -- the three parts of a header
-pub line-shows : (text starts sizes : List ℕ) (n : ℕ) (decls : List ℕ) (d : ℕ) {v a b c : List ℕ} {x y r : ℕ} → v ≡ bytes "cycle wait lines" → Puts (replicate 560 0) 0 v a x
-    → Puts a x (labelsFrom (labelAt text starts sizes n decls d) 0 (min d 65)) b y → Puts b y (10 ∷ []) c r → Shows c r (headerAt text starts sizes n decls d)
+pub line-shows : (text : List ℕ) (d : Names) {v a b c : List ℕ} {x y r : ℕ} → v ≡ bytes "cycle wait lines" → Puts (replicate 560 0) 0 v a x
+    → Puts a x (labelsFrom (labelAt text (d .starts) (d .sizes)) 0 (min (d .count) 32)) b y → Puts b y (10 ∷ []) c r → Shows c r (headerAt text d)
 unfolding headerAt
-line-shows text starts sizes n decls d {v} {a} {b} {c} {x} {y} {r} e p q s =
+line-shows text d {v} {a} {b} {c} {x} {y} {r} e p q s =
     let h : Puts (replicate 560 0) 0 (bytes "cycle wait lines") a x = subst (λ (l : List ℕ). Puts (replicate 560 0) 0 l a x) e p in
     puts-then h (puts-then q s) .is [] shows-none

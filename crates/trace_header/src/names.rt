@@ -1,81 +1,58 @@
-// The output names of a text, from the arrays of its tokens and its declared names.
+// Names at their places in the text, in lower case.
 ghost use mathlib.Core.Path.{_≡_};
+ghost use mathlib.Core.List.{_∷_, map};
 ghost use Prim.Native.Nat.{min};
-ghost use Rattle.front_scope.specs.Positions.{foldedAt};
+ghost use Rattle.base_codes.specs.Limit.{VARIABLES};
+ghost use Rattle.spec_language.specs.Bytes.{lower};
+ghost use Rattle.front_token.specs.Places.{part};
 ghost use Rattle.trace_header.specs.Lines.{Puts};
-ghost use Rattle.trace_header.specs.Positions.{nameIn, labelAt, labelsFrom};
+ghost use Rattle.trace_header.specs.Positions.{labelAt, labelsFrom};
 use crate::ROOM;
 use crate::bytes;
-use base_codes::declaration;
 use base_codes::limit;
 
-// The index of the token of a declared name.
-fn name_at(decls: &[u16; declaration::ROWS], k: usize) -> usize
-    ensures { λ r. ⌜ r ≡ nameIn (now (decls .entry)) k ⌝ }
+// A place, as wide as places are.
+fn wide(x: u16) -> usize
+    ensures { λ r. ⌜ r ≡ x ⌝ }
 {
-    if k < limit::NAMES {
-        return front_offences::wide(decls[declaration::ROW * k]);
-    }
-    0
+    x as usize
 }
 
-// The bytes of the token at an index.
-fn put_token(
-    text: &[u8],
-    starts: &[u16; limit::TEXT],
-    sizes: &[u16; limit::TEXT],
-    n: usize,
-    i: usize,
-    out: &mut [u8; ROOM],
-    m: usize,
-) -> usize
-    ensures { λ r. ⌜ Puts (now (out .entry)) m (foldedAt (now (text .entry)) (now (starts .entry)) (now (sizes .entry)) n i) (now (out .exit)) r ⌝ }
+// A space and the name that starts at a place.
+fn put_name(text: &[u8], start: u16, size: u16, out: &mut [u8; ROOM], m: usize) -> usize
+    ensures { λ r. ⌜ Puts (now (out .entry)) m (32 ∷ map lower (part (now (text .entry)) start size)) (now (out .exit)) r ⌝ }
 {
-    let start = front_offences::wide(front_syntax::place_at(starts, n, i));
-    let size = front_offences::wide(front_syntax::place_at(sizes, n, i));
-    let word = front_lexer::parts::part_of(text, start, size);
-    bytes::put_folded(word, out, m)
-}
-
-// A space and the name, if the declared name is an output.
-fn put_output(
-    text: &[u8],
-    starts: &[u16; limit::TEXT],
-    sizes: &[u16; limit::TEXT],
-    n: usize,
-    decls: &[u16; declaration::ROWS],
-    d: usize,
-    k: usize,
-    out: &mut [u8; ROOM],
-    m: usize,
-) -> usize
-    ensures { λ r. ⌜ Puts (now (out .entry)) m (labelAt (now (text .entry)) (now (starts .entry)) (now (sizes .entry)) n (now (decls .entry)) d k) (now (out .exit)) r ⌝ }
-{
-    if front_offences::mode_at(decls, d, k) != declaration::OUT {
-        return m;
-    }
     let next = bytes::put(out, m, b' ');
-    put_token(text, starts, sizes, n, name_at(decls, k), out, next)
+    let word = front_lexer::parts::part_of(text, wide(start), wide(size));
+    bytes::put_folded(word, out, next)
 }
 
-// All outputs, in declared order.
-pub(crate) fn put_outputs(
+// As many names as the arrays have room for.
+fn at_most(n: usize) -> usize
+    ensures { λ r. ⌜ r ≡ min n VARIABLES ⌝ }
+{
+    if n < limit::VARIABLES {
+        return n;
+    }
+    limit::VARIABLES
+}
+
+// All names, in declared order.
+pub(crate) fn put_names(
     text: &[u8],
-    starts: &[u16; limit::TEXT],
-    sizes: &[u16; limit::TEXT],
-    n: usize,
-    decls: &[u16; declaration::ROWS],
-    d: usize,
+    starts: &[u16; limit::VARIABLES],
+    sizes: &[u16; limit::VARIABLES],
+    count: usize,
     out: &mut [u8; ROOM],
     m: usize,
 ) -> usize
-    ensures { λ r. ⌜ Puts (now (out .entry)) m (labelsFrom (labelAt (now (text .entry)) (now (starts .entry)) (now (sizes .entry)) n (now (decls .entry)) d) 0 (min d 65)) (now (out .exit)) r ⌝ }
+    ensures { λ r. ⌜ Puts (now (out .entry)) m (labelsFrom (labelAt (now (text .entry)) (now (starts .entry)) (now (sizes .entry))) 0 (min count VARIABLES)) (now (out .exit)) r ⌝ }
 {
-    let end = front_offences::at_most(d, limit::NAMES);
+    let end = at_most(count);
     let mut next = m;
     let mut k = 0;
     while k < end {
-        next = put_output(text, starts, sizes, n, decls, d, k, out, next);
+        next = put_name(text, starts[k], sizes[k], out, next);
         k += 1;
     }
     next

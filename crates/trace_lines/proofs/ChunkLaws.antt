@@ -75,7 +75,8 @@ module _ (b rows : List ℕ) (p : Progress) (g : goesOn (length rows) (p .number
       → (record { state = t; number = p .number + 1; at = a } ≡ nextOf b rows p .1) × Puts o 0 (nextOf b rows p .0) u r
   next-some o end w t u r a d f s k =
       let v : w ≡ part rows (p .at) (partEnd 10 rows (p .at) - p .at) = f ∙ ap (λ (m : ℕ). part rows (p .at) (m - p .at)) d in
-      let y : Shows b (p .state) (p .number) (rowAt rows (p .at)) o t u r = subst (λ (l : List ℕ). Shows b (p .state) (p .number) (short (decimals l)) o t u r) v s in
+      let y : Shows b (p .state) (p .number) (rowAt rows (p .at)) o t u r =
+      subst (λ (l : List ℕ). Shows b (p .state) (p .number) (short (decimals l)) o t u r) v s in
       let c : a ≡ min (partEnd 10 rows (p .at) + 1) (length rows) = k ∙ ap (λ (m : ℕ). min (m + 1) (length rows)) d in
       let n : record { state = t; number = p .number + 1; at = a } ≡ passed rows p (rowShown b (p .state) (p .number) (rowAt rows (p .at)) .1) =
       ap (λ (m : ℕ). record { state = t; number = p .number + 1; at = m }) c ∙ ap (λ (m : State). passed rows p m) (y .state) in (

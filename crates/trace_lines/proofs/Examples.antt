@@ -22,7 +22,12 @@ use Rattle.trace_lines.specs.Trace.{traceOf}
 
 -- opens all that a trace computes by
 unfoldable opened : List ℕ → List ℕ → List ℕ
-unfolding computed Types.inRange Types.inType Expression.bind Expression.fold Statement.size Statement.has Evaluation.unaryResult Evaluation.binaryResult Evaluation.asInteger Division.byNonzero Evaluation.applyUnary Evaluation.applyBinary Evaluation.leafValue Evaluation.evaluate Equations.perform Equations.holds Equations.log Equations.then Equations.acted Equations.tested Equations.pick Equations.start Equations.resume Equations.enter Equations.cycle Rows.atFirst Rows.wrongValue Rows.rowRefusal Rows.concluded Rows.judged Rows.row R.split R.digits R.magnitude R.decimalOf R.all R.decimals Spelling.decimalBy Printing.integers Printing.performedLine Printing.refusedLine Printing.refusedText Spelling.digits Spelling.nameBytes Header.labelled Header.headerOf Trace.rowsTraced Trace.rowValues Trace.traceOf
+unfolding computed Types.inRange Types.inType Expression.bind Expression.fold Statement.size Statement.has Evaluation.unaryResult Evaluation.binaryResult
+    Evaluation.asInteger Division.byNonzero Evaluation.applyUnary Evaluation.applyBinary Evaluation.leafValue Evaluation.evaluate Equations.perform
+    Equations.holds Equations.log Equations.then Equations.acted Equations.tested Equations.pick Equations.start Equations.resume Equations.enter
+    Equations.cycle Rows.atFirst Rows.wrongValue Rows.rowRefusal Rows.concluded Rows.judged Rows.row R.split R.digits R.magnitude R.decimalOf R.all
+    R.decimals Spelling.decimalBy Printing.integers Printing.performedLine Printing.refusedLine Printing.refusedText Spelling.digits
+    Spelling.nameBytes Header.labelled Header.headerOf Trace.rowsTraced Trace.rowValues Trace.traceOf
 opened text rows = traceOf text rows
 
 -- P1

@@ -36,7 +36,8 @@ module _ (o : List ℕ) (a : ℕ) (x : List ℕ) (u : List ℕ) (r : ℕ) (y : L
   pub puts-then : Puts o a x u r → Puts u r y w s → Puts o a (x ++ y) w s
   puts-then p q = record { puts = λ h. both h }
     where
-      go : (b : Bool) → leb (a + length x) (length o) ≡ b → r ≡ min (a + length x) (length o) → u ≡ sets o a x → length u ≡ length o → sets u r y ≡ sets o a (x ++ y)
+      go : (b : Bool) → leb (a + length x) (length o) ≡ b → r ≡ min (a + length x) (length o) → u ≡ sets o a x → length u ≡ length o
+          → sets u r y ≡ sets o a (x ++ y)
       go true b d e l =
           let t = leb-true (a + length x) (length o) b in
           let z : r ≡ a + length x = omega arith in
@@ -106,7 +107,8 @@ pub printed-first : (o : List ℕ) (a : ℕ) (values : List ℤ) → Printed o a
 printed-first o a values = record { text = []; puts = puts-none o a; rest = refl; inside = omega arith; kept = refl }
 
 module _ (o : List ℕ) (a : ℕ) (values : List ℤ) (u : List ℕ) (r i : ℕ) (g : Printed o a values u r i) where
-  pub printed-again : (z : ℤ) (x : List ℕ) (m : ℕ) (w : List ℕ) (s : ℕ) → i < length values → z ≡ getD values i (pos 0) → Puts u r (32 ∷ []) x m → Puts x m (integer z) w s
+  pub printed-again : (z : ℤ) (x : List ℕ) (m : ℕ) (w : List ℕ) (s : ℕ) → i < length values → z ≡ getD values i (pos 0) → Puts u r (32 ∷ []) x m
+      → Puts x m (integer z) w s
       → length w ≡ length u → Printed o a values w s (i + 1)
   unfolding integers
   printed-again z x m w s h e p q k =
@@ -114,7 +116,8 @@ module _ (o : List ℕ) (a : ℕ) (values : List ℤ) (u : List ℕ) (r i : ℕ)
       record {
         text = g .text ++ (32 ∷ integer z);
         puts = puts-then o a (g .text) u r (32 ∷ integer z) w s (g .puts) (puts-then u r (32 ∷ []) x m (integer z) w s p q);
-        rest = append-assoc (g .text) (32 ∷ integer z) (integers (drop (i + 1) values)) ∙ (rw (add-one i, e) (ap (λ (l : List ℤ). g .text ++ integers l) (sym t)) ∙ g .rest);
+        rest = append-assoc (g .text) (32 ∷ integer z) (integers (drop (i + 1) values))
+            ∙ (rw (add-one i, e) (ap (λ (l : List ℤ). g .text ++ integers l) (sym t)) ∙ g .rest);
         inside = omega arith;
         kept = k ∙ g .kept;
       }
@@ -122,14 +125,16 @@ module _ (o : List ℕ) (a : ℕ) (values : List ℤ) (u : List ℕ) (r i : ℕ)
   pub printed-end : length values ≤ i → Puts o a (integers values) u r
   unfolding integers
   printed-end h =
-      let e : g .text ≡ integers values = sym (append-nil (g .text)) ∙ (ap (λ (l : List ℤ). g .text ++ integers l) (sym (drop-of-length-le values h)) ∙ g .rest) in
+      let e : g .text ≡ integers values = sym (append-nil (g .text))
+      ∙ (ap (λ (l : List ℤ). g .text ++ integers l) (sym (drop-of-length-le values h)) ∙ g .rest) in
       rw e at (g .puts)
 
 module _ (o : List ℕ) (a : ℕ) (z : ℤ) (n : ℕ) (f : SFits w32 z) (e : n ≡ unsigned32 z) where
   pub puts-up : (u : List ℕ) (r : ℕ) → n < 2147483648 → Puts o a (decimal n) u r → Puts o a (integer z) u r
   puts-up u r h p = subst (λ (x : List ℕ). Puts o a x u r) (sym (integer-up z n f e h)) p
 
-  pub puts-down : (u : List ℕ) (r : ℕ) (w : List ℕ) (s : ℕ) → 2147483648 ≤ n → Puts o a (45 ∷ []) u r → Puts u r (decimal (4294967296 - n)) w s → Puts o a (integer z) w s
+  pub puts-down : (u : List ℕ) (r : ℕ) (w : List ℕ) (s : ℕ) → 2147483648 ≤ n → Puts o a (45 ∷ []) u r → Puts u r (decimal (4294967296 - n)) w s
+      → Puts o a (integer z) w s
   puts-down u r w s h p q =
       subst (λ (x : List ℕ). Puts o a x w s) (sym (integer-down z n f e h)) (puts-then o a (45 ∷ []) u r (decimal (4294967296 - n)) w s p q)
 
@@ -140,7 +145,8 @@ pub performed-puts : (o : List ℕ) (n place lines : ℕ) (v : List ℤ) (o1 : L
     → Puts o5 r5 (integers v) o6 r6 → Puts o6 r6 (10 ∷ []) o7 r7 → Puts o 0 (performedLine n place lines v) o7 r7
 unfolding performedLine
 performed-puts o n place lines v o1 r1 o2 r2 o3 r3 o4 r4 o5 r5 o6 r6 o7 r7 a b c d e f g =
-    puts-then _ _ _ _ _ _ _ _ a (puts-then _ _ _ _ _ _ _ _ b (puts-then _ _ _ _ _ _ _ _ c (puts-then _ _ _ _ _ _ _ _ d (puts-then _ _ _ _ _ _ _ _ e (puts-then _ _ _ _ _ _ _ _ f g)))))
+    puts-then _ _ _ _ _ _ _ _ a (puts-then _ _ _ _ _ _ _ _ b
+    (puts-then _ _ _ _ _ _ _ _ c (puts-then _ _ _ _ _ _ _ _ d (puts-then _ _ _ _ _ _ _ _ e (puts-then _ _ _ _ _ _ _ _ f g)))))
 
 pub refused-puts : (o : List ℕ) (n number : ℕ) (o1 : List ℕ) (r1 : ℕ) (o2 : List ℕ) (r2 : ℕ) (o3 : List ℕ) (r3 : ℕ) (o4 : List ℕ) (r4 : ℕ)
     → Puts o 0 (decimal n) o1 r1 → Puts o1 r1 (bytes " refused ") o2 r2 → Puts o2 r2 (decimal number) o3 r3 → Puts o3 r3 (10 ∷ []) o4 r4
@@ -148,7 +154,8 @@ pub refused-puts : (o : List ℕ) (n number : ℕ) (o1 : List ℕ) (r1 : ℕ) (o
 unfolding refusedLine
 refused-puts o n number o1 r1 o2 r2 o3 r3 o4 r4 a b c d = puts-then _ _ _ _ _ _ _ _ a (puts-then _ _ _ _ _ _ _ _ b (puts-then _ _ _ _ _ _ _ _ c d))
 
-pub text-puts : (o : List ℕ) (number place : ℕ) (o1 : List ℕ) (r1 : ℕ) (o2 : List ℕ) (r2 : ℕ) (o3 : List ℕ) (r3 : ℕ) (o4 : List ℕ) (r4 : ℕ) (o5 : List ℕ) (r5 : ℕ)
+pub text-puts : (o : List ℕ) (number place : ℕ) (o1 : List ℕ) (r1 : ℕ) (o2 : List ℕ) (r2 : ℕ) (o3 : List ℕ) (r3 : ℕ) (o4 : List ℕ) (r4 : ℕ) (o5 : List ℕ)
+    (r5 : ℕ)
     → Puts o 0 (bytes "refused ") o1 r1 → Puts o1 r1 (decimal number) o2 r2 → Puts o2 r2 (32 ∷ []) o3 r3 → Puts o3 r3 (decimal place) o4 r4 → Puts o4 r4 (10 ∷ []) o5 r5
     → Puts o 0 (refusedText number place) o5 r5
 unfolding refusedText

@@ -49,7 +49,8 @@ accepted-prints text rows b free p v h r = rw e (go (leb (length rows) 65536) re
     e = written-whole text b p v h
 
     go : (q : Bool) → leb (length rows) 65536 ≡ q
-        → printedBy (cond q none (some (refusedText 14 0))) (headerFor (verdict text)) (take (length (encode p)) (compileOf text b .buffer)) rows free ≡ traceOf text rows
+        → printedBy (cond q none (some (refusedText 14 0))) (headerFor (verdict text))
+        (take (length (encode p)) (compileOf text b .buffer)) rows free ≡ traceOf text rows
     go true k =
         let l = leb-true (length rows) 65536 k in
         let i = take (length (encode p)) (compileOf text b .buffer) in

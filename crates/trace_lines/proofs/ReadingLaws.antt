@@ -79,7 +79,8 @@ down-none m h = rw (lt-leb m 2147483648 h)
 pub down-zero : (m : ℕ) (z : ℤ) → m ≡ 0 → z ≡ signed32 0 → Value z ≡ readAs (cond (leb m 2147483648) (some (negℤ (pos m))) none)
 down-zero m z h e = rw (h, e)
 
-pub down-value : (m : ℕ) (z : ℤ) → m ≤ 2147483648 → (m ≡ 0 → ⊥) → z ≡ signed32 (4294967296 - m) → Value z ≡ readAs (cond (leb m 2147483648) (some (negℤ (pos m))) none)
+pub down-value : (m : ℕ) (z : ℤ) → m ≤ 2147483648 → (m ≡ 0 → ⊥) → z ≡ signed32 (4294967296 - m)
+    → Value z ≡ readAs (cond (leb m 2147483648) (some (negℤ (pos m))) none)
 down-value zero z h n e = absurd (n refl)
 down-value (suc k) z h n e =
     let d : 4294967295 - (4294967296 - suc k) ≡ k = omega arith in

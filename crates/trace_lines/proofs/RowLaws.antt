@@ -229,14 +229,16 @@ module _ (line : List ℕ) (v : List ℤ) where
     row-long h k =
         let z = g .count in
         reads-none (short (decimals line)) v Unreadable now
-        (g .rest ∙ ap (joined (g .read)) (parts-step line i h) ∙ joined-long (g .read) (part line i (partEnd 32 line i - i)) (partsFrom line (partEnd 32 line i + 1)) (omega arith)) refl
+        (g .rest ∙ ap (joined (g .read)) (parts-step line i h)
+        ∙ joined-long (g .read) (part line i (partEnd 32 line i - i)) (partsFrom line (partEnd 32 line i + 1)) (omega arith)) refl
 
     pub row-unreadable : (e : ℕ) (w : List ℕ) (x : Decimal) → i ≤ length line → e ≡ partEnd 32 line i → w ≡ part line i (e - i) → x ≡ readAs (decimalOf w)
         → x ≡ D.Unreadable → Reads (short (decimals line)) v Unreadable now
     row-unreadable e w x h a b d u =
         let y : w ≡ part line i (partEnd 32 line i - i) = b ∙ ap (λ (k : ℕ). part line i (k - i)) a in
         reads-none (short (decimals line)) v Unreadable now
-        (g .rest ∙ ap (joined (g .read)) (parts-step line i h) ∙ joined-none (g .read) (part line i (partEnd 32 line i - i)) (partsFrom line (partEnd 32 line i + 1))
+        (g .rest ∙ ap (joined (g .read)) (parts-step line i h)
+        ∙ joined-none (g .read) (part line i (partEnd 32 line i - i)) (partsFrom line (partEnd 32 line i + 1))
         (ap decimalOf (sym y) ∙ decimal-unknown (decimalOf w) (sym u ∙ d))) refl
 
     pub row-again : (e : ℕ) (w : List ℕ) (x : Decimal) (z y : ℤ) (after : List ℤ) → i ≤ length line → n < 16 → e ≡ partEnd 32 line i → w ≡ part line i (e - i)
@@ -254,7 +256,8 @@ module _ (line : List ℕ) (v : List ℤ) where
           inside = omega arith;
           rest =
               g .rest ∙ ap (joined (g .read)) (parts-step line i h)
-              ∙ joined-some (g .read) (part line i (partEnd 32 line i - i)) (partsFrom line (partEnd 32 line i + 1)) z (ap decimalOf (sym y) ∙ decimal-known (decimalOf w) z (sym u ∙ d))
+              ∙ joined-some (g .read) (part line i (partEnd 32 line i - i)) (partsFrom line (partEnd 32 line i + 1)) z
+              (ap decimalOf (sym y) ∙ decimal-known (decimalOf w) z (sym u ∙ d))
               ∙ ap (λ (k : ℕ). joined (g .read ++ (z ∷ [])) (partsFrom line (k + 1))) (sym a);
         }
 
@@ -266,4 +269,5 @@ module _ (line : List ℕ) (v : List ℤ) where
         let q = g .count in
         let b : leb i (length line) ≡ false = lt-leb i (length line) h in
         let e : partsFrom line i ≡ [] = rw b in
-        reads-some (short (decimals line)) v (Values n) now (g .read) (g .rest ∙ ap (joined (g .read)) e ∙ joined-end (g .read) (omega arith)) (ap Values (g .count)) (g .stored)
+        reads-some (short (decimals line)) v (Values n) now (g .read) (g .rest ∙ ap (joined (g .read)) e ∙ joined-end (g .read) (omega arith))
+        (ap Values (g .count)) (g .stored)

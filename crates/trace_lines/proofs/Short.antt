@@ -14,7 +14,7 @@ use Rattle.spec_semantics.specs.Advances.{cycleAnswer}
 use Rattle.spec_language.specs.Bytes.{bytes}
 use Rattle.spec_format.specs.Words.{Bytes}
 use Rattle.spec_format.specs.Cycle.{cycleOf}
-use Rattle.spec_images.specs.Outcome as O
+use Rattle.spec_simulation.specs.Outcome as O
 use Rattle.spec_promises.specs.Promises as P
 use Rattle.spec_promises.proofs.Main.{demand1}
 use Rattle.spec_design.specs.Spelling.{decimalBy, decimal}

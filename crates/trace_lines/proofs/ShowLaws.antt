@@ -34,7 +34,8 @@ module _ (n : ℕ) (x : Cycled) (place : ℕ) (row : List ℤ) (o u : List ℕ) 
   pub show-performed : (c : Counts) → x ≡ Performed c → Puts o 0 (performedLine n place (c .lines) row) u r → Puts o 0 (lineOf n (cycleTold x) place row) u r
   show-performed c e p = put-for (Performed c) e p
 
-  pub show-refused : (k : Refusal) (q : ℕ) → x ≡ NotPerformed k → q ≡ numberOf k → Puts o 0 (refusedLine n q) u r → Puts o 0 (lineOf n (cycleTold x) place row) u r
+  pub show-refused : (k : Refusal) (q : ℕ) → x ≡ NotPerformed k → q ≡ numberOf k → Puts o 0 (refusedLine n q) u r
+      → Puts o 0 (lineOf n (cycleTold x) place row) u r
   show-refused k q e h p = put-for (NotPerformed k) e (subst (λ (m : ℕ). Puts o 0 (refusedLine n m) u r) h p)
 
 -- a call, shown

@@ -72,7 +72,8 @@ by-equations p m e [] k n = refl
 by-equations p m e (none ∷ vs) k n = ap (λ (l : List ℕ). refusedLine n 14 ++ l) (by-equations p m e vs k (suc n))
 by-equations p m e (some v ∷ vs) k n =
     rw (fed-row m v, sym e)
-    (ap (λ (l : List ℕ). lineFor n (row p k (record { inputs = v; room = m })) ++ l) (by-equations p m e vs (row p k (record { inputs = v; room = m }) .1) (suc n))
+    (ap (λ (l : List ℕ). lineFor n (row p k (record { inputs = v; room = m })) ++ l)
+    (by-equations p m e vs (row p k (record { inputs = v; room = m }) .1) (suc n))
     ∙ ap (λ (l : List ℕ). l ++ printed (suc n) vs (equationCalls p (row p k (record { inputs = v; room = m }) .1) (callsFor m vs)))
     (sym (seen-line n (row p k (record { inputs = v; room = m })) (record { inputs = v; outputs = replicate m (pos 0) }))))
 
@@ -108,7 +109,8 @@ room-is p w =
     omega arith
 
 -- THE THEOREM: where a compile wrote the image of the text and the rows are not too long, the trace is the header, then what is pending before the first row
-pub trace-image : (text rows buffer : List ℕ) (n : ℕ) (p : Process) → verdict text ≡ accepted p → length rows ≤ 65536 → compileOf text buffer .answer ≡ written n
+pub trace-image : (text rows buffer : List ℕ) (n : ℕ) (p : Process) → verdict text ≡ accepted p → length rows ≤ 65536
+    → compileOf text buffer .answer ≡ written n
     → traceOf text rows ≡ headerOf p ++ pending (take n (compileOf text buffer .buffer)) rows (firstOf (take n (compileOf text buffer .buffer)))
 unfolding traceOf compileOf
 trace-image text rows buffer n p v h e =
@@ -126,7 +128,8 @@ trace-image text rows buffer n p v h e =
     let s : startOf (freshOf b) ≡ d .state = ap startOf (d .starts) in
     let a = by-image b vs (startOf (freshOf b)) 0 in
     let t : callsOf b (startOf (freshOf b)) (callsFor (room b) vs) ≡ equationCalls p (atFirst p) (callsFor (room b) vs) =
-    ap (λ (x : State). callsOf b x (callsFor (room b) vs)) s ∙ (d .same (callsFor (room b) vs) ∙ ap (λ (x : Process). equationCalls x (atFirst x) (callsFor (room b) vs)) same) in
+    ap (λ (x : State). callsOf b x (callsFor (room b) vs)) s
+    ∙ (d .same (callsFor (room b) vs) ∙ ap (λ (x : Process). equationCalls x (atFirst x) (callsFor (room b) vs)) same) in
     let y : imageLines b (startOf (freshOf b)) 0 vs ≡ rowsTraced p (atFirst p) 0 (rowValues (rowsIn rows)) =
     a ∙ (ap (printed 0 vs) t ∙ (sym (by-equations p (room b) m vs (atFirst p) 0) ∙ all-short p (w .inputs) (rowValues (rowsIn rows)) (atFirst p) 0)) in
     let k : leb (length rows) 65536 ≡ true = le-leb (length rows) 65536 h in

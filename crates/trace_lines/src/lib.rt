@@ -96,7 +96,7 @@ fn run_row(
 fn outputs_of(image: &[u8]) -> usize
     ensures { λ r. ⌜ r ≡ room (now (image .entry)) ⌝ }
 {
-    let n = base_words::byte(image, image::OUTPUT_COUNT) as usize;
+    let n = image_words::byte(image, image::OUTPUT_COUNT) as usize;
     if n < limit::OUTPUTS {
         n
     } else {

@@ -10,20 +10,26 @@ use Rattle.api_c.proofs.rabtishu_cycles.Tie as tie
 batched-requires : tie.Need-batched-requires
 batched-requires c κs =
     let z = c .before .before .before .before .before .before .before .before .before .before in
-    let h = all-bytes (z .args .image .now) (λ k. omega (arith, c .before .before .before .before .before .before .before .before .before .shared-slice-known .given k)) in
-    batch-narrow (z .args .image .now) h (c .before .before .before .before .before .before .to-state .result) (z .args .count) (z .args .inputs .now) (z .args .outputs .now) (z .args .answers .now) (c .before .before .before .cycles .result .answer) (c .before .before .before .cycles .ensures .answer)
+    let h = all-bytes (z .args .image .now) (λ k.
+    omega (arith, c .before .before .before .before .before .before .before .before .before .shared-slice-known .given k)) in
+    batch-narrow (z .args .image .now) h (c .before .before .before .before .before .before .to-state .result) (z .args .count) (z .args .inputs .now)
+    (z .args .outputs .now) (z .args .answers .now) (c .before .before .before .cycles .result .answer) (c .before .before .before .cycles .ensures .answer)
 
 returns : tie.Need-returns
 returns c =
     let z = c .before .before .before .before .before .before .before .before .before .before .before .before .before .before in
     let y = c .before .before .before .before .before .before .before .cycles in
-    rows-stored (z .args .image .now) (z .args .state .now) (z .args .count) (z .args .inputs .now) (z .args .outputs .now) (z .args .answers .now) _ (y .result) _ _ _ _ (c .before .before .before .before .before .before .before .before .before .before .to-state .ensures) (y .ensures) (c .before .before .before .batched .ensures) (c .before .before .if1 .taken) (c .from-state .ensures)
+    rows-stored (z .args .image .now) (z .args .state .now) (z .args .count) (z .args .inputs .now) (z .args .outputs .now) (z .args .answers .now) _
+    (y .result) _ _ _ _ (c .before .before .before .before .before .before .before .before .before .before .to-state .ensures) (y .ensures)
+    (c .before .before .before .batched .ensures) (c .before .before .if1 .taken) (c .from-state .ensures)
 
 returns-2 : tie.Need-returns-2
 returns-2 c =
     let z = c .before .before .before .before .before .before .before .before .before .before .before .before in
     let y = c .before .before .before .before .before .cycles in
-    rows-kept (z .args .image .now) (z .args .state .now) (z .args .count) (z .args .inputs .now) (z .args .outputs .now) (z .args .answers .now) _ (y .result) _ _ _ (c .before .before .before .before .before .before .before .before .to-state .ensures) (y .ensures) (c .before .batched .ensures) (c .if1 .left)
+    rows-kept (z .args .image .now) (z .args .state .now) (z .args .count) (z .args .inputs .now) (z .args .outputs .now) (z .args .answers .now) _
+    (y .result) _ _ _ (c .before .before .before .before .before .before .before .before .to-state .ensures) (y .ensures) (c .before .batched .ensures)
+    (c .if1 .left)
 
 pub rabtishu-cycles-spec : {M : Type 1} → statement M
 rabtishu-cycles-spec =

@@ -7,10 +7,13 @@ use Rattle.api_rattle.proofs.find.Statement.{statement}
 use Rattle.api_rattle.proofs.find.Tie as tie
 
 returns : tie.Need-returns
-returns c = found-image (c .before .before .before .before .before .args .bytes .now) _ (sym (ap openTold (c .before .o .given .1)) ∙ c .before .before .before .«open» .ensures)
+returns c = found-image (c .before .before .before .before .before .args .bytes .now) _
+    (sym (ap openTold (c .before .o .given .1)) ∙ c .before .before .before .«open» .ensures)
 
 returns-2 : tie.Need-returns-2
-returns-2 c = found-none (c .before .before .before .before .before .before .before .args .bytes .now) (c .before .before .before .o2 .given .0 .0) _ _ (sym (ap openTold (c .before .before .before .o2 .given .1)) ∙ c .before .before .before .before .before .«open» .ensures) (c .before .number .ensures) (c .place .ensures)
+returns-2 c = found-none (c .before .before .before .before .before .before .before .args .bytes .now) (c .before .before .before .o2 .given .0 .0) _ _
+    (sym (ap openTold (c .before .before .before .o2 .given .1)) ∙ c .before .before .before .before .before .«open» .ensures) (c .before .number .ensures)
+    (c .place .ensures)
 
 pub find-spec : {M : Type 1} → statement M
 find-spec =

@@ -18,7 +18,8 @@ returns c =
     let y = getD (s .stack .now) (s .i + 1) (pos 0) in
     let fit : SFits w32 x = search needs in
     let fit2 : SFits w32 y = search needs in
-    c .place .ensures (binaryOn (s .op) (s .t) x y) (simp (toZ-ofZ fit, toZ-ofZ fit2) at (c .before .before .binary .ensures)) (binary-number (s .op) (s .t) x y)
+    c .place .ensures (binaryOn (s .op) (s .t) x y) (simp (toZ-ofZ fit, toZ-ofZ fit2) at (c .before .before .binary .ensures))
+    (binary-number (s .op) (s .t) x y)
 
 pub apply-by-table-spec : {M : Type 1} → statement M
 apply-by-table-spec =

@@ -9,17 +9,20 @@ use Rattle.base_operators.proofs.binary.Tie as tie
 returns : tie.Need-returns
 returns c =
     let s = c .before .before in
-    binary-tag (plain std-logic) (s .args .op) (s .args .t) (s .args .x) (s .args .y) (c .before .match .keys1) (simp (toZ-ofZ (s .fits .x), toZ-ofZ (s .fits .y)) at (c .bits .ensures))
+    binary-tag (plain std-logic) (s .args .op) (s .args .t) (s .args .x) (s .args .y) (c .before .match .keys1)
+    (simp (toZ-ofZ (s .fits .x), toZ-ofZ (s .fits .y)) at (c .bits .ensures))
 
 returns-2 : tie.Need-returns-2
 returns-2 c =
     let s = c .before .before in
-    binary-tag (plain integer) (s .args .op) (s .args .t) (s .args .x) (s .args .y) (c .before .match .keys2) (simp (toZ-ofZ (s .fits .x), toZ-ofZ (s .fits .y)) at (c .integers .ensures))
+    binary-tag (plain integer) (s .args .op) (s .args .t) (s .args .x) (s .args .y) (c .before .match .keys2)
+    (simp (toZ-ofZ (s .fits .x), toZ-ofZ (s .fits .y)) at (c .integers .ensures))
 
 returns-3 : tie.Need-returns-3
 returns-3 c =
     let s = c .before .before in
-    binary-tag boolean (s .args .op) (s .args .t) (s .args .x) (s .args .y) (c .before .match .keys3) (simp (toZ-ofZ (s .fits .x), toZ-ofZ (s .fits .y)) at (c .logical .ensures))
+    binary-tag boolean (s .args .op) (s .args .t) (s .args .x) (s .args .y) (c .before .match .keys3)
+    (simp (toZ-ofZ (s .fits .x), toZ-ofZ (s .fits .y)) at (c .logical .ensures))
 
 returns-4 : tie.Need-returns-4
 returns-4 c = let s = c .before .args in binary-no-tag (s .op) (s .t) (s .x) (s .y) (c .match .rest .0 .0 .1) (c .match .rest .0 .1) (c .match .rest .1)

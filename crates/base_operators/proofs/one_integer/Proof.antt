@@ -10,7 +10,8 @@ use Rattle.base_operators.proofs.one_integer.Tie as tie
 
 returns : tie.Need-returns
 unfolding unaryType sumType applyUnary unaryResult
-returns c = let s = c .before .before in unary-arm sign (plain integer) (s .args .op) (s .args .x) (c .before .match .keys1) (rw (toZ-ofZ (s .fits .x)) at (c .negate .ensures))
+returns c = let s = c .before .before in
+    unary-arm sign (plain integer) (s .args .op) (s .args .x) (c .before .match .keys1) (rw (toZ-ofZ (s .fits .x)) at (c .negate .ensures))
 
 returns-2 : tie.Need-returns-2
 returns-2 c = integer-other (c .before .args .op) (c .before .args .x) (c .match .rest .1)

@@ -10,10 +10,12 @@ use Rattle.base_operators.proofs.place.Tie as tie
 returns : tie.Need-returns
 returns c =
     let fit : SFits w32 (c .before .c .given .0 .0) = search needs in
-    λ o e f. placed-value (c .before .before .before .args .stack .now) (c .before .before .before .args .i) (c .before .c .given .0 .0) o (sym (c .before .c .given .1) ∙ e) fit
+    λ o e f. placed-value (c .before .before .before .args .stack .now) (c .before .before .before .args .i) (c .before .c .given .0 .0) o
+    (sym (c .before .c .given .1) ∙ e) fit
 
 returns-2 : tie.Need-returns-2
-returns-2 c = λ o e f. placed-refusal (c .before .before .before .args .stack .now) (c .before .before .before .args .i) (c .before .c2 .given .0 .0) o (sym (c .before .c2 .given .1) ∙ e) f
+returns-2 c = λ o e f. placed-refusal (c .before .before .before .args .stack .now) (c .before .before .before .args .i) (c .before .c2 .given .0 .0) o
+    (sym (c .before .c2 .given .1) ∙ e) f
 
 pub place-spec : {M : Type 1} → statement M
 place-spec =

@@ -10,7 +10,8 @@ use Rattle.base_operators.proofs.unary.Tie as tie
 returns : tie.Need-returns
 returns c =
     let s = c .before .before in
-    unary-tag (plain std-logic) (s .args .op) (s .args .t) (s .args .x) (c .before .match .keys1) ((rw (toZ-ofZ (s .fits .x)) at (c .one-logical .ensures)) ∙ one-bit (s .args .op) (s .args .x))
+    unary-tag (plain std-logic) (s .args .op) (s .args .t) (s .args .x) (c .before .match .keys1)
+    ((rw (toZ-ofZ (s .fits .x)) at (c .one-logical .ensures)) ∙ one-bit (s .args .op) (s .args .x))
 
 returns-2 : tie.Need-returns-2
 returns-2 c =

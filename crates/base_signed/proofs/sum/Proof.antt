@@ -30,7 +30,8 @@ returns c =
     let p = c .before .before .fits .x in
     let q = c .before .before .fits .y in
     let fit : SFits w64 (c .before .pick .result) = record { sfits = c .before .pick .ok } in
-    let e = (simp (toZ-ofZ p, toZ-ofZ q, toZ-ofZ (wide p), toZ-ofZ (wide q), toZ-ofZ (sub-wide _ _ p q), toZ-ofZ (add-wide _ _ p q)) at (c .before .pick .ensures)) in
+    let e = (simp (toZ-ofZ p, toZ-ofZ q, toZ-ofZ (wide p), toZ-ofZ (wide q), toZ-ofZ (sub-wide _ _ p q), toZ-ofZ (add-wide _ _ p q))
+    at (c .before .pick .ensures)) in
     rw e at (rw (toZ-ofZ fit) at (c .narrow .ensures))
 
 pub sum-spec : {M : Type 1} → statement M

@@ -16,7 +16,13 @@ returns-4 : tie.Need-returns-4
 returns-4 c = rw (c .before .before .before .if1 .left, c .if4 .taken)
 
 returns-5 : tie.Need-returns-5
-returns-5 c = rw (c .before .before .before .if1 .left, ne-eqb (c .before .before .before .before .args .kind) 12 (c .before .before .if2 .left), ne-eqb (c .before .before .before .before .args .kind) 3 (c .before .if3 .left), ne-eqb (c .before .before .before .before .args .kind) 4 (c .if4 .left))
+returns-5 c = rw (
+  c .before .before .before .if1 .left,
+  ne-eqb (c .before .before .before .before .args .kind) 12 (c .before .before .if2 .left),
+  ne-eqb
+      (c .before .before .before .before .args .kind) 3 (c .before .if3 .left),
+  ne-eqb (c .before .before .before .before .args .kind) 4 (c .if4 .left),
+)
 
 pub init-of-spec : {M : Type 1} → statement M
 init-of-spec = tie.close (tie.spec returns returns-2 returns-3 returns-4 returns-5)

@@ -15,13 +15,15 @@ loop-holds : tie.Need-loop-holds Inv-loop μ-loop
 loop-holds c = let s = c .args in storing-first (s .g) (s .i) (s .j) (s .at) (s .decls .now) (c .pre .1)
 
 put-row-requires : tie.Need-put-row-requires Inv-loop μ-loop
-put-row-requires c κs = let v = c .before .before .loop .inv in let h = c .before .loop-test .taken in let q = c .before .before .before .pre in let z = v .low in omega arith
+put-row-requires c κs = let v = c .before .before .loop .inv in let h = c .before .loop-test .taken in let q = c .before .before .before .pre in
+    let z = v .low in omega arith
 
 add-k : tie.Need-add-k Inv-loop μ-loop
 add-k c = let h = c .before .before .loop-test .taken in let q = c .before .before .before .before .pre in omega arith
 
 add-name : tie.Need-add-name Inv-loop μ-loop
-add-name c = let v = c .before .before .before .loop .inv in let z = v .low in let h = c .before .before .loop-test .taken in let q = c .before .before .before .before .pre in omega arith
+add-name c = let v = c .before .before .before .loop .inv in let z = v .low in let h = c .before .before .loop-test .taken in
+    let q = c .before .before .before .before .pre in omega arith
 
 loop-less : tie.Need-loop-less Inv-loop μ-loop
 loop-less c = let h = c .before .before .loop-test .taken in omega arith

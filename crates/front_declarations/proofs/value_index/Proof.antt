@@ -1,4 +1,4 @@
--- `front_declarations::value_index` meets its contract: the test is that of `valueIndex`. Assumes nothing.
+-- `front_declarations::value_index` meets its contract: the test is that of `valueFrom`. Assumes nothing.
 use borrow.Author.Needs.{needs}
 use borrow.Author.Tests.{ne-eqb}
 use Rattle.front_declarations.proofs.value_index.Statement.{statement}

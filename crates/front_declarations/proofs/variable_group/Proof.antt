@@ -1,8 +1,9 @@
 -- `front_declarations::variable_group` meets its contract: the parts follow the grammar one after another, and the rows are written last. Assumes nothing.
 use mathlib.Core.Path.{_∙_}
 use native.Mathlib.Omega.{arith}
+use borrow.Author.Needs.{needs}
 use lib.Dec.{lit<}
-use Rattle.front_declarations.proofs.Steps.{asks-head}
+use Rattle.front_declarations.proofs.Steps.{asks-header, cursor-asks, at-by, moved-by}
 use Rattle.front_declarations.proofs.Values.{took-kept, tail-moves}
 use Rattle.front_declarations.proofs.Groups.{variable-moves, variable-read}
 use Rattle.front_declarations.proofs.variable_group.Statement.{statement}
@@ -12,34 +13,110 @@ variable-word-requires : tie.Need-variable-word-requires
 variable-word-requires c κs = c .pre .0
 
 names-requires : tie.Need-names-requires
-names-requires c κs = let s = c .before .args in let h = c .before .pre .0 in let ka = variable-moves (s .kinds .now) (s .long .now) h (c .variable-word .ensures) in let ha = asks-head h (ka .moves) in ha
+names-requires c κs = let s = c .before .args in let h = c .before .pre .0 in
+    let ka = variable-moves (s .kinds .now) (s .long .now) h (c .variable-word .ensures) in let ha = asks-header h (ka .moves) in ha
 
-take-requires : tie.Need-take-requires
-take-requires c κs = let s = c .before .before .args in let h = c .before .before .pre .0 in let ka = variable-moves (s .kinds .now) (s .long .now) h (c .before .variable-word .ensures) in let ha = asks-head h (ka .moves) in let hb = asks-head ha (c .names .ensures .moves) in (lit< tt, hb)
+expect-requires : tie.Need-expect-requires
+expect-requires c κs = let s = c .before .before .args in let h = c .before .before .pre .0 in
+    let ka = variable-moves (s .kinds .now) (s .long .now) h (c .before .variable-word .ensures) in let ha = asks-header h (ka .moves) in
+    let hb = asks-header ha (c .names .ensures .moves) in (lit< tt, cursor-asks hb)
 
 tail-requires : tie.Need-tail-requires
-tail-requires c κs = let s = c .before .before .before .args in let h = c .before .before .before .pre .0 in let ka = variable-moves (s .kinds .now) (s .long .now) h (c .before .before .variable-word .ensures) in let ha = asks-head h (ka .moves) in let hb = asks-head ha (c .before .names .ensures .moves) in let kc = took-kept (s .kinds .now) (s .long .now) 8 (lit< tt) hb (c .take .ensures) in let hc = asks-head hb (kc .moves) in hc
+tail-requires c κs = let s = c .before .before .before .args in let h = c .before .before .before .pre .0 in
+    let ka = variable-moves (s .kinds .now) (s .long .now) h (c .before .before .variable-word .ensures) in let ha = asks-header h (ka .moves) in
+    let hb = asks-header ha (c .before .names .ensures .moves) in
+    let kc = took-kept (s .kinds .now) (s .long .now) 8 (lit< tt) hb (at-by (c .before .names .result) (c .expect .ensures)) in
+    let hc = asks-header hb (kc .moves) in cursor-asks hc
 
-take-requires-2 : tie.Need-take-requires-2
-take-requires-2 c κs = let s = c .before .before .before .before .args in let h = c .before .before .before .before .pre .0 in let ka = variable-moves (s .kinds .now) (s .long .now) h (c .before .before .before .variable-word .ensures) in let ha = asks-head h (ka .moves) in let hb = asks-head ha (c .before .before .names .ensures .moves) in let kc = took-kept (s .kinds .now) (s .long .now) 8 (lit< tt) hb (c .before .take .ensures) in let hc = asks-head hb (kc .moves) in let kd = tail-moves (s .kinds .now) (s .long .now) hc (c .tail .ensures) in let hd = asks-head hc (kd .moves) in (lit< tt, hd)
+expect-requires-2 : tie.Need-expect-requires-2
+expect-requires-2 c κs = let s = c .before .before .before .before .args in let h = c .before .before .before .before .pre .0 in
+    let ka = variable-moves (s .kinds .now) (s .long .now) h (c .before .before .before .variable-word .ensures) in let ha = asks-header h (ka .moves) in
+    let hb = asks-header ha (c .before .before .names .ensures .moves) in
+    let kc = took-kept (s .kinds .now) (s .long .now) 8 (lit< tt) hb (at-by (c .before .before .names .result) (c .before .expect .ensures)) in
+    let hc = asks-header hb (kc .moves) in let kd =
+    tail-moves (s .kinds .now) (s .long .now) hc (at-by (c .before .before .names .result) (c .tail .ensures)) in let hd = asks-header hc (kd .moves) in
+    (lit< tt, cursor-asks hd)
 
 returns : tie.Need-returns
-returns c = variable-read (c .before .before .before .before .before .before .before .pre .0) (c .before .before .before .before .before .before .before .pre .1) (c .before .before .before .before .before .before .before .pre .2) (c .before .before .before .before .before .before .variable-word .ensures) (c .before .before .before .before .before .names .ensures) (c .before .before .before .before .take .ensures) (c .before .before .before .tail .ensures) (c .before .before .take2 .ensures) (λ z. absurd (c .if1 .taken z))
+returns c = variable-read (c .before .before .before .before .before .before .before .before .before .pre .0)
+    (c .before .before .before .before .before .before .before .before .before .pre .1)
+    (c .before .before .before .before .before .before .before .before .before .pre .2)
+    (c .before .before .before .before .before .before .before .before .variable-word .ensures)
+    (c .before .before .before .before .before .before .before .names .ensures)
+    (at-by (c .before .before .before .before .before .before .before .names .result) (c .before .before .before .before .before .before .expect .ensures))
+    (at-by (c .before .before .before .before .before .before .before .names .result) (c .before .before .before .before .before .tail .ensures))
+    (moved-by (c .before .before .before .before .before .before .before .names .result) (c .before .before .before .moved .ensures)
+    (c .before .before .before .before .expect2 .ensures)) (λ z. absurd (c .if1 .taken z))
 
 shape-at-requires : tie.Need-shape-at-requires
-shape-at-requires c κs = let s = c .before .before .before .before .before .before .before .args in let h = c .before .before .before .before .before .before .before .pre .0 in let ka = variable-moves (s .kinds .now) (s .long .now) h (c .before .before .before .before .before .before .variable-word .ensures) in let ha = asks-head h (ka .moves) in let hb = asks-head ha (c .before .before .before .before .before .names .ensures .moves) in let kc = took-kept (s .kinds .now) (s .long .now) 8 (lit< tt) hb (c .before .before .before .before .take .ensures) in let hc = asks-head hb (kc .moves) in let i = ha .inside in let j = hc .inside in let l = h .short in (l, (omega arith), (omega arith))
+shape-at-requires c κs = let s = c .before .before .before .before .before .before .before .before .before .args in
+    let h = c .before .before .before .before .before .before .before .before .before .pre .0 in
+    let ka = variable-moves (s .kinds .now) (s .long .now) h (c .before .before .before .before .before .before .before .before .variable-word .ensures) in
+    let ha = asks-header h (ka .moves) in let hb = asks-header ha (c .before .before .before .before .before .before .before .names .ensures .moves) in
+    let kc = took-kept (s .kinds .now) (s .long .now) 8 (lit< tt) hb
+    (at-by (c .before .before .before .before .before .before .before .names .result) (c .before .before .before .before .before .before .expect .ensures)) in
+    let hc = asks-header hb (kc .moves) in let i = ha .inside in let j = hc .inside in let l = h .short in (l, (omega arith), (omega arith))
 
 declared-by-requires : tie.Need-declared-by-requires
-declared-by-requires c κs = let h = c .before .before .before .before .before .before .before .before .before .pre .0 in (h .inputs, h .outputs, h .vars)
+declared-by-requires c κs = let h = c .before .before .before .before .before .before .before .before .before .before .before .pre .0 in
+    (h .inputs, h .outputs, h .vars)
 
 declared-by-requires-2 : tie.Need-declared-by-requires-2
-declared-by-requires-2 c κs = let s = c .before .before .before .before .before .before .before .before .before .before .args in let h = c .before .before .before .before .before .before .before .before .before .before .pre .0 in let ka = variable-moves (s .kinds .now) (s .long .now) h (c .before .before .before .before .before .before .before .before .before .variable-word .ensures) in let ha = asks-head h (ka .moves) in let hb = asks-head ha (c .before .before .before .before .before .before .before .before .names .ensures .moves) in let kc = took-kept (s .kinds .now) (s .long .now) 8 (lit< tt) hb (c .before .before .before .before .before .before .before .take .ensures) in let hc = asks-head hb (kc .moves) in let kd = tail-moves (s .kinds .now) (s .long .now) hc (c .before .before .before .before .before .before .tail .ensures) in let hd = asks-head hc (kd .moves) in let ke = took-kept (s .kinds .now) (s .long .now) 7 (lit< tt) hd (c .before .before .before .before .before .take2 .ensures) in let he = asks-head hd (ke .moves) in (he .inputs, he .outputs, he .vars)
+declared-by-requires-2 c κs = let s = c .before .before .before .before .before .before .before .before .before .before .before .before .args in
+    let h = c .before .before .before .before .before .before .before .before .before .before .before .before .pre .0 in
+    let ka = variable-moves (s .kinds .now) (s .long .now) h
+    (c .before .before .before .before .before .before .before .before .before .before .before .variable-word .ensures) in let ha = asks-header h (ka .moves) in
+    let hb = asks-header ha (c .before .before .before .before .before .before .before .before .before .before .names .ensures .moves) in
+    let kc = took-kept (s .kinds .now) (s .long .now) 8 (lit< tt) hb
+    (at-by (c .before .before .before .before .before .before .before .before .before .before .names .result)
+    (c .before .before .before .before .before .before .before .before .before .expect .ensures)) in let hc = asks-header hb (kc .moves) in
+    let kd = tail-moves (s .kinds .now) (s .long .now) hc
+    (at-by (c .before .before .before .before .before .before .before .before .before .before .names .result)
+    (c .before .before .before .before .before .before .before .before .tail .ensures)) in let hd = asks-header hc (kd .moves) in
+    let ke = took-kept (s .kinds .now) (s .long .now) 7 (lit< tt) hd
+    (moved-by (c .before .before .before .before .before .before .before .before .before .before .names .result)
+    (c .before .before .before .before .before .before .moved .ensures) (c .before .before .before .before .before .before .before .expect2 .ensures)) in
+    let he = asks-header hd (ke .moves) in (he .inputs, he .outputs, he .vars)
 
 put-rows-requires : tie.Need-put-rows-requires
-put-rows-requires c κs = let s = c .before .before .before .before .before .before .before .before .before .before .before .args in let h = c .before .before .before .before .before .before .before .before .before .before .before .pre .0 in let ka = variable-moves (s .kinds .now) (s .long .now) h (c .before .before .before .before .before .before .before .before .before .before .variable-word .ensures) in let ha = asks-head h (ka .moves) in let hb = asks-head ha (c .before .before .before .before .before .before .before .before .before .names .ensures .moves) in let kc = took-kept (s .kinds .now) (s .long .now) 8 (lit< tt) hb (c .before .before .before .before .before .before .before .before .take .ensures) in let hc = asks-head hb (kc .moves) in let kd = tail-moves (s .kinds .now) (s .long .now) hc (c .before .before .before .before .before .before .before .tail .ensures) in let hd = asks-head hc (kd .moves) in let ke = took-kept (s .kinds .now) (s .long .now) 7 (lit< tt) hd (c .before .before .before .before .before .before .take2 .ensures) in let he = asks-head hd (ke .moves) in let e1 = c .declared-by2 .ensures in let i = ha .inside in let l = h .short in let a1 = he .inputs in let a2 = he .outputs in let a3 = he .vars in ((rw e1 (omega arith)), (omega arith))
+put-rows-requires c κs = let s = c .before .before .before .before .before .before .before .before .before .before .before .before .before .args in
+    let h = c .before .before .before .before .before .before .before .before .before .before .before .before .before .pre .0 in
+    let ka = variable-moves (s .kinds .now) (s .long .now) h
+    (c .before .before .before .before .before .before .before .before .before .before .before .before .variable-word .ensures) in
+    let ha = asks-header h (ka .moves) in let hb =
+    asks-header ha (c .before .before .before .before .before .before .before .before .before .before .before .names .ensures .moves) in
+    let kc = took-kept (s .kinds .now) (s .long .now) 8 (lit< tt) hb
+    (at-by (c .before .before .before .before .before .before .before .before .before .before .before .names .result)
+    (c .before .before .before .before .before .before .before .before .before .before .expect .ensures)) in let hc = asks-header hb (kc .moves) in
+    let kd = tail-moves (s .kinds .now) (s .long .now) hc
+    (at-by (c .before .before .before .before .before .before .before .before .before .before .before .names .result)
+    (c .before .before .before .before .before .before .before .before .before .tail .ensures)) in let hd = asks-header hc (kd .moves) in
+    let ke = took-kept (s .kinds .now) (s .long .now) 7 (lit< tt) hd
+    (moved-by (c .before .before .before .before .before .before .before .before .before .before .before .names .result)
+    (c .before .before .before .before .before .before .before .moved .ensures)
+    (c .before .before .before .before .before .before .before .before .expect2 .ensures)) in let he = asks-header hd (ke .moves) in
+    let e1 = c .declared-by2 .ensures in let i = ha .inside in let l = h .short in let a1 = he .inputs in let a2 = he .outputs in let a3 = he .vars in
+    ((rw e1 (omega arith)), (omega arith))
 
 returns-2 : tie.Need-returns-2
-returns-2 c = variable-read (c .before .before .before .before .before .before .before .before .before .before .before .before .pre .0) (c .before .before .before .before .before .before .before .before .before .before .before .before .pre .1) (c .before .before .before .before .before .before .before .before .before .before .before .before .pre .2) (c .before .before .before .before .before .before .before .before .before .before .before .variable-word .ensures) (c .before .before .before .before .before .before .before .before .before .before .names .ensures) (c .before .before .before .before .before .before .before .before .before .take .ensures) (c .before .before .before .before .before .before .before .before .tail .ensures) (c .before .before .before .before .before .before .before .take2 .ensures) (λ z. c .put-rows .ensures ∙ rw (c .before .before .before .before .shape-at .ensures, c .before .before .declared-by .ensures, c .before .declared-by2 .ensures))
+returns-2 c = variable-read (c .before .before .before .before .before .before .before .before .before .before .before .before .before .before .pre .0)
+    (c .before .before .before .before .before .before .before .before .before .before .before .before .before .before .pre .1)
+    (c .before .before .before .before .before .before .before .before .before .before .before .before .before .before .pre .2)
+    (c .before .before .before .before .before .before .before .before .before .before .before .before .before .variable-word .ensures)
+    (c .before .before .before .before .before .before .before .before .before .before .before .before .names .ensures)
+    (at-by (c .before .before .before .before .before .before .before .before .before .before .before .before .names .result)
+    (c .before .before .before .before .before .before .before .before .before .before .before .expect .ensures))
+    (at-by (c .before .before .before .before .before .before .before .before .before .before .before .before .names .result)
+    (c .before .before .before .before .before .before .before .before .before .before .tail .ensures))
+    (moved-by (c .before .before .before .before .before .before .before .before .before .before .before .before .names .result)
+    (c .before .before .before .before .before .before .before .before .moved .ensures)
+    (c .before .before .before .before .before .before .before .before .before .expect2 .ensures))
+    (λ z. c .put-rows .ensures ∙ rw (
+      c .before .before .before .before .shape-at .ensures,
+      c .before .before .declared-by .ensures,
+      c .before .declared-by2 .ensures,
+    ))
 
 pub variable-group-spec : {M : Type 1} → statement M
-variable-group-spec = tie.close (tie.spec variable-word-requires names-requires take-requires tail-requires take-requires-2 returns shape-at-requires declared-by-requires declared-by-requires-2 put-rows-requires returns-2)
+variable-group-spec = tie.close (tie.spec variable-word-requires names-requires expect-requires tail-requires expect-requires-2
+    (λ c κs. search needs) returns shape-at-requires declared-by-requires declared-by-requires-2 put-rows-requires returns-2)

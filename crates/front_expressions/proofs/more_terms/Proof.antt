@@ -12,7 +12,8 @@ returns c = rw (ne-eqb (c .before .before .args .q .fault) 0 (c .if1 .taken))
 
 returns-2 : tie.Need-returns-2
 unfolding moreTerms
-returns-2 c = rw (eq-eqb (c .before .before .before .before .args .q .fault) 0 (c .before .before .if1 .left), sym (c .before .kind-at .ensures)) (c .is-adding .ensures)
+returns-2 c = rw (eq-eqb (c .before .before .before .before .args .q .fault) 0 (c .before .before .if1 .left), sym (c .before .kind-at .ensures))
+    (c .is-adding .ensures)
 
 pub more-terms-spec : {M : Type 1} → statement M
 more-terms-spec = tie.close (tie.spec returns (λ c κs. search needs) (λ c κs. search needs) returns-2)

@@ -27,33 +27,41 @@ loop-again c = fill-gap _ _ _ _ _ _ _ _ _ (c .before .before .before .before .be
     (blank-gapped _ _ (c .before .before .before .before .loop-test .taken) (flag (c .before .is-blank .ensures) (c .if2 .taken)))
 
 loop-less-2 : tie.Need-loop-less-2 Inv-loop μ-loop
-loop-less-2 c = let g = gapped _ _ _ (c .before .before .before .before .before .before .before .before .before .loop-test .taken) (c .before .before .before .piece-at .ensures) _
+loop-less-2 c = let g = gapped _ _ _ (c .before .before .before .before .before .before .before .before .before .loop-test .taken)
+    (c .before .before .before .piece-at .ensures) _
     (c .before .end .given .1) in omega arith
 
 loop-again-2 : tie.Need-loop-again-2 Inv-loop μ-loop
 loop-again-2 c = fill-gap _ _ _ _ _ _ _ _ _ (c .before .before .before .before .before .before .before .before .before .before .loop .inv) _
-    (gapped _ _ _ (c .before .before .before .before .before .before .before .before .before .loop-test .taken) (c .before .before .before .piece-at .ensures) _ (c .before .end .given .1))
+    (gapped _ _ _ (c .before .before .before .before .before .before .before .before .before .loop-test .taken) (c .before .before .before .piece-at .ensures) _
+    (c .before .end .given .1))
 
 sub-sizes : tie.Need-sub-sizes Inv-loop μ-loop
-sub-sizes c = let g = tokened _ _ _ (c .before .before .before .before .before .before .before .before .before .loop-test .taken) (c .before .before .before .piece-at .ensures) _ _
+sub-sizes c = let g = tokened _ _ _ (c .before .before .before .before .before .before .before .before .before .loop-test .taken)
+    (c .before .before .before .piece-at .ensures) _ _
     (c .before .kind .given .1) in omega arith
 
 cast-sizes : tie.Need-cast-sizes Inv-loop μ-loop
-cast-sizes c = let g = tokened _ _ _ (c .before .before .before .before .before .before .before .before .before .loop-test .taken) (c .before .before .before .piece-at .ensures) _ _
+cast-sizes c = let g = tokened _ _ _ (c .before .before .before .before .before .before .before .before .before .loop-test .taken)
+    (c .before .before .before .piece-at .ensures) _ _
     (c .before .kind .given .1) in omega arith
 
 loop-less-3 : tie.Need-loop-less-3 Inv-loop μ-loop
-loop-less-3 c = let g = tokened _ _ _ (c .before .before .before .before .before .before .before .before .before .loop-test .taken) (c .before .before .before .piece-at .ensures) _ _
+loop-less-3 c = let g = tokened _ _ _ (c .before .before .before .before .before .before .before .before .before .loop-test .taken)
+    (c .before .before .before .piece-at .ensures) _ _
     (c .before .kind .given .1) in omega arith
 
 loop-again-3 : tie.Need-loop-again-3 Inv-loop μ-loop
 loop-again-3 c =
     fill-token _ _ _ _ _ _ _ _ _ (c .before .before .before .before .before .before .before .before .before .before .loop .inv) _ _
-    (tokened _ _ _ (c .before .before .before .before .before .before .before .before .before .loop-test .taken) (c .before .before .before .piece-at .ensures) _ _ (c .before .kind .given .1))
+    (tokened _ _ _ (c .before .before .before .before .before .before .before .before .before .loop-test .taken)
+    (c .before .before .before .piece-at .ensures) _ _ (c .before .kind .given .1))
 
 returns-2 : tie.Need-returns-2 Inv-loop μ-loop
-returns-2 c = fill-stop _ _ _ _ _ _ _ _ _ (c .before .before .before .before .before .before .before .before .before .loop .inv) (c .before .before .before .before .before .before .before .before .before .before .before .if1 .left)
-    (stopped _ _ _ (c .before .before .before .before .before .before .before .before .loop-test .taken) (c .before .before .piece-at .ensures) (c .enum-told .given .1))
+returns-2 c = fill-stop _ _ _ _ _ _ _ _ _ (c .before .before .before .before .before .before .before .before .before .loop .inv)
+    (c .before .before .before .before .before .before .before .before .before .before .before .if1 .left)
+    (stopped _ _ _ (c .before .before .before .before .before .before .before .before .loop-test .taken) (c .before .before .piece-at .ensures)
+    (c .enum-told .given .1))
 
 returns-3 : tie.Need-returns-3 Inv-loop μ-loop
 returns-3 c = fill-end _ _ _ _ _ _ _ _ _ (c .before .loop .inv) (c .before .before .before .if1 .left) (c .loop-test .left)

@@ -40,7 +40,8 @@ between-requires c κs =
 returns-2 : tie.Need-returns-2 Inv-loop μ-loop
 returns-2 c = let g = tokened _ _ _ (c .before .before .before .before .before .before .before .before .loop-test .taken)
     (c .before .before .before .before .before .piece-at .ensures) _ _ (c .before .before .before .end2 .given .1) in
-    c .between .ensures ∙ (sym (g .hands _ ∙ rw (eq-eqb _ _ (c .before .if2 .taken))) ∙ c .before .before .before .before .before .before .before .before .before .loop .inv .1)
+    c .between .ensures ∙ (sym (g .hands _ ∙ rw (eq-eqb _ _ (c .before .if2 .taken)))
+    ∙ c .before .before .before .before .before .before .before .before .before .loop .inv .1)
 
 loop-less-2 : tie.Need-loop-less-2 Inv-loop μ-loop
 loop-less-2 c = let g = tokened _ _ _ (c .before .before .before .before .before .before .before .loop-test .taken)

@@ -16,7 +16,8 @@ loop-holds : tie.Need-loop-holds Inv-loop μ-loop
 loop-holds c = mark-first _ _ _ _ _ _ _ (c .at-most .ensures)
 
 loop-again : tie.Need-loop-again Inv-loop μ-loop
-loop-again c = mark-again _ _ _ _ _ _ (c .before .before .before .before .before .loop .inv) (c .before .before .before .before .loop-test .taken) (c .flag .ensures)
+loop-again c = mark-again _ _ _ _ _ _ (c .before .before .before .before .before .loop .inv) (c .before .before .before .before .loop-test .taken)
+    (c .flag .ensures)
 
 returns : tie.Need-returns Inv-loop μ-loop
 returns c = mark-end _ _ _ _ _ _ (c .before .loop .inv) (c .loop-test .left)

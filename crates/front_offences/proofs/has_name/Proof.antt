@@ -15,7 +15,12 @@ returns-2 : tie.Need-returns-2
 unfolding hasName
 returns-2 c =
     let l = c .if1 .left in
-    rw (ne-eqb (c .before .args .kind) 0 (λ z. omega arith), ne-eqb (c .before .args .kind) 1 (λ z. omega arith), ne-eqb (c .before .args .kind) 2 (λ z. omega arith))
+    rw (
+      ne-eqb (c .before .args .kind) 0 (λ z. omega arith),
+      ne-eqb (c .before .args .kind) 1 (λ z. omega arith),
+      ne-eqb (c .before .args .kind) 2
+          (λ z. omega arith),
+    )
 
 pub has-name-spec : {M : Type 1} → statement M
 has-name-spec = tie.close (tie.spec returns returns-2)

@@ -25,7 +25,13 @@ returns-4 c = rw (c .before .match .keys4) (rw (toZ-ofZ (c .before .before .fits
 returns-5 : tie.Need-returns-5
 unfolding leafTag
 returns-5 c =
-    rw (ne-eqb (c .before .args .op) 1 (c .match .rest .0 .0 .0 .1), ne-eqb (c .before .args .op) 2 (c .match .rest .0 .0 .1), ne-eqb (c .before .args .op) 3 (c .match .rest .0 .1), ne-eqb (c .before .args .op) 4 (c .match .rest .1))
+    rw (
+      ne-eqb (c .before .args .op) 1 (c .match .rest .0 .0 .0 .1),
+      ne-eqb (c .before .args .op) 2 (c .match .rest .0 .0 .1),
+      ne-eqb (c .before .args .op) 3
+          (c .match .rest .0 .1),
+      ne-eqb (c .before .args .op) 4 (c .match .rest .1),
+    )
 
 pub leaf-type-spec : {M : Type 1} → statement M
 leaf-type-spec =

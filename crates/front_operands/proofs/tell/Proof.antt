@@ -1,5 +1,5 @@
 -- `front_operands::tell` meets its contract. The invariant: those before here are told, and the rest is told as the whole is. Assumes nothing.
-use mathlib.Core.Path.{_≡_, refl, _∙_}
+use mathlib.Core.Path.{_≡_, refl}
 use Prim.Native.Nat.{_-_, min}
 use native.Mathlib.Omega.{arith}
 use borrow.Author.Needs.{needs}

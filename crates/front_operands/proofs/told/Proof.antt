@@ -12,12 +12,18 @@ use Rattle.front_operands.proofs.told.Tie as tie
 returns : tie.Need-returns
 returns c =
     let fit : SFits w32 (getD (c .before .before .before .before .args .args .now) (c .before .before .before .before .args .j) (pos 0)) = search needs in
-    told-leaf (c .before .before .before .before .args .inputs .now) (c .before .before .before .before .args .variables .now) (c .before .before .before .before .args .op) (c .before .before .before .before .args .t) (c .before .before .before .before .args .args .now) (c .before .before .before .before .args .j) (c .before .before .before .operands .ensures) (c .before .before .if1 .taken) (rw (toZ-ofZ fit) at (c .leaf-type .ensures))
+    told-leaf (c .before .before .before .before .args .inputs .now) (c .before .before .before .before .args .variables .now)
+    (c .before .before .before .before .args .op) (c .before .before .before .before .args .t) (c .before .before .before .before .args .args .now)
+    (c .before .before .before .before .args .j) (c .before .before .before .operands .ensures) (c .before .before .if1 .taken)
+    (rw (toZ-ofZ fit) at (c .leaf-type .ensures))
 
 returns-2 : tie.Need-returns-2
 returns-2 c =
     let fit : SFits w32 (c .before .from-bits .result) = search needs in
-    rw (toZ-ofZ fit) (told-operator (c .before .before .before .before .args .inputs .now) (c .before .before .before .before .args .variables .now) (c .before .before .before .before .args .op) (c .before .before .before .before .args .t) (c .before .before .before .before .args .args .now) (c .before .before .before .before .args .j) (c .before .from-bits .result) (search needs) (c .before .before .before .operands .ensures) (c .before .before .if1 .left) (c .before .from-bits .ensures) (c .result-type .ensures))
+    rw (toZ-ofZ fit) (told-operator (c .before .before .before .before .args .inputs .now) (c .before .before .before .before .args .variables .now)
+    (c .before .before .before .before .args .op) (c .before .before .before .before .args .t) (c .before .before .before .before .args .args .now)
+    (c .before .before .before .before .args .j) (c .before .from-bits .result) (search needs) (c .before .before .before .operands .ensures)
+    (c .before .before .if1 .left) (c .before .from-bits .ensures) (c .result-type .ensures))
 
 pub told-spec : {M : Type 1} → statement M
 told-spec =

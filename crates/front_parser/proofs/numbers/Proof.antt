@@ -4,7 +4,7 @@ use Rattle.front_parser.proofs.numbers.Statement.{statement}
 use Rattle.front_parser.proofs.numbers.Tie as tie
 
 returns : tie.Need-returns
-returns c = rw (c .before .before .before .before .before .declared-by .ensures)
+returns c = rw (c .declared-by .ensures)
 
 pub numbers-spec : {M : Type 1} → statement M
-numbers-spec = tie.close (tie.spec (λ c κs. search needs) (λ c. search needs) (λ c. search needs) (λ c. search needs) (λ c. search needs) (λ c. search needs) returns)
+numbers-spec = tie.close (tie.spec (λ c κs. search needs) returns)

@@ -21,9 +21,15 @@ loop-again : tie.Need-loop-again Inv-loop μ-loop
 loop-again c = filling-again _ _ _ _ _ _ _ (c .before .before .loop-test .taken) (c .settle .ensures) (c .before .before .before .loop .inv)
 
 returns : tie.Need-returns Inv-loop μ-loop
-returns c = resolves (c .before .before .before .before .args .text .now) (c .before .before .before .before .args .kinds .now) (c .before .before .before .before .args .starts .now) (c .before .before .before .before .args .sizes .now) (c .before .before .before .before .args .n) (c .before .before .before .before .args .decls .now) (c .before .before .before .before .args .d) _ _
+returns c = resolves (c .before .before .before .before .args .text .now) (c .before .before .before .before .args .kinds .now)
+    (c .before .before .before .before .args .starts .now) (c .before .before .before .before .args .sizes .now) (c .before .before .before .before .args .n)
+    (c .before .before .before .before .args .decls .now) (c .before .before .before .before .args .d) _ _
     (filling-stop _ _ _ _ _ _ (c .loop-test .left) (c .before .loop .inv)
-    ∙ ap (λ (m : ℕ). fillFrom (ownerIn (c .before .before .before .before .args .text .now) (c .before .before .before .before .args .starts .now) (c .before .before .before .before .args .sizes .now) (c .before .before .before .before .args .n) (c .before .before .before .before .args .decls .now) (c .before .before .before .before .args .d)) (c .before .before .before .before .args .kinds .now) 0 m (c .before .before .before .before .args .owners .now)) (c .before .before .at-most .ensures))
+    ∙ ap (λ (m : ℕ). fillFrom
+    (ownerIn (c .before .before .before .before .args .text .now) (c .before .before .before .before .args .starts .now)
+    (c .before .before .before .before .args .sizes .now) (c .before .before .before .before .args .n) (c .before .before .before .before .args .decls .now)
+    (c .before .before .before .before .args .d)) (c .before .before .before .before .args .kinds .now) 0 m
+    (c .before .before .before .before .args .owners .now)) (c .before .before .at-most .ensures))
 
 pub resolve-spec : {M : Type 1} → statement M
 resolve-spec =

@@ -1,17 +1,16 @@
 -- The proof of the cycle of calls of the readers of statements. The measure is the tokens left, 8 for each, and a number for the level, so that it
 -- falls at a call at the same token too. Each return is one lemma of `Bodies` or `Nested`. Assumes nothing.
 use Prim.Native.Nat.{ℕ, _<_, _+_, _*_, _-_}
-use mathlib.Core.Path.{refl, sym, _∙_, ap}
+use mathlib.Core.Path.{refl, sym, _∙_}
 use mathlib.Core.Logic.{inl, inr}
 use native.Mathlib.Omega.{arith}
 use borrow.Author.Needs.{needs}
 use lib.Dec.{lit<, lit≤}
-use Rattle.front_cursor.specs.Tokens.{kindIn, flagIn}
+use Rattle.front_layout.specs.Tokens.{kindIn, flagIn}
 use Rattle.front_cursor.proofs.Steps.{kind-inside}
-use Rattle.front_expressions.specs.Written.{arrays}
-use Rattle.front_statements.specs.declared.Place.{Place}
-use Rattle.front_statements.specs.Rows.{output}
-use Rattle.front_statements.proofs.Steps.{asks-place, moves-place, stepped-asks, stepped-then, took-steps, begin-steps, begin-depth}
+use Rattle.front_layout.specs.Items.{arrays}
+use Rattle.front_layout.specs.Rows.{output}
+use Rattle.front_statements.proofs.Steps.{cursor-asks, asks-listing, stepped-asks, took-steps, begin-steps, begin-depth}
 use Rattle.front_statements.proofs.Assignments.{expression-moves}
 use Rattle.front_statements.proofs.Bodies.{statement-stays, statement-refused, FurtherOver, further-none, further-again, more-true, body-read, body-falls}
 use Rattle.front_statements.proofs.Nested.{else-none, else-read, nested-refused, if-read, while-read}
@@ -32,35 +31,34 @@ use Rattle.front_statements.proofs.+body+else_part+if_statement+stateme
 use Rattle.front_statements.proofs.while_statement.Reads as while-statement
 use Rattle.front_statements.proofs.while_statement.Kinds as while-statement-kinds
 use Rattle.front_statements.proofs.+body+else_part+if_statement+statement+while_statement.Lts-while_statement as while-statement-lts
+use Rattle.front_cursor.proofs.expect.Reads as expect-reads
 use Rattle.front_cursor.proofs.kind_at.Reads as kind-at-reads
 use Rattle.front_expressions.proofs.expression.Reads as expression-reads
 use Rattle.front_statements.proofs.assignment.Reads as assignment-reads
 use Rattle.front_statements.proofs.begin.Reads as begin-reads
-use Rattle.front_statements.proofs.cursor_of.Reads as cursor-of-reads
+use Rattle.front_statements.proofs.end_of.Reads as end-of-reads
 use Rattle.front_statements.proofs.finish.Reads as finish-reads
+use Rattle.front_statements.proofs.halted.Reads as halted-reads
 use Rattle.front_statements.proofs.more_statements.Reads as more-statements-reads
 use Rattle.front_statements.proofs.null_statement.Reads as null-statement-reads
-use Rattle.front_statements.proofs.place_of.Reads as place-of-reads
-use Rattle.front_statements.proofs.refuse.Reads as refuse-reads
-use Rattle.front_statements.proofs.take.Reads as take-reads
 use Rattle.front_statements.proofs.wait_statement.Reads as wait-statement-reads
 use Rattle.front_statements.proofs.+body+else_part+if_statement+statement+while_statement.{statement}
 use Rattle.front_statements.proofs.+body+else_part+if_statement+statement+while_statement.Tie.{close}
 
 abbrev μ-body : Measures 5 body-kinds.ps ℕ
-μ-body κs a = 8 * (a .1 .1 .0 - a .1 .1 .1 .0 .at) + 3
+μ-body κs a = 8 * (a .1 .1 .0 - a .1 .1 .1 .0 .cursor .at) + 3
 
 abbrev μ-else-part : Measures 5 else-part-kinds.ps ℕ
-μ-else-part κs a = 8 * (a .1 .1 .0 - a .1 .1 .1 .0 .at) + 4
+μ-else-part κs a = 8 * (a .1 .1 .0 - a .1 .1 .1 .0 .cursor .at) + 4
 
 abbrev μ-if-statement : Measures 5 if-statement-kinds.ps ℕ
-μ-if-statement κs a = 8 * (a .1 .1 .0 - a .1 .1 .1 .0 .at) + 1
+μ-if-statement κs a = 8 * (a .1 .1 .0 - a .1 .1 .1 .0 .cursor .at) + 1
 
 abbrev μ-statement : Measures 5 statement-kinds.ps ℕ
-μ-statement κs a = 8 * (a .1 .1 .0 - a .1 .1 .1 .0 .at) + 2
+μ-statement κs a = 8 * (a .1 .1 .0 - a .1 .1 .1 .0 .cursor .at) + 2
 
 abbrev μ-while-statement : Measures 5 while-statement-kinds.ps ℕ
-μ-while-statement κs a = 8 * (a .1 .1 .0 - a .1 .1 .1 .0 .at) + 1
+μ-while-statement κs a = 8 * (a .1 .1 .0 - a .1 .1 .1 .0 .cursor .at) + 1
 
 abbrev body-at : ℕ → In 5 body-kinds.ps
 body-at t = and 5 body-kinds.ps (is 5 body-kinds.ps μ-body t) body.Pre
@@ -96,160 +94,339 @@ abbrev body-calls : ℕ → body-lts.Claims
 body-calls t = (statement-below t, statement′.Post, more-statements-reads.Asked, more-statements-reads.Learnt)
 
 abbrev else-part-calls : ℕ → else-part-lts.Claims
-else-part-calls t = (kind-at-reads.Asked, kind-at-reads.Learnt, take-reads.Asked, take-reads.Learnt, body-below t, body.Post)
+else-part-calls t = (kind-at-reads.Asked, kind-at-reads.Learnt, expect-reads.Asked, expect-reads.Learnt, body-below t, body.Post)
 
 abbrev if-statement-calls : ℕ → if-statement-lts.Claims
-if-statement-calls t = (begin-reads.Asked, begin-reads.Learnt, cursor-of-reads.Asked, cursor-of-reads.Learnt, expression-reads.Asked, expression-reads.Learnt, place-of-reads.Asked, place-of-reads.Learnt, take-reads.Asked, take-reads.Learnt, body-below t, body.Post, else-part-below t, else-part.Post, finish-reads.Asked, finish-reads.Learnt)
+if-statement-calls t = (
+  begin-reads.Asked,
+  begin-reads.Learnt,
+  expression-reads.Asked,
+  expression-reads.Learnt,
+  expect-reads.Asked,
+  expect-reads.Learnt,
+  body-below t,
+  body.Post,
+  else-part-below t,
+  else-part.Post,
+  end-of-reads.Asked,
+  end-of-reads.Learnt,
+  finish-reads.Asked,
+  finish-reads.Learnt,
+)
 
 abbrev statement-calls : ℕ → statement-lts.Claims
-statement-calls t = (kind-at-reads.Asked, kind-at-reads.Learnt, assignment-reads.Asked, assignment-reads.Learnt, null-statement-reads.Asked, null-statement-reads.Learnt, wait-statement-reads.Asked, wait-statement-reads.Learnt, if-statement-below t, if-statement.Post, while-statement-below t, while-statement.Post, refuse-reads.Asked, refuse-reads.Learnt)
+statement-calls t = (
+  kind-at-reads.Asked,
+  kind-at-reads.Learnt,
+  assignment-reads.Asked,
+  assignment-reads.Learnt,
+  null-statement-reads.Asked,
+  null-statement-reads.Learnt,
+  wait-statement-reads.Asked,
+  wait-statement-reads.Learnt,
+  if-statement-below t,
+  if-statement.Post,
+  while-statement-below t,
+  while-statement.Post,
+  halted-reads.Asked,
+  halted-reads.Learnt,
+)
 
 abbrev while-statement-calls : ℕ → while-statement-lts.Claims
-while-statement-calls t = (begin-reads.Asked, begin-reads.Learnt, cursor-of-reads.Asked, cursor-of-reads.Learnt, expression-reads.Asked, expression-reads.Learnt, place-of-reads.Asked, place-of-reads.Learnt, take-reads.Asked, take-reads.Learnt, body-below t, body.Post, finish-reads.Asked, finish-reads.Learnt)
+while-statement-calls t = (
+  begin-reads.Asked,
+  begin-reads.Learnt,
+  expression-reads.Asked,
+  expression-reads.Learnt,
+  expect-reads.Asked,
+  expect-reads.Learnt,
+  body-below t,
+  body.Post,
+  end-of-reads.Asked,
+  end-of-reads.Learnt,
+  finish-reads.Asked,
+  finish-reads.Learnt,
+)
 
 abbrev body-Inv-loop : body-lts.InvT-loop
-body-Inv-loop kinds long n depth codes₀ tokens₀ rows₀ a₀ codes tokens rows a = FurtherOver kinds long n a₀ depth (output (arrays codes₀ tokens₀) rows₀) a (output (arrays codes tokens) rows)
+body-Inv-loop kinds long n depth codes₀ tokens₀ rows₀ a₀ codes tokens rows a =
+    FurtherOver kinds long n a₀ depth (output (arrays codes₀ tokens₀) rows₀) a (output (arrays codes tokens) rows)
 
 abbrev body-μ-loop : body-lts.MeasureT-loop
-body-μ-loop kinds long n depth codes₀ tokens₀ rows₀ a₀ codes tokens rows a = (n - a .at) + (1 - a .fault)
+body-μ-loop kinds long n depth codes₀ tokens₀ rows₀ a₀ codes tokens rows a = (n - a .cursor .at) + (1 - a .cursor .fault)
 
 body-loop-holds : (t : ℕ) → body-lts.Need-loop-holds (body-calls t) (body-at t) body.Post body-Inv-loop body-μ-loop
-body-loop-holds t c = further-none _ (asks-place (c .before .before .before .before .pre .1 .1) (c .statement .ensures .moves))
+body-loop-holds t c = further-none _ (asks-listing (c .before .before .before .before .pre .1 .1) (c .statement .ensures .moves))
 
 body-statement-requires-2 : (t : ℕ) → body-lts.Need-statement-requires-2 (body-calls t) (body-at t) body.Post body-Inv-loop body-μ-loop
-body-statement-requires-2 t c κs = let o = c .before .before .before .before .before .before .statement .ensures .moves in let i = c .before .before .before .before .before .loop .inv .moves in (omega arith, (c .before .before .before .before .before .before .before .before .before .before .pre .1 .0, asks-place (asks-place (c .before .before .before .before .before .before .before .before .before .before .pre .1 .1) (c .before .before .before .before .before .before .statement .ensures .moves)) (c .before .before .before .before .before .loop .inv .moves)))
+body-statement-requires-2 t c κs = let o = c .before .before .before .before .before .before .statement .ensures .moves in
+    let i = c .before .before .before .before .before .loop .inv .moves in (
+      omega arith,
+      (
+        c .before .before .before .before .before .before .before .before .before .before .pre .1 .0,
+        asks-listing
+            (asks-listing (c .before .before .before .before .before .before .before .before .before .before .pre .1 .1)
+            (c .before .before .before .before .before .before .statement .ensures .moves)) (c .before .before .before .before .before .loop .inv .moves),
+      ),
+    )
 
 body-loop-less : (t : ℕ) → body-lts.Need-loop-less (body-calls t) (body-at t) body.Post body-Inv-loop body-μ-loop
-body-loop-less t c = let s = c .before .before .before .before .before .before .before .before .before .before .before .args in let o = c .before .before .before .before .before .before .before .statement .ensures .moves in let i = c .before .before .before .before .before .before .loop .inv .moves in body-falls (s .n) (c .before .before .before .before .before .before .loop .a) (c .statement2 .result) (omega arith) ((more-true (c .before .before .before .before .before .before .loop .a .fault) (kindIn (s .kinds .now) (s .n) (c .before .before .before .before .before .before .loop .a .at)) (sym (c .before .before .before .before .before .more-statements .ensures) ∙ c .before .before .before .before .if1 .taken)) .0) (c .statement2 .ensures .moves) (c .statement2 .ensures .further)
+body-loop-less t c = let s = c .before .before .before .before .before .before .before .before .before .before .before .args in
+    let o = c .before .before .before .before .before .before .before .statement .ensures .moves in
+    let i = c .before .before .before .before .before .before .loop .inv .moves in
+    body-falls (s .n) (c .before .before .before .before .before .before .loop .a) (c .statement2 .result) (omega arith)
+    ((more-true (c .before .before .before .before .before .before .loop .a .cursor .fault)
+    (kindIn (s .kinds .now) (s .n) (c .before .before .before .before .before .before .loop .a .cursor .at))
+    (sym (c .before .before .before .before .before .more-statements .ensures) ∙ c .before .before .before .before .if1 .taken)) .0)
+    (c .statement2 .ensures .moves) (c .statement2 .ensures .further)
 
 body-loop-again : (t : ℕ) → body-lts.Need-loop-again (body-calls t) (body-at t) body.Post body-Inv-loop body-μ-loop
-body-loop-again t c = let s = c .before .before .before .before .before .before .before .before .before .before .before .args in further-again (c .before .before .before .before .before .before .loop .inv) ((more-true (c .before .before .before .before .before .before .loop .a .fault) (kindIn (s .kinds .now) (s .n) (c .before .before .before .before .before .before .loop .a .at)) (sym (c .before .before .before .before .before .more-statements .ensures) ∙ c .before .before .before .before .if1 .taken)) .1) (c .statement2 .ensures)
+body-loop-again t c = let s = c .before .before .before .before .before .before .before .before .before .before .before .args in
+    further-again (c .before .before .before .before .before .before .loop .inv)
+    ((more-true (c .before .before .before .before .before .before .loop .a .cursor .fault)
+    (kindIn (s .kinds .now) (s .n) (c .before .before .before .before .before .before .loop .a .cursor .at))
+    (sym (c .before .before .before .before .before .more-statements .ensures) ∙ c .before .before .before .before .if1 .taken)) .1)
+    (c .statement2 .ensures)
 
 body-returns : (t : ℕ) → body-lts.Need-returns (body-calls t) (body-at t) body.Post body-Inv-loop body-μ-loop
-body-returns t c = body-read (c .before .before .before .statement .ensures) (c .before .before .loop .inv) (sym (c .before .more-statements .ensures) ∙ c .if1 .left)
+body-returns t c = body-read (c .before .before .before .statement .ensures) (c .before .before .loop .inv)
+    (sym (c .before .more-statements .ensures) ∙ c .if1 .left)
 
 else-part-returns : (t : ℕ) → else-part-lts.Need-returns (else-part-calls t) (else-part-at t) else-part.Post
-else-part-returns t c = else-none _ (c .before .before .pre .1 .1) (λ z. c .if1 .taken (c .before .kind-at .ensures ∙ z))
+else-part-returns t c = else-none _ (c .before .before .before .pre .1 .1) (λ z. c .if1 .taken (c .before .kind-at .ensures ∙ z))
 
 else-part-body-requires : (t : ℕ) → else-part-lts.Need-body-requires (else-part-calls t) (else-part-at t) else-part.Post
-else-part-body-requires t c κs = let s = c .before .before .before .before .before .before .args in let t = took-steps (s .kinds .now) (s .long .now) 39 (lit< tt) (c .before .before .before .before .before .before .pre .1 .1) (c .before .before .before .take .ensures) in let m = t .steps .moves in omega arith
+else-part-body-requires t c κs = let s = c .before .before .before .before .before .before .before .args in
+    let h = c .before .before .before .before .before .before .before .pre .1 .1 in
+    let u = took-steps (s .kinds .now) (s .long .now) 39 (lit< tt) h (c .before .before .before .expect .ensures) in let m = u .steps .moves in
+    let t0 = c .before .before .before .before .before .before .before .pre .0 in
+    (omega arith, (c .before .before .before .before .before .before .before .pre .1 .0, stepped-asks h (u .steps)))
 
 else-part-returns-2 : (t : ℕ) → else-part-lts.Need-returns-2 (else-part-calls t) (else-part-at t) else-part.Post
-else-part-returns-2 t c = else-read (c .before .before .before .before .before .before .before .pre .1 .1) (sym (c .before .before .before .before .before .before .kind-at .ensures) ∙ c .before .before .before .before .before .if1 .left) (c .before .before .before .before .take .ensures) (c .body .ensures)
+else-part-returns-2 t c = else-read (c .before .before .before .before .before .before .before .before .pre .1 .1)
+    (sym (c .before .before .before .before .before .before .kind-at .ensures) ∙ c .before .before .before .before .before .if1 .left)
+    (c .before .before .before .before .expect .ensures) (c .body .ensures)
 
 if-statement-begin-requires : (t : ℕ) → if-statement-lts.Need-begin-requires (if-statement-calls t) (if-statement-at t) if-statement.Post
-if-statement-begin-requires t c κs = let s = c .args in let h = c .pre .1 .1 in let i = kind-inside (s .kinds .now) (s .n) (s .p .at) 37 (c .pre .1 .3) (lit< tt) in omega arith
+if-statement-begin-requires t c κs = let s = c .before .args in let h = c .before .pre .1 .1 in
+    let i = kind-inside (s .kinds .now) (s .n) (s .p .cursor .at) 37 (c .before .pre .1 .3) (lit< tt) in omega arith
 
 if-statement-returns : (t : ℕ) → if-statement-lts.Need-returns (if-statement-calls t) (if-statement-at t) if-statement.Post
-if-statement-returns t c = nested-refused _ 37 (c .before .before .before .pre .1 .1) (inl refl) (c .before .before .before .pre .1 .3) (c .before .before .begin .ensures) (c .if1 .taken)
+if-statement-returns t c = nested-refused _ 37 (c .before .before .before .before .before .pre .1 .1) (inl refl)
+    (c .before .before .before .before .before .pre .1 .3) (c .before .before .before .begin .ensures) (c .if1 .taken)
 
 if-statement-expression-requires : (t : ℕ) → if-statement-lts.Need-expression-requires (if-statement-calls t) (if-statement-at t) if-statement.Post
-if-statement-expression-requires t c κs = let s = c .before .before .before .before .before .before .args in let h = c .before .before .before .before .before .before .pre .1 .1 in let i = kind-inside (s .kinds .now) (s .n) (s .p .at) 37 (c .before .before .before .before .before .before .pre .1 .3) (lit< tt) in let b = begin-steps (flagIn (s .long .now) (s .p .at)) (s .depth) 0 h i (lit≤ tt) (c .before .before .before .before .before .begin .ensures) in let ha = stepped-asks h (b .steps) in rw (c .before .before .cursor-of .ensures) (omega arith)
+if-statement-expression-requires t c κs = let s = c .before .before .before .before .before .before .before .args in
+    let h = c .before .before .before .before .before .before .before .pre .1 .1 in
+    let i = kind-inside (s .kinds .now) (s .n) (s .p .cursor .at) 37 (c .before .before .before .before .before .before .before .pre .1 .3) (lit< tt) in
+    let b = begin-steps (flagIn (s .long .now) (s .p .cursor .at)) (s .depth) 0 h i (lit≤ tt) (c .before .before .before .before .before .begin .ensures) in
+    let ha = stepped-asks h (b .steps) in (lit≤ tt, cursor-asks ha)
 
-if-statement-take-requires : (t : ℕ) → if-statement-lts.Need-take-requires (if-statement-calls t) (if-statement-at t) if-statement.Post
-if-statement-take-requires t c κs = let s = c .before .before .before .before .before .before .before .before .args in let h = c .before .before .before .before .before .before .before .before .pre .1 .1 in let i = kind-inside (s .kinds .now) (s .n) (s .p .at) 37 (c .before .before .before .before .before .before .before .before .pre .1 .3) (lit< tt) in let b = begin-steps (flagIn (s .long .now) (s .p .at)) (s .depth) 0 h i (lit≤ tt) (c .before .before .before .before .before .before .before .begin .ensures) in let ha = stepped-asks h (b .steps) in let mu = expression-moves (c .before .before .before .before .cursor-of .ensures) (c .place-of .ensures) ha (c .before .expression .ensures .moves) in let hu = asks-place ha mu in (lit< tt, hu)
+if-statement-expect-requires : (t : ℕ) → if-statement-lts.Need-expect-requires (if-statement-calls t) (if-statement-at t) if-statement.Post
+if-statement-expect-requires t c κs = let s = c .before .before .before .before .before .before .before .before .args in
+    let h = c .before .before .before .before .before .before .before .before .pre .1 .1 in
+    let i = kind-inside (s .kinds .now) (s .n) (s .p .cursor .at) 37 (c .before .before .before .before .before .before .before .before .pre .1 .3) (lit< tt) in
+    let b = begin-steps (flagIn (s .long .now) (s .p .cursor .at)) (s .depth) 0 h i (lit≤ tt)
+    (c .before .before .before .before .before .before .begin .ensures) in let ha = stepped-asks h (b .steps) in
+    let mu = expression-moves ha (c .expression .ensures .moves) in let hu = asks-listing ha mu in (lit< tt, cursor-asks hu)
 
 if-statement-add-body : (t : ℕ) → if-statement-lts.Need-add-body (if-statement-calls t) (if-statement-at t) if-statement.Post
 if-statement-add-body t c = let d = c .before .before .before .before .before .before .before .before .before .pre .1 .0 in omega arith
 
 if-statement-body-requires : (t : ℕ) → if-statement-lts.Need-body-requires (if-statement-calls t) (if-statement-at t) if-statement.Post
-if-statement-body-requires t c κs = let s = c .before .before .before .before .before .before .before .before .before .before .before .before .args in let h = c .before .before .before .before .before .before .before .before .before .before .before .before .pre .1 .1 in let i = kind-inside (s .kinds .now) (s .n) (s .p .at) 37 (c .before .before .before .before .before .before .before .before .before .before .before .before .pre .1 .3) (lit< tt) in let b = begin-steps (flagIn (s .long .now) (s .p .at)) (s .depth) 0 h i (lit≤ tt) (c .before .before .before .before .before .before .before .before .before .before .before .begin .ensures) in let ha = stepped-asks h (b .steps) in let one = b .one (c .before .before .before .before .before .before .before .before .before .if1 .left) in let dp = begin-depth (s .p) (flagIn (s .long .now) (s .p .at)) (s .depth) 0 (c .before .before .before .before .before .before .before .before .before .before .before .begin .ensures) (c .before .before .before .before .before .before .before .before .before .if1 .left) in let mu = expression-moves (c .before .before .before .before .before .before .before .before .cursor-of .ensures) (c .before .before .before .before .place-of .ensures) ha (c .before .before .before .before .before .expression .ensures .moves) in let hu = asks-place ha mu in let tb = took-steps (s .kinds .now) (s .long .now) 38 (lit< tt) hu (c .before .before .before .take .ensures) in let hb = stepped-asks hu (tb .steps) in let mt = tb .steps .moves in let t0 = c .before .before .before .before .before .before .before .before .before .before .before .before .pre .0 in (omega arith, (omega arith, hb))
+if-statement-body-requires t c κs = let s = c .before .before .before .before .before .before .before .before .before .before .before .before .args in
+    let h = c .before .before .before .before .before .before .before .before .before .before .before .before .pre .1 .1 in
+    let i = kind-inside (s .kinds .now) (s .n) (s .p .cursor .at) 37
+    (c .before .before .before .before .before .before .before .before .before .before .before .before .pre .1 .3) (lit< tt) in
+    let b = begin-steps (flagIn (s .long .now) (s .p .cursor .at)) (s .depth) 0 h i (lit≤ tt)
+    (c .before .before .before .before .before .before .before .before .before .before .begin .ensures) in let ha = stepped-asks h (b .steps) in
+    let mu = expression-moves ha (c .before .before .before .before .expression .ensures .moves) in let hu = asks-listing ha mu in
+    let tb = took-steps (s .kinds .now) (s .long .now) 38 (lit< tt) hu (c .before .before .before .expect .ensures) in let hb = stepped-asks hu (tb .steps) in
+    let mt = tb .steps .moves in let one = b .one (c .before .before .before .before .before .before .before .if1 .left) in
+    let dp = begin-depth (s .p) (flagIn (s .long .now) (s .p .cursor .at)) (s .depth) 0
+    (c .before .before .before .before .before .before .before .before .before .before .begin .ensures)
+    (c .before .before .before .before .before .before .before .if1 .left) in
+    let t0 = c .before .before .before .before .before .before .before .before .before .before .before .before .pre .0 in (omega arith, (omega arith, hb))
 
 if-statement-add-else-part : (t : ℕ) → if-statement-lts.Need-add-else-part (if-statement-calls t) (if-statement-at t) if-statement.Post
-if-statement-add-else-part t c = let d = c .before .before .before .before .before .before .before .before .before .before .before .before .before .pre .1 .0 in omega arith
+if-statement-add-else-part t c = let d = c .before .before .before .before .before .before .before .before .before .before .before .before .before .pre .1 .0 in
+    omega arith
 
 if-statement-else-part-requires : (t : ℕ) → if-statement-lts.Need-else-part-requires (if-statement-calls t) (if-statement-at t) if-statement.Post
-if-statement-else-part-requires t c κs = let s = c .before .before .before .before .before .before .before .before .before .before .before .before .before .before .before .before .args in let h = c .before .before .before .before .before .before .before .before .before .before .before .before .before .before .before .before .pre .1 .1 in let i = kind-inside (s .kinds .now) (s .n) (s .p .at) 37 (c .before .before .before .before .before .before .before .before .before .before .before .before .before .before .before .before .pre .1 .3) (lit< tt) in let b = begin-steps (flagIn (s .long .now) (s .p .at)) (s .depth) 0 h i (lit≤ tt) (c .before .before .before .before .before .before .before .before .before .before .before .before .before .before .before .begin .ensures) in let ha = stepped-asks h (b .steps) in let one = b .one (c .before .before .before .before .before .before .before .before .before .before .before .before .before .if1 .left) in let dp = begin-depth (s .p) (flagIn (s .long .now) (s .p .at)) (s .depth) 0 (c .before .before .before .before .before .before .before .before .before .before .before .before .before .before .before .begin .ensures) (c .before .before .before .before .before .before .before .before .before .before .before .before .before .if1 .left) in let mu = expression-moves (c .before .before .before .before .before .before .before .before .before .before .before .before .cursor-of .ensures) (c .before .before .before .before .before .before .before .before .place-of .ensures) ha (c .before .before .before .before .before .before .before .before .before .expression .ensures .moves) in let hu = asks-place ha mu in let tb = took-steps (s .kinds .now) (s .long .now) 38 (lit< tt) hu (c .before .before .before .before .before .before .before .take .ensures) in let hb = stepped-asks hu (tb .steps) in let mt = tb .steps .moves in let mb = c .before .before .before .body .ensures .moves in let hc = asks-place hb mb in let t0 = c .before .before .before .before .before .before .before .before .before .before .before .before .before .before .before .before .pre .0 in (omega arith, (omega arith, hc))
+if-statement-else-part-requires t c κs = let s =
+    c .before .before .before .before .before .before .before .before .before .before .before .before .before .before .before .before .args in
+    let h = c .before .before .before .before .before .before .before .before .before .before .before .before .before .before .before .before .pre .1 .1 in
+    let i = kind-inside (s .kinds .now) (s .n) (s .p .cursor .at) 37
+    (c .before .before .before .before .before .before .before .before .before .before .before .before .before .before .before .before .pre .1 .3)
+    (lit< tt) in let b = begin-steps (flagIn (s .long .now) (s .p .cursor .at)) (s .depth) 0 h i (lit≤ tt)
+    (c .before .before .before .before .before .before .before .before .before .before .before .before .before .before .begin .ensures) in
+    let ha = stepped-asks h (b .steps) in let mu =
+    expression-moves ha (c .before .before .before .before .before .before .before .before .expression .ensures .moves) in let hu = asks-listing ha mu in
+    let tb = took-steps (s .kinds .now) (s .long .now) 38 (lit< tt) hu (c .before .before .before .before .before .before .before .expect .ensures) in
+    let hb = stepped-asks hu (tb .steps) in let mt = tb .steps .moves in let mb = c .before .before .before .body .ensures .moves in
+    let hc = asks-listing hb mb in let one =
+    b .one (c .before .before .before .before .before .before .before .before .before .before .before .if1 .left) in
+    let dp = begin-depth (s .p) (flagIn (s .long .now) (s .p .cursor .at)) (s .depth) 0
+    (c .before .before .before .before .before .before .before .before .before .before .before .before .before .before .begin .ensures)
+    (c .before .before .before .before .before .before .before .before .before .before .before .if1 .left) in
+    let t0 = c .before .before .before .before .before .before .before .before .before .before .before .before .before .before .before .before .pre .0 in (omega arith, (omega arith, hc))
 
-if-statement-take-requires-2 : (t : ℕ) → if-statement-lts.Need-take-requires-2 (if-statement-calls t) (if-statement-at t) if-statement.Post
-if-statement-take-requires-2 t c κs = let s = c .before .before .before .before .before .before .before .before .before .before .before .before .before .before .before .before .before .args in let h = c .before .before .before .before .before .before .before .before .before .before .before .before .before .before .before .before .before .pre .1 .1 in let i = kind-inside (s .kinds .now) (s .n) (s .p .at) 37 (c .before .before .before .before .before .before .before .before .before .before .before .before .before .before .before .before .before .pre .1 .3) (lit< tt) in let b = begin-steps (flagIn (s .long .now) (s .p .at)) (s .depth) 0 h i (lit≤ tt) (c .before .before .before .before .before .before .before .before .before .before .before .before .before .before .before .before .begin .ensures) in let ha = stepped-asks h (b .steps) in let mu = expression-moves (c .before .before .before .before .before .before .before .before .before .before .before .before .before .cursor-of .ensures) (c .before .before .before .before .before .before .before .before .before .place-of .ensures) ha (c .before .before .before .before .before .before .before .before .before .before .expression .ensures .moves) in let hu = asks-place ha mu in let tb = took-steps (s .kinds .now) (s .long .now) 38 (lit< tt) hu (c .before .before .before .before .before .before .before .before .take .ensures) in let hb = stepped-asks hu (tb .steps) in let mt = tb .steps .moves in let mb = c .before .before .before .before .body .ensures .moves in let hc = asks-place hb mb in let md = c .else-part .ensures .moves in let hd = asks-place hc md in (lit< tt, hd)
-
-if-statement-take-requires-3 : (t : ℕ) → if-statement-lts.Need-take-requires-3 (if-statement-calls t) (if-statement-at t) if-statement.Post
-if-statement-take-requires-3 t c κs = let s = c .before .before .before .before .before .before .before .before .before .before .before .before .before .before .before .before .before .before .args in let h = c .before .before .before .before .before .before .before .before .before .before .before .before .before .before .before .before .before .before .pre .1 .1 in let i = kind-inside (s .kinds .now) (s .n) (s .p .at) 37 (c .before .before .before .before .before .before .before .before .before .before .before .before .before .before .before .before .before .before .pre .1 .3) (lit< tt) in let b = begin-steps (flagIn (s .long .now) (s .p .at)) (s .depth) 0 h i (lit≤ tt) (c .before .before .before .before .before .before .before .before .before .before .before .before .before .before .before .before .before .begin .ensures) in let ha = stepped-asks h (b .steps) in let mu = expression-moves (c .before .before .before .before .before .before .before .before .before .before .before .before .before .before .cursor-of .ensures) (c .before .before .before .before .before .before .before .before .before .before .place-of .ensures) ha (c .before .before .before .before .before .before .before .before .before .before .before .expression .ensures .moves) in let hu = asks-place ha mu in let tb = took-steps (s .kinds .now) (s .long .now) 38 (lit< tt) hu (c .before .before .before .before .before .before .before .before .before .take .ensures) in let hb = stepped-asks hu (tb .steps) in let mt = tb .steps .moves in let mb = c .before .before .before .before .before .body .ensures .moves in let hc = asks-place hb mb in let md = c .before .else-part .ensures .moves in let hd = asks-place hc md in let t1 = took-steps (s .kinds .now) (s .long .now) 26 (lit< tt) hd (c .take2 .ensures) in let h1 = stepped-asks hd (t1 .steps) in (lit< tt, h1)
-
-if-statement-take-requires-4 : (t : ℕ) → if-statement-lts.Need-take-requires-4 (if-statement-calls t) (if-statement-at t) if-statement.Post
-if-statement-take-requires-4 t c κs = let s = c .before .before .before .before .before .before .before .before .before .before .before .before .before .before .before .before .before .before .before .args in let h = c .before .before .before .before .before .before .before .before .before .before .before .before .before .before .before .before .before .before .before .pre .1 .1 in let i = kind-inside (s .kinds .now) (s .n) (s .p .at) 37 (c .before .before .before .before .before .before .before .before .before .before .before .before .before .before .before .before .before .before .before .pre .1 .3) (lit< tt) in let b = begin-steps (flagIn (s .long .now) (s .p .at)) (s .depth) 0 h i (lit≤ tt) (c .before .before .before .before .before .before .before .before .before .before .before .before .before .before .before .before .before .before .begin .ensures) in let ha = stepped-asks h (b .steps) in let mu = expression-moves (c .before .before .before .before .before .before .before .before .before .before .before .before .before .before .before .cursor-of .ensures) (c .before .before .before .before .before .before .before .before .before .before .before .place-of .ensures) ha (c .before .before .before .before .before .before .before .before .before .before .before .before .expression .ensures .moves) in let hu = asks-place ha mu in let tb = took-steps (s .kinds .now) (s .long .now) 38 (lit< tt) hu (c .before .before .before .before .before .before .before .before .before .before .take .ensures) in let hb = stepped-asks hu (tb .steps) in let mt = tb .steps .moves in let mb = c .before .before .before .before .before .before .body .ensures .moves in let hc = asks-place hb mb in let md = c .before .before .else-part .ensures .moves in let hd = asks-place hc md in let t1 = took-steps (s .kinds .now) (s .long .now) 26 (lit< tt) hd (c .before .take2 .ensures) in let h1 = stepped-asks hd (t1 .steps) in let t2 = took-steps (s .kinds .now) (s .long .now) 37 (lit< tt) h1 (c .take3 .ensures) in let h2 = stepped-asks h1 (t2 .steps) in (lit< tt, h2)
+if-statement-end-of-requires : (t : ℕ) → if-statement-lts.Need-end-of-requires (if-statement-calls t) (if-statement-at t) if-statement.Post
+if-statement-end-of-requires t c κs = let s =
+    c .before .before .before .before .before .before .before .before .before .before .before .before .before .before .before .before .before .before .args in
+    let h = c .before .before .before .before .before .before .before .before .before .before .before .before .before .before .before .before .before .before .pre .1 .1 in let i = kind-inside (s .kinds .now) (s .n) (s .p .cursor .at) 37 (c .before .before .before .before .before .before .before .before .before .before .before .before .before .before .before .before .before .before .pre .1 .3) (lit< tt) in let b = begin-steps (flagIn (s .long .now) (s .p .cursor .at)) (s .depth) 0 h i (lit≤ tt) (c .before .before .before .before .before .before .before .before .before .before .before .before .before .before .before .before .begin .ensures) in let ha = stepped-asks h (b .steps) in let mu = expression-moves ha (c .before .before .before .before .before .before .before .before .before .before .expression .ensures .moves) in let hu = asks-listing ha mu in let tb = took-steps (s .kinds .now) (s .long .now) 38 (lit< tt) hu (c .before .before .before .before .before .before .before .before .before .expect .ensures) in let hb = stepped-asks hu (tb .steps) in let mt = tb .steps .moves in let mb = c .before .before .before .before .before .body .ensures .moves in let hc = asks-listing hb mb in let md = c .before .else-part .ensures .moves in let hd = asks-listing hc md in (lit< tt, cursor-asks hd)
 
 if-statement-finish-requires : (t : ℕ) → if-statement-lts.Need-finish-requires (if-statement-calls t) (if-statement-at t) if-statement.Post
-if-statement-finish-requires t c κs = let s = c .before .before .before .before .before .before .before .before .before .before .before .before .before .before .before .before .before .before .before .before .before .args in let h = c .before .before .before .before .before .before .before .before .before .before .before .before .before .before .before .before .before .before .before .before .before .pre .1 .1 in let i = kind-inside (s .kinds .now) (s .n) (s .p .at) 37 (c .before .before .before .before .before .before .before .before .before .before .before .before .before .before .before .before .before .before .before .before .before .pre .1 .3) (lit< tt) in let b = begin-steps (flagIn (s .long .now) (s .p .at)) (s .depth) 0 h i (lit≤ tt) (c .before .before .before .before .before .before .before .before .before .before .before .before .before .before .before .before .before .before .before .before .begin .ensures) in let ha = stepped-asks h (b .steps) in let one = b .one (c .before .before .before .before .before .before .before .before .before .before .before .before .before .before .before .before .before .before .if1 .left) in let dp = begin-depth (s .p) (flagIn (s .long .now) (s .p .at)) (s .depth) 0 (c .before .before .before .before .before .before .before .before .before .before .before .before .before .before .before .before .before .before .before .before .begin .ensures) (c .before .before .before .before .before .before .before .before .before .before .before .before .before .before .before .before .before .before .if1 .left) in let mu = expression-moves (c .before .before .before .before .before .before .before .before .before .before .before .before .before .before .before .before .before .cursor-of .ensures) (c .before .before .before .before .before .before .before .before .before .before .before .before .before .place-of .ensures) ha (c .before .before .before .before .before .before .before .before .before .before .before .before .before .before .expression .ensures .moves) in let hu = asks-place ha mu in let tb = took-steps (s .kinds .now) (s .long .now) 38 (lit< tt) hu (c .before .before .before .before .before .before .before .before .before .before .before .before .take .ensures) in let hb = stepped-asks hu (tb .steps) in let mt = tb .steps .moves in let mb = c .before .before .before .before .before .before .before .before .body .ensures .moves in let hc = asks-place hb mb in let md = c .before .before .before .before .else-part .ensures .moves in let hd = asks-place hc md in let en = ap (λ (x : Place). x .n) (c .before .before .before .before .before .before .before .before .before .before .before .before .before .place-of .ensures) in let ms = b .steps .moves in ((λ z. omega arith), (omega arith))
+if-statement-finish-requires t c κs = let s =
+    c .before .before .before .before .before .before .before .before .before .before .before .before .before .before .before .before .before .before .before .before .args in let h = c .before .before .before .before .before .before .before .before .before .before .before .before .before .before .before .before .before .before .before .before .pre .1 .1 in let i = kind-inside (s .kinds .now) (s .n) (s .p .cursor .at) 37 (c .before .before .before .before .before .before .before .before .before .before .before .before .before .before .before .before .before .before .before .before .pre .1 .3) (lit< tt) in let b = begin-steps (flagIn (s .long .now) (s .p .cursor .at)) (s .depth) 0 h i (lit≤ tt) (c .before .before .before .before .before .before .before .before .before .before .before .before .before .before .before .before .before .before .begin .ensures) in let ha = stepped-asks h (b .steps) in let mu = expression-moves ha (c .before .before .before .before .before .before .before .before .before .before .before .before .expression .ensures .moves) in let hu = asks-listing ha mu in let tb = took-steps (s .kinds .now) (s .long .now) 38 (lit< tt) hu (c .before .before .before .before .before .before .before .before .before .before .before .expect .ensures) in let hb = stepped-asks hu (tb .steps) in let mt = tb .steps .moves in let mb = c .before .before .before .before .before .before .before .body .ensures .moves in let hc = asks-listing hb mb in let md = c .before .before .before .else-part .ensures .moves in let hd = asks-listing hc md in let one = b .one (c .before .before .before .before .before .before .before .before .before .before .before .before .before .before .before .if1 .left) in let dp = begin-depth (s .p) (flagIn (s .long .now) (s .p .cursor .at)) (s .depth) 0 (c .before .before .before .before .before .before .before .before .before .before .before .before .before .before .before .before .before .before .begin .ensures) (c .before .before .before .before .before .before .before .before .before .before .before .before .before .before .before .if1 .left) in let ms = b .steps .moves in ((λ z. omega arith), (omega arith))
 
 if-statement-returns-2 : (t : ℕ) → if-statement-lts.Need-returns-2 (if-statement-calls t) (if-statement-at t) if-statement.Post
-if-statement-returns-2 t c = if-read (c .before .before .before .before .before .before .before .before .before .before .before .before .before .before .before .before .before .before .before .before .before .before .pre .1 .1) (c .before .before .before .before .before .before .before .before .before .before .before .before .before .before .before .before .before .before .before .before .before .before .pre .1 .3) (c .before .before .before .before .before .before .before .before .before .before .before .before .before .before .before .before .before .before .before .before .before .begin .ensures) (c .before .before .before .before .before .before .before .before .before .before .before .before .before .before .before .before .before .before .cursor-of .ensures) (c .before .before .before .before .before .before .before .before .before .before .before .before .before .before .before .expression .ensures) (c .before .before .before .before .before .before .before .before .before .before .before .before .before .before .place-of .ensures) (c .before .before .before .before .before .before .before .before .before .before .before .before .before .take .ensures) (c .before .before .before .before .before .before .before .before .before .body .ensures) (c .before .before .before .before .before .else-part .ensures) (c .before .before .before .before .take2 .ensures) (c .before .before .before .take3 .ensures) (c .before .before .take4 .ensures) (c .finish .ensures)
+if-statement-returns-2 t c = if-read (c .before .before .before .before .before .before .before .before .before .before .before .before .before .before .before .before .before .before .before .before .before .pre .1 .1) (c .before .before .before .before .before .before .before .before .before .before .before .before .before .before .before .before .before .before .before .before .before .pre .1 .3) (c .before .before .before .before .before .before .before .before .before .before .before .before .before .before .before .before .before .before .before .begin .ensures) (c .before .before .before .before .before .before .before .before .before .before .before .before .before .expression .ensures) (c .before .before .before .before .before .before .before .before .before .before .before .before .expect .ensures) (c .before .before .before .before .before .before .before .before .body .ensures) (c .before .before .before .before .else-part .ensures) refl refl (c .before .before .end-of .ensures) (c .finish .ensures)
 
 statement-returns : (t : ℕ) → statement-lts.Need-returns (statement-calls t) (statement-at t) statement′.Post
-statement-returns t c = statement-stays _ (c .before .before .pre .1 .1) (c .if1 .taken)
+statement-returns t c = statement-stays _ (c .before .before .before .pre .1 .1) (c .if1 .taken)
 
 statement-assignment-requires : (t : ℕ) → statement-lts.Need-assignment-requires (statement-calls t) (statement-at t) statement′.Post
-statement-assignment-requires t c κs = let e = c .before .before .before .before .kind-at .ensures in let h = c .before .before .before .before .before .before .before .pre .1 .1 in omega arith
+statement-assignment-requires t c κs = let e = c .before .before .before .before .kind-at .ensures in
+    let h = c .before .before .before .before .before .before .before .before .pre .1 .1 in omega arith
 
 statement-returns-2 : (t : ℕ) → statement-lts.Need-returns-2 (statement-calls t) (statement-at t) statement′.Post
 statement-returns-2 t c = c .assignment .ensures
 
 statement-null-statement-requires : (t : ℕ) → statement-lts.Need-null-statement-requires (statement-calls t) (statement-at t) statement′.Post
-statement-null-statement-requires t c κs = let e = c .before .before .before .kind-at .ensures in let h = c .before .before .before .before .before .before .pre .1 .1 in omega arith
+statement-null-statement-requires t c κs = let e = c .before .before .before .kind-at .ensures in
+    let h = c .before .before .before .before .before .before .before .pre .1 .1 in omega arith
 
 statement-returns-3 : (t : ℕ) → statement-lts.Need-returns-3 (statement-calls t) (statement-at t) statement′.Post
 statement-returns-3 t c = c .null-statement .ensures _
 
 statement-wait-statement-requires : (t : ℕ) → statement-lts.Need-wait-statement-requires (statement-calls t) (statement-at t) statement′.Post
-statement-wait-statement-requires t c κs = let e = c .before .before .before .before .kind-at .ensures in let h = c .before .before .before .before .before .before .before .pre .1 .1 in omega arith
+statement-wait-statement-requires t c κs = let e = c .before .before .before .before .kind-at .ensures in
+    let h = c .before .before .before .before .before .before .before .before .pre .1 .1 in omega arith
 
 statement-returns-4 : (t : ℕ) → statement-lts.Need-returns-4 (statement-calls t) (statement-at t) statement′.Post
 statement-returns-4 t c = c .wait-statement .ensures _
 
 statement-if-statement-requires : (t : ℕ) → statement-lts.Need-if-statement-requires (statement-calls t) (statement-at t) statement′.Post
-statement-if-statement-requires t c κs = let e = c .before .before .before .before .before .before .before .kind-at .ensures in let h = c .before .before .before .before .before .before .before .before .before .before .pre .1 .1 in omega arith
+statement-if-statement-requires t c κs = let e = c .before .before .before .before .before .before .before .kind-at .ensures in
+    let h = c .before .before .before .before .before .before .before .before .before .before .before .pre .1 .1 in omega arith
 
 statement-returns-5 : (t : ℕ) → statement-lts.Need-returns-5 (statement-calls t) (statement-at t) statement′.Post
 statement-returns-5 t c = c .if-statement .ensures
 
 statement-while-statement-requires : (t : ℕ) → statement-lts.Need-while-statement-requires (statement-calls t) (statement-at t) statement′.Post
-statement-while-statement-requires t c κs = let e = c .before .before .before .before .before .before .before .before .kind-at .ensures in let h = c .before .before .before .before .before .before .before .before .before .before .before .pre .1 .1 in omega arith
+statement-while-statement-requires t c κs = let e = c .before .before .before .before .before .before .before .before .kind-at .ensures in
+    let h = c .before .before .before .before .before .before .before .before .before .before .before .before .pre .1 .1 in omega arith
 
 statement-returns-6 : (t : ℕ) → statement-lts.Need-returns-6 (statement-calls t) (statement-at t) statement′.Post
 statement-returns-6 t c = c .while-statement .ensures
 
 statement-returns-7 : (t : ℕ) → statement-lts.Need-returns-7 (statement-calls t) (statement-at t) statement′.Post
-statement-returns-7 t c = rw (c .refuse .ensures) (statement-refused _ (c .before .before .before .before .before .before .kind-at .result) (c .before .before .before .before .before .before .before .before .before .pre .1 .1) (c .before .before .before .before .before .before .before .if1 .left) (sym (c .before .before .before .before .before .before .kind-at .ensures)) (c .before .before .before .before .before .if2 .left) (c .before .before .before .before .if3 .left) (c .before .before .before .if4 .left) (c .before .before .if5 .left) (c .before .if6 .left))
+statement-returns-7 t c = rw (c .halted .ensures)
+    (statement-refused _ (c .before .before .before .before .before .before .kind-at .result)
+    (c .before .before .before .before .before .before .before .before .before .before .pre .1 .1)
+    (c .before .before .before .before .before .before .before .if1 .left) (sym (c .before .before .before .before .before .before .kind-at .ensures))
+    (c .before .before .before .before .before .if2 .left) (c .before .before .before .before .if3 .left) (c .before .before .before .if4 .left)
+    (c .before .before .if5 .left) (c .before .if6 .left))
 
 while-statement-begin-requires : (t : ℕ) → while-statement-lts.Need-begin-requires (while-statement-calls t) (while-statement-at t) while-statement.Post
-while-statement-begin-requires t c κs = let s = c .args in let h = c .pre .1 .1 in let i = kind-inside (s .kinds .now) (s .n) (s .p .at) 40 (c .pre .1 .3) (lit< tt) in omega arith
+while-statement-begin-requires t c κs = let s = c .before .args in let h = c .before .pre .1 .1 in
+    let i = kind-inside (s .kinds .now) (s .n) (s .p .cursor .at) 40 (c .before .pre .1 .3) (lit< tt) in omega arith
 
 while-statement-returns : (t : ℕ) → while-statement-lts.Need-returns (while-statement-calls t) (while-statement-at t) while-statement.Post
-while-statement-returns t c = nested-refused _ 40 (c .before .before .before .pre .1 .1) (inr refl) (c .before .before .before .pre .1 .3) (c .before .before .begin .ensures) (c .if1 .taken)
+while-statement-returns t c = nested-refused _ 40 (c .before .before .before .before .before .pre .1 .1) (inr refl)
+    (c .before .before .before .before .before .pre .1 .3) (c .before .before .before .begin .ensures) (c .if1 .taken)
 
-while-statement-expression-requires : (t : ℕ) → while-statement-lts.Need-expression-requires (while-statement-calls t) (while-statement-at t) while-statement.Post
-while-statement-expression-requires t c κs = let s = c .before .before .before .before .before .before .args in let h = c .before .before .before .before .before .before .pre .1 .1 in let i = kind-inside (s .kinds .now) (s .n) (s .p .at) 40 (c .before .before .before .before .before .before .pre .1 .3) (lit< tt) in let b = begin-steps (flagIn (s .long .now) (s .p .at)) (s .depth) 0 h i (lit≤ tt) (c .before .before .before .before .before .begin .ensures) in let ha = stepped-asks h (b .steps) in rw (c .before .before .cursor-of .ensures) (omega arith)
+while-statement-expression-requires : (t : ℕ)
+    → while-statement-lts.Need-expression-requires (while-statement-calls t) (while-statement-at t) while-statement.Post
+while-statement-expression-requires t c κs = let s = c .before .before .before .before .before .before .before .args in
+    let h = c .before .before .before .before .before .before .before .pre .1 .1 in
+    let i = kind-inside (s .kinds .now) (s .n) (s .p .cursor .at) 40 (c .before .before .before .before .before .before .before .pre .1 .3) (lit< tt) in
+    let b = begin-steps (flagIn (s .long .now) (s .p .cursor .at)) (s .depth) 0 h i (lit≤ tt) (c .before .before .before .before .before .begin .ensures) in
+    let ha = stepped-asks h (b .steps) in (lit≤ tt, cursor-asks ha)
 
-while-statement-take-requires : (t : ℕ) → while-statement-lts.Need-take-requires (while-statement-calls t) (while-statement-at t) while-statement.Post
-while-statement-take-requires t c κs = let s = c .before .before .before .before .before .before .before .before .args in let h = c .before .before .before .before .before .before .before .before .pre .1 .1 in let i = kind-inside (s .kinds .now) (s .n) (s .p .at) 40 (c .before .before .before .before .before .before .before .before .pre .1 .3) (lit< tt) in let b = begin-steps (flagIn (s .long .now) (s .p .at)) (s .depth) 0 h i (lit≤ tt) (c .before .before .before .before .before .before .before .begin .ensures) in let ha = stepped-asks h (b .steps) in let mu = expression-moves (c .before .before .before .before .cursor-of .ensures) (c .place-of .ensures) ha (c .before .expression .ensures .moves) in let hu = asks-place ha mu in (lit< tt, hu)
+while-statement-expect-requires : (t : ℕ) → while-statement-lts.Need-expect-requires (while-statement-calls t) (while-statement-at t) while-statement.Post
+while-statement-expect-requires t c κs = let s = c .before .before .before .before .before .before .before .before .args in
+    let h = c .before .before .before .before .before .before .before .before .pre .1 .1 in
+    let i = kind-inside (s .kinds .now) (s .n) (s .p .cursor .at) 40 (c .before .before .before .before .before .before .before .before .pre .1 .3) (lit< tt) in
+    let b = begin-steps (flagIn (s .long .now) (s .p .cursor .at)) (s .depth) 0 h i (lit≤ tt)
+    (c .before .before .before .before .before .before .begin .ensures) in let ha = stepped-asks h (b .steps) in
+    let mu = expression-moves ha (c .expression .ensures .moves) in let hu = asks-listing ha mu in (lit< tt, cursor-asks hu)
 
 while-statement-add-body : (t : ℕ) → while-statement-lts.Need-add-body (while-statement-calls t) (while-statement-at t) while-statement.Post
 while-statement-add-body t c = let d = c .before .before .before .before .before .before .before .before .before .pre .1 .0 in omega arith
 
 while-statement-body-requires : (t : ℕ) → while-statement-lts.Need-body-requires (while-statement-calls t) (while-statement-at t) while-statement.Post
-while-statement-body-requires t c κs = let s = c .before .before .before .before .before .before .before .before .before .before .before .before .args in let h = c .before .before .before .before .before .before .before .before .before .before .before .before .pre .1 .1 in let i = kind-inside (s .kinds .now) (s .n) (s .p .at) 40 (c .before .before .before .before .before .before .before .before .before .before .before .before .pre .1 .3) (lit< tt) in let b = begin-steps (flagIn (s .long .now) (s .p .at)) (s .depth) 0 h i (lit≤ tt) (c .before .before .before .before .before .before .before .before .before .before .before .begin .ensures) in let ha = stepped-asks h (b .steps) in let one = b .one (c .before .before .before .before .before .before .before .before .before .if1 .left) in let dp = begin-depth (s .p) (flagIn (s .long .now) (s .p .at)) (s .depth) 0 (c .before .before .before .before .before .before .before .before .before .before .before .begin .ensures) (c .before .before .before .before .before .before .before .before .before .if1 .left) in let mu = expression-moves (c .before .before .before .before .before .before .before .before .cursor-of .ensures) (c .before .before .before .before .place-of .ensures) ha (c .before .before .before .before .before .expression .ensures .moves) in let hu = asks-place ha mu in let tb = took-steps (s .kinds .now) (s .long .now) 41 (lit< tt) hu (c .before .before .before .take .ensures) in let hb = stepped-asks hu (tb .steps) in let mt = tb .steps .moves in let t0 = c .before .before .before .before .before .before .before .before .before .before .before .before .pre .0 in (omega arith, (omega arith, hb))
+while-statement-body-requires t c κs = let s = c .before .before .before .before .before .before .before .before .before .before .before .before .args in
+    let h = c .before .before .before .before .before .before .before .before .before .before .before .before .pre .1 .1 in
+    let i = kind-inside (s .kinds .now) (s .n) (s .p .cursor .at) 40
+    (c .before .before .before .before .before .before .before .before .before .before .before .before .pre .1 .3) (lit< tt) in
+    let b = begin-steps (flagIn (s .long .now) (s .p .cursor .at)) (s .depth) 0 h i (lit≤ tt)
+    (c .before .before .before .before .before .before .before .before .before .before .begin .ensures) in let ha = stepped-asks h (b .steps) in
+    let mu = expression-moves ha (c .before .before .before .before .expression .ensures .moves) in let hu = asks-listing ha mu in
+    let tb = took-steps (s .kinds .now) (s .long .now) 41 (lit< tt) hu (c .before .before .before .expect .ensures) in let hb = stepped-asks hu (tb .steps) in
+    let mt = tb .steps .moves in let one = b .one (c .before .before .before .before .before .before .before .if1 .left) in
+    let dp = begin-depth (s .p) (flagIn (s .long .now) (s .p .cursor .at)) (s .depth) 0
+    (c .before .before .before .before .before .before .before .before .before .before .begin .ensures)
+    (c .before .before .before .before .before .before .before .if1 .left) in
+    let t0 = c .before .before .before .before .before .before .before .before .before .before .before .before .pre .0 in (omega arith, (omega arith, hb))
 
-while-statement-take-requires-2 : (t : ℕ) → while-statement-lts.Need-take-requires-2 (while-statement-calls t) (while-statement-at t) while-statement.Post
-while-statement-take-requires-2 t c κs = let s = c .before .before .before .before .before .before .before .before .before .before .before .before .before .args in let h = c .before .before .before .before .before .before .before .before .before .before .before .before .before .pre .1 .1 in let i = kind-inside (s .kinds .now) (s .n) (s .p .at) 40 (c .before .before .before .before .before .before .before .before .before .before .before .before .before .pre .1 .3) (lit< tt) in let b = begin-steps (flagIn (s .long .now) (s .p .at)) (s .depth) 0 h i (lit≤ tt) (c .before .before .before .before .before .before .before .before .before .before .before .before .begin .ensures) in let ha = stepped-asks h (b .steps) in let mu = expression-moves (c .before .before .before .before .before .before .before .before .before .cursor-of .ensures) (c .before .before .before .before .before .place-of .ensures) ha (c .before .before .before .before .before .before .expression .ensures .moves) in let hu = asks-place ha mu in let tb = took-steps (s .kinds .now) (s .long .now) 41 (lit< tt) hu (c .before .before .before .before .take .ensures) in let hb = stepped-asks hu (tb .steps) in let mt = tb .steps .moves in let mb = c .body .ensures .moves in let hc = asks-place hb mb in (lit< tt, hc)
-
-while-statement-take-requires-3 : (t : ℕ) → while-statement-lts.Need-take-requires-3 (while-statement-calls t) (while-statement-at t) while-statement.Post
-while-statement-take-requires-3 t c κs = let s = c .before .before .before .before .before .before .before .before .before .before .before .before .before .before .args in let h = c .before .before .before .before .before .before .before .before .before .before .before .before .before .before .pre .1 .1 in let i = kind-inside (s .kinds .now) (s .n) (s .p .at) 40 (c .before .before .before .before .before .before .before .before .before .before .before .before .before .before .pre .1 .3) (lit< tt) in let b = begin-steps (flagIn (s .long .now) (s .p .at)) (s .depth) 0 h i (lit≤ tt) (c .before .before .before .before .before .before .before .before .before .before .before .before .before .begin .ensures) in let ha = stepped-asks h (b .steps) in let mu = expression-moves (c .before .before .before .before .before .before .before .before .before .before .cursor-of .ensures) (c .before .before .before .before .before .before .place-of .ensures) ha (c .before .before .before .before .before .before .before .expression .ensures .moves) in let hu = asks-place ha mu in let tb = took-steps (s .kinds .now) (s .long .now) 41 (lit< tt) hu (c .before .before .before .before .before .take .ensures) in let hb = stepped-asks hu (tb .steps) in let mt = tb .steps .moves in let mb = c .before .body .ensures .moves in let hc = asks-place hb mb in let t1 = took-steps (s .kinds .now) (s .long .now) _ (lit< tt) hc (c .take2 .ensures) in let h1 = stepped-asks hc (t1 .steps) in (lit< tt, h1)
-
-while-statement-take-requires-4 : (t : ℕ) → while-statement-lts.Need-take-requires-4 (while-statement-calls t) (while-statement-at t) while-statement.Post
-while-statement-take-requires-4 t c κs = let s = c .before .before .before .before .before .before .before .before .before .before .before .before .before .before .before .args in let h = c .before .before .before .before .before .before .before .before .before .before .before .before .before .before .before .pre .1 .1 in let i = kind-inside (s .kinds .now) (s .n) (s .p .at) 40 (c .before .before .before .before .before .before .before .before .before .before .before .before .before .before .before .pre .1 .3) (lit< tt) in let b = begin-steps (flagIn (s .long .now) (s .p .at)) (s .depth) 0 h i (lit≤ tt) (c .before .before .before .before .before .before .before .before .before .before .before .before .before .before .begin .ensures) in let ha = stepped-asks h (b .steps) in let mu = expression-moves (c .before .before .before .before .before .before .before .before .before .before .before .cursor-of .ensures) (c .before .before .before .before .before .before .before .place-of .ensures) ha (c .before .before .before .before .before .before .before .before .expression .ensures .moves) in let hu = asks-place ha mu in let tb = took-steps (s .kinds .now) (s .long .now) 41 (lit< tt) hu (c .before .before .before .before .before .before .take .ensures) in let hb = stepped-asks hu (tb .steps) in let mt = tb .steps .moves in let mb = c .before .before .body .ensures .moves in let hc = asks-place hb mb in let t1 = took-steps (s .kinds .now) (s .long .now) _ (lit< tt) hc (c .before .take2 .ensures) in let h1 = stepped-asks hc (t1 .steps) in let t2 = took-steps (s .kinds .now) (s .long .now) 41 (lit< tt) h1 (c .take3 .ensures) in let h2 = stepped-asks h1 (t2 .steps) in (lit< tt, h2)
+while-statement-end-of-requires : (t : ℕ) → while-statement-lts.Need-end-of-requires (while-statement-calls t) (while-statement-at t) while-statement.Post
+while-statement-end-of-requires t c κs = let s =
+    c .before .before .before .before .before .before .before .before .before .before .before .before .before .before .args in
+    let h = c .before .before .before .before .before .before .before .before .before .before .before .before .before .before .pre .1 .1 in
+    let i = kind-inside (s .kinds .now) (s .n) (s .p .cursor .at) 40
+    (c .before .before .before .before .before .before .before .before .before .before .before .before .before .before .pre .1 .3) (lit< tt) in
+    let b = begin-steps (flagIn (s .long .now) (s .p .cursor .at)) (s .depth) 0 h i (lit≤ tt)
+    (c .before .before .before .before .before .before .before .before .before .before .before .before .begin .ensures) in
+    let ha = stepped-asks h (b .steps) in let mu = expression-moves ha (c .before .before .before .before .before .before .expression .ensures .moves) in
+    let hu = asks-listing ha mu in let tb = took-steps (s .kinds .now) (s .long .now) 41 (lit< tt) hu
+    (c .before .before .before .before .before .expect .ensures) in let hb = stepped-asks hu (tb .steps) in let mt = tb .steps .moves in
+    let mb = c .before .body .ensures .moves in let hc = asks-listing hb mb in (lit< tt, cursor-asks hc)
 
 while-statement-finish-requires : (t : ℕ) → while-statement-lts.Need-finish-requires (while-statement-calls t) (while-statement-at t) while-statement.Post
-while-statement-finish-requires t c κs = let s = c .before .before .before .before .before .before .before .before .before .before .before .before .before .before .before .before .before .args in let h = c .before .before .before .before .before .before .before .before .before .before .before .before .before .before .before .before .before .pre .1 .1 in let i = kind-inside (s .kinds .now) (s .n) (s .p .at) 40 (c .before .before .before .before .before .before .before .before .before .before .before .before .before .before .before .before .before .pre .1 .3) (lit< tt) in let b = begin-steps (flagIn (s .long .now) (s .p .at)) (s .depth) 0 h i (lit≤ tt) (c .before .before .before .before .before .before .before .before .before .before .before .before .before .before .before .before .begin .ensures) in let ha = stepped-asks h (b .steps) in let one = b .one (c .before .before .before .before .before .before .before .before .before .before .before .before .before .before .if1 .left) in let dp = begin-depth (s .p) (flagIn (s .long .now) (s .p .at)) (s .depth) 0 (c .before .before .before .before .before .before .before .before .before .before .before .before .before .before .before .before .begin .ensures) (c .before .before .before .before .before .before .before .before .before .before .before .before .before .before .if1 .left) in let mu = expression-moves (c .before .before .before .before .before .before .before .before .before .before .before .before .before .cursor-of .ensures) (c .before .before .before .before .before .before .before .before .before .place-of .ensures) ha (c .before .before .before .before .before .before .before .before .before .before .expression .ensures .moves) in let hu = asks-place ha mu in let tb = took-steps (s .kinds .now) (s .long .now) 41 (lit< tt) hu (c .before .before .before .before .before .before .before .before .take .ensures) in let hb = stepped-asks hu (tb .steps) in let mt = tb .steps .moves in let mb = c .before .before .before .before .body .ensures .moves in let hc = asks-place hb mb in let en = ap (λ (x : Place). x .n) (c .before .before .before .before .before .before .before .before .before .place-of .ensures) in let ms = b .steps .moves in ((λ z. omega arith), (omega arith))
+while-statement-finish-requires t c κs = let s =
+    c .before .before .before .before .before .before .before .before .before .before .before .before .before .before .before .before .args in
+    let h = c .before .before .before .before .before .before .before .before .before .before .before .before .before .before .before .before .pre .1 .1 in
+    let i = kind-inside (s .kinds .now) (s .n) (s .p .cursor .at) 40
+    (c .before .before .before .before .before .before .before .before .before .before .before .before .before .before .before .before .pre .1 .3)
+    (lit< tt) in let b = begin-steps (flagIn (s .long .now) (s .p .cursor .at)) (s .depth) 0 h i (lit≤ tt)
+    (c .before .before .before .before .before .before .before .before .before .before .before .before .before .before .begin .ensures) in
+    let ha = stepped-asks h (b .steps) in let mu =
+    expression-moves ha (c .before .before .before .before .before .before .before .before .expression .ensures .moves) in let hu = asks-listing ha mu in
+    let tb = took-steps (s .kinds .now) (s .long .now) 41 (lit< tt) hu (c .before .before .before .before .before .before .before .expect .ensures) in
+    let hb = stepped-asks hu (tb .steps) in let mt = tb .steps .moves in let mb = c .before .before .before .body .ensures .moves in
+    let hc = asks-listing hb mb in let one =
+    b .one (c .before .before .before .before .before .before .before .before .before .before .before .if1 .left) in
+    let dp = begin-depth (s .p) (flagIn (s .long .now) (s .p .cursor .at)) (s .depth) 0
+    (c .before .before .before .before .before .before .before .before .before .before .before .before .before .before .begin .ensures)
+    (c .before .before .before .before .before .before .before .before .before .before .before .if1 .left) in let ms = b .steps .moves in
+    ((λ z. omega arith), (omega arith))
 
 while-statement-returns-2 : (t : ℕ) → while-statement-lts.Need-returns-2 (while-statement-calls t) (while-statement-at t) while-statement.Post
-while-statement-returns-2 t c = while-read (c .before .before .before .before .before .before .before .before .before .before .before .before .before .before .before .before .before .before .pre .1 .1) (c .before .before .before .before .before .before .before .before .before .before .before .before .before .before .before .before .before .before .pre .1 .3) (c .before .before .before .before .before .before .before .before .before .before .before .before .before .before .before .before .before .begin .ensures) (c .before .before .before .before .before .before .before .before .before .before .before .before .before .before .cursor-of .ensures) (c .before .before .before .before .before .before .before .before .before .before .before .expression .ensures) (c .before .before .before .before .before .before .before .before .before .before .place-of .ensures) (c .before .before .before .before .before .before .before .before .before .take .ensures) (c .before .before .before .before .before .body .ensures) (c .before .before .before .before .take2 .ensures) (c .before .before .before .take3 .ensures) (c .before .before .take4 .ensures) (c .finish .ensures)
+while-statement-returns-2 t c = while-read
+    (c .before .before .before .before .before .before .before .before .before .before .before .before .before .before .before .before .before .pre .1 .1)
+    (c .before .before .before .before .before .before .before .before .before .before .before .before .before .before .before .before .before .pre .1 .3)
+    (c .before .before .before .before .before .before .before .before .before .before .before .before .before .before .before .begin .ensures)
+    (c .before .before .before .before .before .before .before .before .before .expression .ensures)
+    (c .before .before .before .before .before .before .before .before .expect .ensures) (c .before .before .before .before .body .ensures) refl refl
+    (c .before .before .end-of .ensures) (c .finish .ensures)
 
 pub +body+else-part+if-statement+statement+while-statement-spec : {M : Type 1} → statement M
 +body+else-part+if-statement+statement+while-statement-spec =
     close μ-body μ-else-part μ-if-statement μ-statement μ-while-statement
-    (λ t. body-lts.spec (body-calls t) (body-at t) body.Post body-Inv-loop body-μ-loop (λ c κs. omega arith) (body-loop-holds t) (λ c κs. omega arith) (body-statement-requires-2 t) (body-loop-less t) (body-loop-again t) (body-returns t))
-    (λ t. else-part-lts.spec (else-part-calls t) (else-part-at t) else-part.Post (λ c κs. omega arith) (else-part-returns t) (λ c κs. omega arith) (else-part-body-requires t) (else-part-returns-2 t))
-    (λ t. if-statement-lts.spec (if-statement-calls t) (if-statement-at t) if-statement.Post (if-statement-begin-requires t) (if-statement-returns t) (λ c κs. search needs) (if-statement-expression-requires t) (λ c κs. search needs) (if-statement-take-requires t) (if-statement-add-body t) (if-statement-body-requires t) (if-statement-add-else-part t) (if-statement-else-part-requires t) (if-statement-take-requires-2 t) (if-statement-take-requires-3 t) (if-statement-take-requires-4 t) (if-statement-finish-requires t) (if-statement-returns-2 t))
-    (λ t. statement-lts.spec (statement-calls t) (statement-at t) statement′.Post (statement-returns t) (λ c κs. omega arith) (statement-assignment-requires t) (statement-returns-2 t) (statement-null-statement-requires t) (statement-returns-3 t) (statement-wait-statement-requires t) (statement-returns-4 t) (statement-if-statement-requires t) (statement-returns-5 t) (statement-while-statement-requires t) (statement-returns-6 t) (λ c κs. search needs) (statement-returns-7 t))
-    (λ t. while-statement-lts.spec (while-statement-calls t) (while-statement-at t) while-statement.Post (while-statement-begin-requires t) (while-statement-returns t) (λ c κs. search needs) (while-statement-expression-requires t) (λ c κs. search needs) (while-statement-take-requires t) (while-statement-add-body t) (while-statement-body-requires t) (while-statement-take-requires-2 t) (while-statement-take-requires-3 t) (while-statement-take-requires-4 t) (while-statement-finish-requires t) (while-statement-returns-2 t))
+    (λ t. body-lts.spec (body-calls t) (body-at t) body.Post body-Inv-loop body-μ-loop (λ c κs. omega arith) (body-loop-holds t) (λ c κs. omega arith)
+    (body-statement-requires-2 t) (body-loop-less t) (body-loop-again t) (body-returns t))
+    (λ t. else-part-lts.spec (else-part-calls t) (else-part-at t) else-part.Post (λ c κs. omega arith) (else-part-returns t) (λ c κs. omega arith)
+    (else-part-body-requires t) (else-part-returns-2 t))
+    (λ t. if-statement-lts.spec (if-statement-calls t) (if-statement-at t) if-statement.Post (if-statement-begin-requires t) (if-statement-returns t)
+    (if-statement-expression-requires t) (if-statement-expect-requires t) (if-statement-add-body t) (if-statement-body-requires t)
+    (if-statement-add-else-part t) (if-statement-else-part-requires t) (if-statement-end-of-requires t) (if-statement-finish-requires t)
+    (if-statement-returns-2 t))
+    (λ t. statement-lts.spec (statement-calls t) (statement-at t) statement′.Post (statement-returns t) (λ c κs. omega arith) (statement-assignment-requires t)
+    (statement-returns-2 t) (statement-null-statement-requires t) (statement-returns-3 t) (statement-wait-statement-requires t) (statement-returns-4 t)
+    (statement-if-statement-requires t) (statement-returns-5 t) (statement-while-statement-requires t) (statement-returns-6 t) (λ c κs. search needs)
+    (statement-returns-7 t))
+    (λ t. while-statement-lts.spec (while-statement-calls t) (while-statement-at t) while-statement.Post (while-statement-begin-requires t)
+    (while-statement-returns t) (while-statement-expression-requires t) (while-statement-expect-requires t) (while-statement-add-body t)
+    (while-statement-body-requires t) (while-statement-end-of-requires t) (while-statement-finish-requires t) (while-statement-returns-2 t))

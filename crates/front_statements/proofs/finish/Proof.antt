@@ -1,9 +1,9 @@
 -- `front_statements::finish` meets its contract: six stores, and none where the reader has refused. Assumes nothing.
-use mathlib.Core.Path.{refl, sym, _∙_, ap}
 use native.Mathlib.Omega.{arith}
 use borrow.Author.Needs.{needs}
-use borrow.Author.Tests.{eq-eqb, ne-eqb, le-leb, lt-leb, lt-ltb, le-ltb}
-use Rattle.front_statements.specs.Rows.{finishAt, setRow}
+use borrow.Author.Tests.{eq-eqb, ne-eqb}
+use Rattle.front_layout.specs.Rows.{setRow}
+use Rattle.front_statements.specs.Listings.{finishAt}
 use Rattle.front_statements.proofs.finish.Statement.{statement}
 use Rattle.front_statements.proofs.finish.Tie as tie
 
@@ -85,4 +85,7 @@ unfolding finishAt setRow
 returns-2 c = rw (eq-eqb (c .before .before .args .r .fault) 0 (c .if1 .left))
 
 pub finish-spec : {M : Type 1} → statement M
-finish-spec = tie.close (tie.spec returns mul-rows mul-rows-2 element-write-rows (λ c. search needs) mul-rows-3 add-rows mul-rows-4 element-write-rows-2 (λ c. search needs) mul-rows-5 add-rows-2 mul-rows-6 element-write-rows-3 (λ c. search needs) mul-rows-7 add-rows-3 mul-rows-8 element-write-rows-4 (λ c. search needs) mul-rows-9 add-rows-4 mul-rows-10 element-write-rows-5 (λ c. search needs) mul-rows-11 add-rows-5 mul-rows-12 element-write-rows-6 returns-2)
+finish-spec = tie.close (tie.spec returns mul-rows mul-rows-2 element-write-rows (λ c. search needs) mul-rows-3 add-rows mul-rows-4 element-write-rows-2
+    (λ c. search needs) mul-rows-5 add-rows-2 mul-rows-6 element-write-rows-3 (λ c. search needs) mul-rows-7 add-rows-3 mul-rows-8 element-write-rows-4
+    (λ c. search needs) mul-rows-9 add-rows-4 mul-rows-10 element-write-rows-5
+    (λ c. search needs) mul-rows-11 add-rows-5 mul-rows-12 element-write-rows-6 returns-2)

@@ -1,8 +1,5 @@
 -- `front_statements::row_kind` meets its contract: the test is that of `rowKind`. Assumes nothing.
-use mathlib.Core.Path.{refl, sym, _∙_, ap}
-use native.Mathlib.Omega.{arith}
-use borrow.Author.Needs.{needs}
-use borrow.Author.Tests.{eq-eqb, ne-eqb, le-leb, lt-leb, lt-ltb, le-ltb}
+use borrow.Author.Tests.{ne-eqb}
 use Rattle.front_statements.proofs.row_kind.Statement.{statement}
 use Rattle.front_statements.proofs.row_kind.Tie as tie
 

@@ -13,7 +13,8 @@ returns-2 : tie.Need-returns-2
 returns-2 c =
     let z = c .before .before .before .before .before .before .before in
     let r = c .before .before .opened2 .given .0 .0 in
-    rw (c .refused .ensures) (closed (z .args .image .now) (z .args .s) (z .args .count) (z .args .inputs .now) (z .args .outputs .now) (z .args .answers .now) r (sym (ap openTold (c .before .before .opened2 .given .1)) ∙ c .before .before .before .before .«open» .ensures))
+    rw (c .refused .ensures) (closed (z .args .image .now) (z .args .s) (z .args .count) (z .args .inputs .now) (z .args .outputs .now)
+    (z .args .answers .now) r (sym (ap openTold (c .before .before .opened2 .given .1)) ∙ c .before .before .before .before .«open» .ensures))
 
 pub cycles-spec : {M : Type 1} → statement M
 cycles-spec =

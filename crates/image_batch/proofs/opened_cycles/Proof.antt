@@ -8,18 +8,27 @@ use Rattle.image_batch.proofs.opened_cycles.Tie as tie
 returns : tie.Need-returns
 returns c =
     let z = c .before .before .before .before .before .before in
-    rw (c .refused .ensures) (not-due (z .args .image .now) (z .args .s) (z .args .count) (z .args .inputs .now) (z .args .outputs .now) (z .args .answers .now) (z .args .at) (z .pre) (c .before .before .before .widths-of .result) (c .before .before .before .widths-of .ensures) _ (c .before .before .all-due .ensures) (not-true _ (c .before .if1 .taken)))
+    rw (c .refused .ensures) (not-due (z .args .image .now) (z .args .s) (z .args .count) (z .args .inputs .now) (z .args .outputs .now) (z .args .answers .now)
+    (z .args .at) (z .pre) (c .before .before .before .widths-of .result) (c .before .before .before .widths-of .ensures) _
+    (c .before .before .all-due .ensures) (not-true _ (c .before .if1 .taken)))
 
 rows-requires : tie.Need-rows-requires
 rows-requires c κs =
     let z = c .before .before .before .before .before .before .before in
-    let l = lengths (z .args .image .now) (z .args .s) (z .args .count) (z .args .inputs .now) (z .args .outputs .now) (z .args .answers .now) (z .args .at) (z .pre) (c .before .before .before .before .widths-of .result) (c .before .before .before .before .widths-of .ensures) _ (c .before .before .before .all-due .ensures) (not-false _ (c .before .before .if1 .left)) in
-    (z .pre, l .0, l .1, l .2)
+    let l = lengths (z .args .image .now) (z .args .s) (z .args .count) (z .args .inputs .now) (z .args .outputs .now) (z .args .answers .now) (z .args .at)
+    (z .pre) (c .before .before .before .before .widths-of .result) (c .before .before .before .before .widths-of .ensures) _
+    (c .before .before .before .all-due .ensures) (not-false _ (c .before .before .if1 .left)) in
+    (z .pre, l)
 
 returns-2 : tie.Need-returns-2
 returns-2 c =
     let z = c .before .before .before .before .before .before .before .before .before .before .before .before in
-    taken (z .args .image .now) (z .args .s) (z .args .count) (z .args .inputs .now) (z .args .outputs .now) (z .args .answers .now) (z .args .at) (z .pre) (c .before .before .before .before .before .before .before .before .before .widths-of .result) (c .before .before .before .before .before .before .before .before .before .widths-of .ensures) _ (c .before .before .before .before .before .before .before .before .all-due .ensures) (not-false _ (c .before .before .before .before .before .before .before .if1 .left)) (c .before .before .before .before .rows .result) _ _ (c .before .before .before .before .rows .ensures)
+    taken (z .args .image .now) (z .args .s) (z .args .count) (z .args .inputs .now) (z .args .outputs .now) (z .args .answers .now) (z .args .at) (z .pre)
+    (c .before .before .before .before .before .before .before .before .before .widths-of .result)
+    (c .before .before .before .before .before .before .before .before .before .widths-of .ensures) _
+    (c .before .before .before .before .before .before .before .before .all-due .ensures)
+    (not-false _ (c .before .before .before .before .before .before .before .if1 .left)) (c .before .before .before .before .rows .result) _ _
+    (c .before .before .before .before .rows .ensures)
 
 pub opened-cycles-spec : {M : Type 1} → statement M
 opened-cycles-spec =

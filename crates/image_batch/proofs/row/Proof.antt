@@ -3,7 +3,7 @@ use mathlib.Core.Path.{_∙_}
 use native.Mathlib.Omega.{arith}
 use lib.ListN.{length}
 use borrow.Author.Needs.{needs, scaled-fits}
-use Rattle.spec_images.proofs.Places.{cycle-narrow}
+use Rattle.spec_simulation.proofs.Places.{cycle-narrow}
 use Rattle.image_runtime.proofs.OpenedImage.{all-bytes}
 use Rattle.image_batch.proofs.RowLaws.{steps}
 use Rattle.image_batch.proofs.row.Statement.{statement}
@@ -12,19 +12,24 @@ use Rattle.image_batch.proofs.row.Tie as tie
 cycled-requires : tie.Need-cycled-requires
 cycled-requires c κs =
     let a = c .before .before .before .before .before .before .before .before .before .before .args in
-    let h = all-bytes (a .image .now) (λ k. omega (arith, c .before .before .before .before .before .before .before .before .before .shared-slice-known .given k)) in
+    let h = all-bytes (a .image .now) (λ k. omega (
+      arith,
+      c .before .before .before .before .before .before .before .before .before .shared-slice-known .given k,
+    )) in
     cycle-narrow (a .image .now) h _ _ _ (c .before .before .cycle-opened .result .answer) (c .before .before .cycle-opened .ensures .answer)
 
 mul-put : tie.Need-mul-put
 mul-put c =
-    let z = c .before .before .before .before .before .before .before .before .before .before .before in
-    scaled-fits (z .args .p .answer) (length (z .args .answers .now)) 4 (omega (arith, z .pre .3)) (search (z .good .1 .1 .1 .1 .1 .1 .0))
+    scaled-fits (c .before .before .before .before .before .before .before .before .before .before .before .args .p .answer)
+    (length (c .before .before .before .before .before .before .before .before .before .before .before .args .answers .now)) 4
+    (omega (arith, c .before .before .before .before .before .before .before .before .before .before .before .pre .1 .answers))
+    (search (c .before .before .before .before .before .before .before .before .before .before .before .good .1 .1 .1 .1 .1 .1 .0))
 
 returns : tie.Need-returns
 returns c =
-    let z = c .before .before .before .before .before .before .before .before .before .before .before .before .before .before .before .before .before in
-    let y = c .before .before .before .before .before .before .before .before .before .cycle-opened in
-    steps (z .args .image .now) (z .args .width) (z .args .p) (z .args .inputs .now) (z .args .outputs .now) (z .args .answers .now) (y .result) _ _ _ (y .ensures) (c .before .before .before .before .put .ensures ∙ c .before .before .before .before .before .before .cycled .ensures) (c .before .is-performed .ensures) _ (c .either .ensures)
+    steps _ _ (c .before .before .before .before .before .before .before .before .before .cycle-opened .ensures)
+    (c .before .before .before .before .put .ensures ∙ c .before .before .before .before .before .before .cycled .ensures)
+    (c .before .is-performed .ensures) _ (c .either .ensures)
 
 pub row-spec : {M : Type 1} → statement M
 row-spec =

@@ -19,7 +19,8 @@ part-widths-in-end c = let p = placed (c .before .args .image .now) (c .before .
 returns : tie.Need-returns
 returns c =
     let a = c .before .before .before .args in
-    image-widths (a .image .now) (a .at) (c .before .before .before .pre) (all-bytes (a .image .now) (λ k. omega (arith, c .before .before .shared-slice-known .given k))) _ _ (c .widths-in .ensures)
+    image-widths (a .image .now) (a .at) (c .before .before .before .pre)
+    (all-bytes (a .image .now) (λ k. omega (arith, c .before .before .shared-slice-known .given k))) _ _ (c .widths-in .ensures)
 
 pub widths-of-spec : {M : Type 1} → statement M
 widths-of-spec =

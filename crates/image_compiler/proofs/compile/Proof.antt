@@ -8,19 +8,16 @@ use Rattle.image_compiler.proofs.compile.Statement.{statement}
 use Rattle.image_compiler.proofs.compile.Tie as tie
 
 returns : tie.Need-returns
-returns c = let d = design-of _ _ _ _ _ _ _ _ _ _ (c .before .before .before .before .before .before .before .before .before .before .accept .ensures (record { ops-size = refl; args-size = refl; lines-size = refl; inputs-size = refl; outputs-size = refl; variables-size = refl; at-outputs-size = refl; at-variables-size = refl })) (c .before .before .before .before .before .before .before .before .front .given .1) in let e = c .before .before .write-image .ensures (d .process) (d .holds) (d .formed) in rw (compiled-accepted d (now (c .before .before .before .before .before .before .before .before .before .before .before .before .before .before .before .before .before .before .before .before .before .args .image))) e
+returns c = let d = design-of _ (c .before .before .before .before .before .before .before .before .before .accept .result) _
+    (c .before .before .before .before .before .before .before .before .before .accept .ensures
+    (record { ops-size = refl; args-size = refl; lines-size = refl })) (c .before .before .before .before .before .before .before .enum-told .given .1) in
+    let e = c .before .before .write-image .ensures (d .process) (d .border .holds) (d .formed) in
+    rw (compiled-accepted d (c .before .before .before .before .before .before .before .before .before .before .before .before .before .before .before .args .image .now)) e
 
 returns-2 : tie.Need-returns-2
-returns-2 c = compiled-refused _ _ _ _ (c .before .before .before .accept .ensures (record { ops-size = refl; args-size = refl; lines-size = refl; inputs-size = refl; outputs-size = refl; variables-size = refl; at-outputs-size = refl; at-variables-size = refl })) (c .before .front2 .given .1)
+returns-2 c = compiled-refused _ (c .before .before .before .accept .result) _ _
+    (c .before .before .before .accept .ensures (record { ops-size = refl; args-size = refl; lines-size = refl })) (c .before .answer .given .1)
 
 pub compile-spec : {M : Type 1} → statement M
 compile-spec =
-    tie.close
-    (tie.spec
-    (λ c κs. search needs)
-    (λ c. search needs)
-    (λ c κs. search needs)
-    (λ c. search needs)
-    (λ c. search needs)
-    returns
-    returns-2)
+    tie.close (tie.spec (λ c κs. search needs) (λ c. search needs) (λ c κs. search needs) (λ c. search needs) (λ c. search needs) returns returns-2)

@@ -8,15 +8,20 @@ use Rattle.image_cycle.proofs.advance.Tie as tie
 returns : tie.Need-returns
 returns c t h =
     let a = c .before .before .before .before .before .before .before .before .before .before .args in
-    let e = c .before .before .before .before .before .before .row-place .ensures (t .signature) (opens-signature (a .signature .now) (a .lines .now) (a .code .now) t (h .opens)) in
-    let right = row-is-right t (a .s) (a .inputs .now) (a .row .now) (c .before .before .before .before .before .before .row-place .result) e (c .before .before .before .before .enum-told .given .1) in
-    row-shown t (a .s) (a .inputs .now) (a .row .now) (h .held .good) right _ _ _ (c .before .before .before .judged .ensures t (a .row .now) h right) (c .before .show .ensures .0) (c .before .show .ensures .1)
+    let e = c .before .before .before .before .before .before .row-place .ensures (t .signature)
+    (opens-signature (a .signature .now) (a .lines .now) (a .code .now) t (h .opens)) in
+    let right = row-is-right t (a .s) (a .inputs .now) (a .row .now) (c .before .before .before .before .before .before .row-place .result) e
+    (c .before .before .before .before .enum-told .given .1) in
+    row-shown t (a .s) (a .inputs .now) (a .row .now) (h .held .good) right _ _ _ (c .before .before .before .judged .ensures t (a .row .now) h right)
+    (c .before .show .ensures .0) (c .before .show .ensures .1)
 
 returns-2 : tie.Need-returns-2
 returns-2 c t h =
     let a = c .before .before .before .before .before .before .before .before .args in
-    let e = c .before .before .before .before .row-place .ensures (t .signature) (opens-signature (a .signature .now) (a .lines .now) (a .code .now) t (h .opens)) in
-    let r = row-advances t (a .s) (a .inputs .now) (a .row .now) _ (c .before .before .before .before .row-place .result) e (c .before .before .check .given .1) _ (c .refused .ensures) in
+    let e = c .before .before .before .before .row-place .ensures (t .signature)
+    (opens-signature (a .signature .now) (a .lines .now) (a .code .now) t (h .opens)) in
+    let r = row-advances t (a .s) (a .inputs .now) (a .row .now) _ (c .before .before .before .before .row-place .result) e
+    (c .before .before .check .given .1) _ (c .refused .ensures) in
     (r .answer, r .state, r .row)
 
 pub advance-spec : {M : Type 1} → statement M

@@ -5,7 +5,11 @@ use Rattle.image_cycle.proofs.show.Statement.{statement}
 use Rattle.image_cycle.proofs.show.Tie as tie
 
 returns : tie.Need-returns
-returns c = (refl, rw (sym (c .before .before .before .before .before .before .before .is-performed .ensures) ∙ c .before .before .before .before .before .before .if1 .taken) (c .before .write-row .ensures))
+returns c = (
+  refl,
+  rw (sym (c .before .before .before .before .before .before .before .is-performed .ensures)
+      ∙ c .before .before .before .before .before .before .if1 .taken) (c .before .write-row .ensures),
+)
 
 pub show-spec : {M : Type 1} → statement M
 show-spec =

@@ -14,7 +14,8 @@ returns c =
     let few = c .before .before .before .before .before .before .before .before .before .before .before .before .before .before .before .pre .1 in
     let l = length-replicate {A = ℕ} 512 0 in
     let f = c .before .before .before .before .before .before .before .before .before .before .find .ensures in
-    body-lines (a .codes .now) (a .rows .now) (a .n) (a .at) (links (replicate 512 0) (replicate 512 0)) _ (replicate 512 0) _ (a .image .now) _ (omega arith) (omega arith) (omega arith) (f .followed few) (f .reached few) (c .before .before .put-lines .ensures)
+    body-lines (a .codes .now) (a .rows .now) (a .n) (a .at) (links (replicate 512 0) (replicate 512 0)) _ (replicate 512 0) _ (a .image .now) _ (omega arith)
+    (omega arith) (omega arith) (f .followed few) (f .reached few) (c .before .before .put-lines .ensures)
 
 pub put-body-spec : {M : Type 1} → statement M
 put-body-spec =

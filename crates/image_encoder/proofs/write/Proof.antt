@@ -6,13 +6,17 @@ use Rattle.image_encoder.proofs.write.Statement.{statement}
 use Rattle.image_encoder.proofs.write.Tie as tie
 
 write-counted-requires : tie.Need-write-counted-requires
-write-counted-requires c κs = counts-bounds (c .before .before .before .before .before .before .before .args .k) (c .before .before .before .before .before .before .before .args .n) (c .before .before .before .before .before .before .before .args .i) (c .before .before .before .before .before .before .before .args .o) (c .before .before .before .before .before .before .before .args .v) (sym (c .before .before .within .ensures) ∙ c .before .if1 .taken)
+write-counted-requires c κs = counts-bounds (c .before .before .before .before .args .d) (sym (c .before .before .within .ensures) ∙ c .before .if1 .taken)
 
 returns : tie.Need-returns
-returns c = (c .before .before .write-counted .ensures, λ h. no-count (sym (c .before .before .before .before .before .within .ensures) ∙ c .before .before .before .before .if1 .taken) h)
+returns c = (
+  c .before .before .write-counted .ensures,
+  λ h. no-count
+      (sym (c .before .before .before .before .before .within .ensures) ∙ c .before .before .before .before .if1 .taken) h,
+)
 
 returns-2 : tie.Need-returns-2
-returns-2 c = (λ p b m w. no-count (counts-held (c .before .before .before .before .before .before .args .k) (c .before .before .before .before .before .before .args .n) (c .before .before .before .before .before .before .args .i) (c .before .before .before .before .before .before .args .o) (c .before .before .before .before .before .before .args .v) b m w) (sym (c .before .within .ensures) ∙ c .if1 .left), λ h. (refl, refl))
+returns-2 c = (λ p h w. no-count (counts-held (c .before .before .before .args .d) h w) (sym (c .before .within .ensures) ∙ c .if1 .left), λ h. (refl, refl))
 
 pub write-spec : {M : Type 1} → statement M
 write-spec = tie.close (tie.spec (λ c κs. search needs) write-counted-requires (λ c. search needs) returns returns-2)

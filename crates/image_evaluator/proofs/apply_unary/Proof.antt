@@ -18,7 +18,8 @@ use Rattle.image_evaluator.proofs.apply_unary.Tie as tie
 returns : tie.Need-returns
 returns c =
     let s = c .before .args in
-    stopped (s .stack .now) (s .tags .now) (s .depth) 13 (c .before .pre) (unary-short (s .stack .now) (s .tags .now) (s .depth) (s .at) (unaryFor (s .op)) (c .if1 .taken))
+    stopped (s .stack .now) (s .tags .now) (s .depth) 13 (c .before .pre)
+    (unary-short (s .stack .now) (s .tags .now) (s .depth) (s .at) (unaryFor (s .op)) (c .if1 .taken))
 
 returns-2 : tie.Need-returns-2
 returns-2 c =
@@ -27,9 +28,11 @@ returns-2 c =
     let a = s .stack .now in
     let t = s .tags .now in
     let i = s .depth - 1 in
-    halted (unaryOn (s .op) (getD t i 0) (getD a i (pos 0))) a t i (resultFor (s .op) (getD t i 0)) (s .at) (unaryOf (unaryFor (s .op)) (typeOn (getD t i 0), getD a i (pos 0)))
+    halted (unaryOn (s .op) (getD t i 0) (getD a i (pos 0))) a t i (resultFor (s .op) (getD t i 0)) (s .at)
+    (unaryOf (unaryFor (s .op)) (typeOn (getD t i 0), getD a i (pos 0)))
     (unary-more a t (s .depth) (s .at) (unaryFor (s .op)) (c .before .before .before .before .if1 .left))
-    (unary-told (s .op) (getD t i 0) (resultFor (s .op) (getD t i 0)) (typeOn (getD t i 0)) (getD a i (pos 0)) (m .kinds i (omega (arith, c .before .before .before .before .if1 .left))) refl)
+    (unary-told (s .op) (getD t i 0) (resultFor (s .op) (getD t i 0)) (typeOn (getD t i 0)) (getD a i (pos 0))
+    (m .kinds i (omega (arith, c .before .before .before .before .if1 .left))) refl)
     (c .before .apply-unary .ensures) (c .if2 .taken) (room-less (s .depth) i (omega arith) m)
 
 returns-3 : tie.Need-returns-3
@@ -39,9 +42,11 @@ returns-3 c =
     let a = s .stack .now in
     let t = s .tags .now in
     let i = s .depth - 1 in
-    went (unaryOn (s .op) (getD t i 0) (getD a i (pos 0))) a t i (c .result-type .result) (s .at) (unaryOf (unaryFor (s .op)) (typeOn (getD t i 0), getD a i (pos 0)))
+    went (unaryOn (s .op) (getD t i 0) (getD a i (pos 0))) a t i (c .result-type .result) (s .at)
+    (unaryOf (unaryFor (s .op)) (typeOn (getD t i 0), getD a i (pos 0)))
     (unary-more a t (s .depth) (s .at) (unaryFor (s .op)) (c .before .before .before .before .before .if1 .left))
-    (unary-told (s .op) (getD t i 0) (c .result-type .result) (typeOn (getD t i 0)) (getD a i (pos 0)) (m .kinds i (omega (arith, c .before .before .before .before .before .if1 .left))) (c .result-type .ensures))
+    (unary-told (s .op) (getD t i 0) (c .result-type .result) (typeOn (getD t i 0)) (getD a i (pos 0))
+    (m .kinds i (omega (arith, c .before .before .before .before .before .if1 .left))) (c .result-type .ensures))
     (c .before .before .apply-unary .ensures) (c .before .if2 .left) (room-less (s .depth) i (omega arith) m) (omega (arith, m .depth))
 
 pub apply-unary-spec : {M : Type 1} → statement M

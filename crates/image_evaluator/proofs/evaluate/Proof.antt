@@ -24,8 +24,11 @@ run-requires c κs = c .before .before .before .before .before .before .before .
 returns-3 : tie.Need-returns-3
 returns-3 c =
     let s = c .before .before .before .before .before .before .before .before .before .args in
-    let M = machineFor (s .input-types .now) (s .variable-types .now) (s .inputs .now) (s .variables .now) in
-    (part-within M (s .code .now) (s .start) (s .size) (let h = c .before .before .before .before .if2 .left in omega arith) (c .run .ensures .0), c .run .ensures .1)
+    let M = machineFor (s .input-types .now) (s .variable-types .now) (s .inputs .now) (s .variables .now) in (
+      part-within M (s .code .now) (s .start) (s .size) (let h = c .before .before .before .before .if2 .left in omega arith)
+          (c .run .ensures .0),
+      c .run .ensures .1,
+    )
 
 pub evaluate-spec : {M : Type 1} → statement M
 evaluate-spec =

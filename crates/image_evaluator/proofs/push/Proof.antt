@@ -1,5 +1,4 @@
 -- `image_evaluator::push` meets its contract: a full stack takes no value. Assumes nothing.
-use borrow.Author.Needs.{needs}
 use Rattle.image_evaluator.proofs.StackLaws.{stopped, push-full, push-room, saying}
 use Rattle.image_evaluator.proofs.push.Statement.{statement}
 use Rattle.image_evaluator.proofs.push.Tie as tie

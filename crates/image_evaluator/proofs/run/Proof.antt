@@ -30,8 +30,11 @@ returns : tie.Need-returns Inv-loop μ-loop
 returns c =
     let s = c .before .before .before .before .before .before .args in
     let m = c .before .before .loop in
-    let M = machineFor (s .input-types .now) (s .variable-types .now) (s .inputs .now) (s .variables .now) in
-    (left-spent M (s .code .now) (m .stack) (m .tags) (m .depth) (m .at) (m .left) (m .inv) (c .if1 .taken) (c .before .loop-test .taken), room-less (m .depth) 0 (omega arith) (m .inv .room))
+    let M = machineFor (s .input-types .now) (s .variable-types .now) (s .inputs .now) (s .variables .now) in (
+      left-spent M (s .code .now) (m .stack) (m .tags) (m .depth) (m .at) (m .left) (m .inv) (c .if1 .taken) (c .before .loop-test .taken),
+      room-less
+          (m .depth) 0 (omega arith) (m .inv .room),
+    )
 
 step-requires : tie.Need-step-requires Inv-loop μ-loop
 step-requires c κs = (c .before .before .before .before .loop .inv .room, c .before .before .before .loop-test .taken)
@@ -47,30 +50,42 @@ loop-again c =
     let s = c .before .before .before .before .before .before .before .before .before .before .before .before .args in
     let m = c .before .before .before .before .before .before .before .before .loop in
     let M = machineFor (s .input-types .now) (s .variable-types .now) (s .inputs .now) (s .variables .now) in
-    left-again M (s .code .now) (m .stack) (m .tags) (m .depth) (m .at) (m .left) _ _ (c .before .before .before .step .result) (c .before .next .given .0 .0) (c .before .next .given .0 .1 .0) (m .inv) (c .before .before .before .before .before .before .if1 .left) (c .before .before .before .before .before .before .before .loop-test .taken)
+    left-again M (s .code .now) (m .stack) (m .tags) (m .depth) (m .at) (m .left) _ _ (c .before .before .before .step .result) (c .before .next .given .0 .0)
+    (c .before .next .given .0 .1 .0) (m .inv) (c .before .before .before .before .before .before .if1 .left)
+    (c .before .before .before .before .before .before .before .loop-test .taken)
     (c .before .before .before .step .ensures) (c .before .next .given .1)
 
 returns-2 : tie.Need-returns-2 Inv-loop μ-loop
 returns-2 c =
     let s = c .before .before .before .before .before .before .before .before .before .before .before .before .args in
     let m = c .before .before .before .before .before .before .before .before .loop in
-    let M = machineFor (s .input-types .now) (s .variable-types .now) (s .inputs .now) (s .variables .now) in
-    (left-stop M (s .code .now) (m .stack) (m .tags) (m .depth) (m .at) (m .left) _ _ (c .before .before .before .step .result) (c .before .next2 .given .0 .0) (m .inv) (c .before .before .before .before .before .before .if1 .left) (c .before .before .before .before .before .before .before .loop-test .taken) (c .before .before .before .step .ensures) (c .before .next2 .given .1), room-less _ 0 (omega arith) (c .before .before .before .step .ensures .room))
+    let M = machineFor (s .input-types .now) (s .variable-types .now) (s .inputs .now) (s .variables .now) in (
+      left-stop M (s .code .now) (m .stack) (m .tags) (m .depth) (m .at) (m .left) _ _ (c .before .before .before .step .result) (c .before .next2 .given .0 .0)
+          (m .inv) (c .before .before .before .before .before .before .if1 .left) (c .before .before .before .before .before .before .before .loop-test .taken)
+          (c .before .before .before .step .ensures) (c .before .next2 .given .1),
+      room-less _ 0 (omega arith) (c .before .before .before .step .ensures .room),
+    )
 
 returns-3 : tie.Need-returns-3 Inv-loop μ-loop
 returns-3 c =
     let s = c .before .before .before .before .before .before .before .before .args in
     let m = c .before .before .before .before .loop in
     let M = machineFor (s .input-types .now) (s .variable-types .now) (s .inputs .now) (s .variables .now) in
-    let fit : SFits w32 (getD (m .stack) 0 (pos 0)) = search needs in
-    (rw (toZ-ofZ fit) (left-one M (s .code .now) (m .stack) (m .tags) (m .depth) (m .at) (m .left) (m .inv) (c .before .before .before .loop-test .left) (c .before .before .if2 .taken)), room-less (m .depth) 0 (omega arith) (m .inv .room))
+    let fit : SFits w32 (getD (m .stack) 0 (pos 0)) = search needs in (
+      rw (toZ-ofZ fit) (left-one M (s .code .now) (m .stack) (m .tags) (m .depth) (m .at) (m .left) (m .inv) (c .before .before .before .loop-test .left)
+          (c .before .before .if2 .taken)),
+      room-less (m .depth) 0 (omega arith) (m .inv .room),
+    )
 
 returns-4 : tie.Need-returns-4 Inv-loop μ-loop
 returns-4 c =
     let s = c .before .before .before .before .before .before .args in
     let m = c .before .before .loop in
-    let M = machineFor (s .input-types .now) (s .variable-types .now) (s .inputs .now) (s .variables .now) in
-    (left-other M (s .code .now) (m .stack) (m .tags) (m .depth) (m .at) (m .left) (m .inv) (c .before .loop-test .left) (c .if2 .left), room-less (m .depth) 0 (omega arith) (m .inv .room))
+    let M = machineFor (s .input-types .now) (s .variable-types .now) (s .inputs .now) (s .variables .now) in (
+      left-other M (s .code .now) (m .stack) (m .tags) (m .depth) (m .at) (m .left) (m .inv) (c .before .loop-test .left) (c .if2 .left),
+      room-less (m .depth) 0
+          (omega arith) (m .inv .room),
+    )
 
 pub run-spec : {M : Type 1} → statement M
 run-spec =

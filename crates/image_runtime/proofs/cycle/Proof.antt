@@ -14,13 +14,17 @@ cycle-opened-requires c κs = sym (ap openTold (c .before .before .opened .given
 returns : tie.Need-returns
 returns c =
     let a = c .before .before .before .before .before .before .before .before .args in
-    whole (a .image .now) (all-bytes (a .image .now) (λ k. omega (arith, c .before .before .before .before .before .before .before .shared-slice-known .given k))) (a .s) (a .inputs .now) (a .row .now) _ _ (c .before .cycle-opened .ensures)
+    whole (a .image .now) (all-bytes (a .image .now)
+    (λ k. omega (arith, c .before .before .before .before .before .before .before .shared-slice-known .given k))) (a .s) (a .inputs .now) (a .row .now) _ _
+    (c .before .cycle-opened .ensures)
 
 returns-2 : tie.Need-returns-2
 returns-2 c =
     let a = c .before .before .before .before .before .args in
-    whole (a .image .now) (all-bytes (a .image .now) (λ k. omega (arith, c .before .before .before .before .shared-slice-known .given k))) (a .s) (a .inputs .now) (a .row .now) _ _
-    (refused-advance (a .image .now) (c .before .opened2 .given .0 .0) (sym (ap openTold (c .before .opened2 .given .1)) ∙ c .before .before .before .«open» .ensures) (a .s) (a .inputs .now) (a .row .now))
+    whole (a .image .now) (all-bytes (a .image .now) (λ k. omega (arith, c .before .before .before .before .shared-slice-known .given k))) (a .s)
+    (a .inputs .now) (a .row .now) _ _
+    (refused-advance (a .image .now) (c .before .opened2 .given .0 .0)
+    (sym (ap openTold (c .before .opened2 .given .1)) ∙ c .before .before .before .«open» .ensures) (a .s) (a .inputs .now) (a .row .now))
 
 pub cycle-spec : {M : Type 1} → statement M
 cycle-spec =

@@ -26,18 +26,23 @@ part-advance-end-2 : tie.Need-part-advance-end-2
 part-advance-end-2 c = let p = placed (c .before .before .args .image .now) (c .before .before .args .at) (c .before .before .pre) in omega arith
 
 sub-advance-3 : tie.Need-sub-advance-3
-sub-advance-3 c = let p = placed (c .before .before .before .args .image .now) (c .before .before .before .args .at) (c .before .before .before .pre) in omega arith
+sub-advance-3 c = let p = placed (c .before .before .before .args .image .now) (c .before .before .before .args .at) (c .before .before .before .pre) in
+    omega arith
 
 part-advance-start-3 : tie.Need-part-advance-start-3
-part-advance-start-3 c = let p = placed (c .before .before .before .args .image .now) (c .before .before .before .args .at) (c .before .before .before .pre) in omega arith
+part-advance-start-3 c = let p = placed (c .before .before .before .args .image .now) (c .before .before .before .args .at) (c .before .before .before .pre) in
+    omega arith
 
 part-advance-end-3 : tie.Need-part-advance-end-3
-part-advance-end-3 c = let p = placed (c .before .before .before .args .image .now) (c .before .before .before .args .at) (c .before .before .before .pre) in omega arith
+part-advance-end-3 c = let p = placed (c .before .before .before .args .image .now) (c .before .before .before .args .at) (c .before .before .before .pre) in
+    omega arith
 
 returns : tie.Need-returns
 returns c =
     let a = c .before .before .before .before .before .before .before .args in
-    sections-advance (a .image .now) (a .at) (c .before .before .before .before .before .before .before .pre) (all-bytes (a .image .now) (λ k. omega (arith, c .before .before .before .before .before .before .shared-slice-known .given k))) (a .s) (a .inputs .now) (a .row .now) _ _ (c .before .advance .ensures)
+    sections-advance (a .image .now) (a .at) (c .before .before .before .before .before .before .before .pre)
+    (all-bytes (a .image .now) (λ k. omega (arith, c .before .before .before .before .before .before .shared-slice-known .given k))) (a .s) (a .inputs .now)
+    (a .row .now) _ _ (c .before .advance .ensures)
 
 pub cycle-opened-spec : {M : Type 1} → statement M
 cycle-opened-spec =

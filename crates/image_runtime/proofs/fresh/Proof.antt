@@ -10,12 +10,16 @@ fresh-on-sections-requires : tie.Need-fresh-on-sections-requires
 fresh-on-sections-requires c κs = sym (ap openTold (c .before .opened .given .1)) ∙ c .before .before .before .«open» .ensures
 
 returns : tie.Need-returns
-returns c =
-    (fresh-answer (c .before .before .before .before .before .before .args .image .now) (c .before .before .opened .given .0 .0) (sym (ap openTold (c .before .before .opened .given .1)) ∙ c .before .before .before .before .«open» .ensures), c .fresh-on-sections .ensures)
+returns c = (
+  fresh-answer (c .before .before .before .before .before .before .args .image .now) (c .before .before .opened .given .0 .0)
+      (sym (ap openTold (c .before .before .opened .given .1)) ∙ c .before .before .before .before .«open» .ensures),
+  c .fresh-on-sections .ensures,
+)
 
 returns-2 : tie.Need-returns-2
 returns-2 c =
-    fresh-refused (c .before .before .before .before .before .before .args .image .now) (c .before .before .opened2 .given .0 .0) (sym (ap openTold (c .before .before .opened2 .given .1)) ∙ c .before .before .before .before .«open» .ensures) _ (c .blank .ensures)
+    fresh-refused (c .before .before .before .before .before .before .args .image .now) (c .before .before .opened2 .given .0 .0)
+    (sym (ap openTold (c .before .before .opened2 .given .1)) ∙ c .before .before .before .before .«open» .ensures) _ (c .blank .ensures)
 
 pub fresh-spec : {M : Type 1} → statement M
 fresh-spec =

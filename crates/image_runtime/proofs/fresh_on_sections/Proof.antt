@@ -19,7 +19,8 @@ part-fresh-end c = let p = placed (c .before .args .image .now) (c .before .args
 returns : tie.Need-returns
 returns c =
     let a = c .before .before .before .args in
-    fresh-state (a .image .now) (a .at) (c .before .before .before .pre) (all-bytes (a .image .now) (λ k. omega (arith, c .before .before .shared-slice-known .given k))) _ (c .fresh .ensures)
+    fresh-state (a .image .now) (a .at) (c .before .before .before .pre)
+    (all-bytes (a .image .now) (λ k. omega (arith, c .before .before .shared-slice-known .given k))) _ (c .fresh .ensures)
 
 pub fresh-on-sections-spec : {M : Type 1} → statement M
 fresh-on-sections-spec =

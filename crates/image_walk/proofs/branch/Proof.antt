@@ -3,17 +3,15 @@ use mir.Facts.{toZ-ofZ}
 use Rattle.image_walk.proofs.Steps.{when-true, when-false}
 use Rattle.image_walk.proofs.branch.Statement.{statement}
 use Rattle.image_walk.proofs.branch.Tie as tie
-use Rattle.image_walk.proofs.branch.Reads as reads
-use Rattle.image_walk.proofs.branch.Lts as lts
-use Rattle.image_walk.proofs.field.Reads as field-reads
-use Rattle.base_signed.proofs.is_one.Reads as is-one-reads
 
 -- src/lib.rt:52:1
 returns : tie.Need-returns
-returns c = when-true _ _ _ _ _ (rw (toZ-ofZ (c .before .before .before .before .fits .v)) at (c .before .before .is-one .ensures)) (c .before .if1 .taken) (c .field .ensures .0)
+returns c = when-true _ _ _ _ _ (rw (toZ-ofZ (c .before .before .before .before .fits .v)) at (c .before .before .is-one .ensures)) (c .before .if1 .taken)
+    (c .field .ensures .0)
 
 returns-2 : tie.Need-returns-2
-returns-2 c = when-false _ _ _ _ _ (rw (toZ-ofZ (c .before .before .before .before .fits .v)) at (c .before .before .is-one .ensures)) (c .before .if1 .left) (c .field2 .ensures .0)
+returns-2 c = when-false _ _ _ _ _ (rw (toZ-ofZ (c .before .before .before .before .fits .v)) at (c .before .before .is-one .ensures)) (c .before .if1 .left)
+    (c .field2 .ensures .0)
 
 pub branch-spec : {M : Type 1} → statement M
 branch-spec = tie.close (tie.spec (λ c κs. search needs) (λ c κs. search needs) (λ c κs. search needs) returns returns-2)

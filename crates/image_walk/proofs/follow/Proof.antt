@@ -7,13 +7,11 @@ use Rattle.image_evaluator.proofs.StackLaws.{room-empty}
 use Rattle.image_walk.proofs.Turns.{Rest, rest-first, rest-spent, rest-again, rest-wait, rest-stopped}
 use Rattle.image_walk.proofs.follow.Statement.{statement}
 use Rattle.image_walk.proofs.follow.Tie as tie
-use Rattle.image_walk.proofs.follow.Reads as reads
-use Rattle.image_walk.proofs.follow.Lts as lts
-use Rattle.image_walk.proofs.perform.Reads as perform-reads
 
 abbrev Inv-loop : tie.InvT-loop
 Inv-loop lines code first most inputs input-types variable-types outputs₀ variables₀ stack₀ tags₀ x₀ left₀ outputs variables stack tags x left =
-    Rest lines code input-types variable-types inputs most first outputs₀ variables₀ left x outputs variables × ((length outputs ≡ length outputs₀) × (length variables ≡ length variables₀) × Room stack tags 0)
+    Rest lines code input-types variable-types inputs most first outputs₀ variables₀ left x outputs variables
+    × ((length outputs ≡ length outputs₀) × (length variables ≡ length variables₀) × Room stack tags 0)
 
 abbrev μ-loop : tie.MeasureT-loop
 μ-loop lines code first most inputs input-types variable-types outputs₀ variables₀ stack₀ tags₀ x₀ left₀ outputs variables stack tags x left =
@@ -21,8 +19,13 @@ abbrev μ-loop : tie.MeasureT-loop
 
 -- src/lib.rt:137:5
 loop-holds : tie.Need-loop-holds Inv-loop μ-loop
-loop-holds c =
-    (rest-first (c .before .before .before .before .args .lines .now) (c .before .before .before .before .args .code .now) (c .before .before .before .before .args .input-types .now) (c .before .before .before .before .args .variable-types .now) (c .before .before .before .before .args .inputs .now) (c .before .before .before .before .args .most) (c .before .before .before .before .args .first) (c .before .before .before .before .args .outputs .now) (c .before .before .before .before .args .variables .now), (refl, refl, room-empty (search needs) (search needs)))
+loop-holds c = (
+  rest-first (c .before .before .before .before .args .lines .now) (c .before .before .before .before .args .code .now)
+      (c .before .before .before .before .args .input-types .now) (c .before .before .before .before .args .variable-types .now)
+      (c .before .before .before .before .args .inputs .now) (c .before .before .before .before .args .most) (c .before .before .before .before .args .first)
+      (c .before .before .before .before .args .outputs .now) (c .before .before .before .before .args .variables .now),
+  (refl, refl, room-empty (search needs) (search needs)),
+)
 
 -- src/lib.rt:138:13
 perform-requires : tie.Need-perform-requires Inv-loop μ-loop
@@ -40,7 +43,24 @@ sub-t24 c = let h = c .before .before .before .before .before .before .before .b
 returns : tie.Need-returns Inv-loop μ-loop
 returns c =
     let t = c .before .before .before .before .before .before .before .before .before .loop-test .taken in
-    rest-wait (c .before .before .before .before .before .before .before .before .before .before .before .before .before .before .before .args .lines .now) (c .before .before .before .before .before .before .before .before .before .before .before .before .before .before .before .args .code .now) (c .before .before .before .before .before .before .before .before .before .before .before .before .before .before .before .args .input-types .now) (c .before .before .before .before .before .before .before .before .before .before .before .before .before .before .before .args .variable-types .now) (c .before .before .before .before .before .before .before .before .before .before .before .before .before .before .before .args .inputs .now) (c .before .before .before .before .before .before .before .before .before .before .before .before .before .before .before .args .most) (c .before .before .before .before .before .before .before .before .before .before .before .before .before .before .before .args .first) (c .before .before .before .before .before .before .before .before .before .before .before .before .before .before .before .args .outputs .now) (c .before .before .before .before .before .before .before .before .before .before .before .before .before .before .before .args .variables .now) (c .before .before .before .before .before .before .before .before .before .before .loop .x) (c .before .before .before .before .before .before .before .before .before .before .loop .outputs) (c .before .before .before .before .before .before .before .before .before .before .loop .variables) (c .before .before .before .before .before .before .before .before .before .before .loop .left) (c .before .before .before .before .perform .result) _ _ _ (c .before .before .before .before .before .before .before .before .before .before .loop .inv .0) (λ z. omega arith) (c .before .before .before .before .perform .ensures .0, (c .before .before .before .before .perform .ensures .1 .0, c .before .before .before .before .perform .ensures .1 .1 .0)) (c .enum-told .given .1) refl
+    rest-wait (c .before .before .before .before .before .before .before .before .before .before .before .before .before .before .before .args .lines .now)
+    (c .before .before .before .before .before .before .before .before .before .before .before .before .before .before .before .args .code .now)
+    (c .before .before .before .before .before .before .before .before .before .before .before .before .before .before .before .args .input-types .now)
+    (c .before .before .before .before .before .before .before .before .before .before .before .before .before .before .before .args .variable-types .now)
+    (c .before .before .before .before .before .before .before .before .before .before .before .before .before .before .before .args .inputs .now)
+    (c .before .before .before .before .before .before .before .before .before .before .before .before .before .before .before .args .most)
+    (c .before .before .before .before .before .before .before .before .before .before .before .before .before .before .before .args .first)
+    (c .before .before .before .before .before .before .before .before .before .before .before .before .before .before .before .args .outputs .now)
+    (c .before .before .before .before .before .before .before .before .before .before .before .before .before .before .before .args .variables .now)
+    (c .before .before .before .before .before .before .before .before .before .before .loop .x)
+    (c .before .before .before .before .before .before .before .before .before .before .loop .outputs)
+    (c .before .before .before .before .before .before .before .before .before .before .loop .variables)
+    (c .before .before .before .before .before .before .before .before .before .before .loop .left)
+    (c .before .before .before .before .perform .result) _ _ _
+    (c .before .before .before .before .before .before .before .before .before .before .loop .inv .0) (λ z. omega arith) (
+      c .before .before .before .before .perform .ensures .0,
+      (c .before .before .before .before .perform .ensures .1 .0, c .before .before .before .before .perform .ensures .1 .1 .0),
+    ) (c .enum-told .given .1) refl
 
 -- src/lib.rt:137:5
 loop-less : tie.Need-loop-less Inv-loop μ-loop
@@ -62,7 +82,12 @@ returns-2 c =
 returns-3 : tie.Need-returns-3 Inv-loop μ-loop
 returns-3 c =
     let t = c .loop-test .left in
-    rest-spent (c .before .before .before .before .before .before .args .lines .now) (c .before .before .before .before .before .before .args .code .now) (c .before .before .before .before .before .before .args .input-types .now) (c .before .before .before .before .before .before .args .variable-types .now) (c .before .before .before .before .before .before .args .inputs .now) (c .before .before .before .before .before .before .args .most) (c .before .before .before .before .before .before .args .first) (c .before .before .before .before .before .before .args .outputs .now) (c .before .before .before .before .before .before .args .variables .now) (c .before .loop .left) (c .before .loop .x) (c .before .loop .outputs) (c .before .loop .variables) (c .before .loop .inv .0) (omega arith)
+    rest-spent (c .before .before .before .before .before .before .args .lines .now) (c .before .before .before .before .before .before .args .code .now)
+    (c .before .before .before .before .before .before .args .input-types .now)
+    (c .before .before .before .before .before .before .args .variable-types .now) (c .before .before .before .before .before .before .args .inputs .now)
+    (c .before .before .before .before .before .before .args .most) (c .before .before .before .before .before .before .args .first)
+    (c .before .before .before .before .before .before .args .outputs .now) (c .before .before .before .before .before .before .args .variables .now)
+    (c .before .loop .left) (c .before .loop .x) (c .before .loop .outputs) (c .before .loop .variables) (c .before .loop .inv .0) (omega arith)
 
 pub follow-spec : {M : Type 1} → statement M
 follow-spec =

@@ -6,8 +6,6 @@ use borrow.Author.Needs.{needs}
 use Rattle.image_walk.proofs.Steps.{other-kind, this-kind}
 use Rattle.image_walk.proofs.store.Statement.{statement}
 use Rattle.image_walk.proofs.store.Tie as tie
-use Rattle.image_walk.proofs.store.Reads as reads
-use Rattle.image_walk.proofs.store.Lts as lts
 
 -- src/lib.rt:47:9
 returns : tie.Need-returns
@@ -15,7 +13,8 @@ returns c = other-kind _ _ _ _ (c .if1 .taken)
 
 -- src/lib.rt:43:1
 returns-2 : tie.Need-returns-2
-returns-2 c = this-kind _ _ _ _ _ (c .before .if1 .left) (ap (λ z. set (c .before .before .args .row .now) (c .before .before .args .n) z) (toZ-ofZ (c .before .before .fits .v)))
+returns-2 c = this-kind _ _ _ _ _ (c .before .if1 .left)
+    (ap (λ z. set (c .before .before .args .row .now) (c .before .before .args .n) z) (toZ-ofZ (c .before .before .fits .v)))
 
 -- src/lib.rt:43:1
 returns-3 : tie.Need-returns-3

@@ -2,10 +2,6 @@ use borrow.Author.Needs.{needs}
 use Rattle.image_walk.proofs.Steps.{part-read}
 use Rattle.image_walk.proofs.value.Statement.{statement}
 use Rattle.image_walk.proofs.value.Tie as tie
-use Rattle.image_walk.proofs.value.Reads as reads
-use Rattle.image_walk.proofs.value.Lts as lts
-use Rattle.image_evaluator.proofs.evaluate.Reads as evaluate-reads
-use Rattle.image_walk.proofs.field.Reads as field-reads
 
 -- src/lib.rt:68:5
 evaluate-requires : tie.Need-evaluate-requires
@@ -13,7 +9,11 @@ evaluate-requires c κs = c .before .before .before .before .before .before .bef
 
 -- src/lib.rt:63:1
 returns : tie.Need-returns
-returns c = (part-read _ _ _ _ _ _ _ _ _ _ (c .before .before .before .before .field .ensures .0) (c .before .before .before .field2 .ensures .0) (c .evaluate .ensures .0), c .evaluate .ensures .1)
+returns c = (
+  part-read _ _ _ _ _ _ _ _ _ _ (c .before .before .before .before .field .ensures .0) (c .before .before .before .field2 .ensures .0)
+      (c .evaluate .ensures .0),
+  c .evaluate .ensures .1,
+)
 
 pub value-spec : {M : Type 1} → statement M
 value-spec =

@@ -8,7 +8,9 @@ use Rattle.test_bench.proofs.checked_row.Tie as tie
 returns : tie.Need-returns
 returns c =
     let a = c .before .before .before .before .before .before .before .before .before .args in
-    adds (cycleOf (a .image .now)) (a .p .state) (a .inputs .now) (a .from) (a .width) (a .row .now) (c .before .before .before .before .cycle .result .answer) (c .before .lines-of .ensures) (c .before .before .before .before .cycle .ensures .0) (c .add .ensures) (c .before .before .before .before .cycle .ensures .1) (c .before .before .before .before .cycle .ensures .2)
+    adds (cycleOf (a .image .now)) (a .p .state) (a .inputs .now) (a .from) (a .width) (a .row .now) (c .before .before .before .before .cycle .result .answer)
+    (c .before .lines-of .ensures) (c .before .before .before .before .cycle .ensures .0) (c .add .ensures)
+    (c .before .before .before .before .cycle .ensures .1) (c .before .before .before .before .cycle .ensures .2)
 
 pub checked-row-spec : {M : Type 1} → statement M
 checked-row-spec =

@@ -8,7 +8,9 @@ use Rattle.test_bench.proofs.direct_row.Tie as tie
 returns : tie.Need-returns
 returns c =
     let a = c .before .before .before .before .before .before .before .before .before .args in
-    adds (directCycle (a .text .now)) (a .p .state) (a .inputs .now) (a .from) (a .width) (a .row .now) (c .before .before .before .before .run .result .answer) (c .before .lines-of .ensures) (c .before .before .before .before .run .ensures .0) (c .add .ensures) (c .before .before .before .before .run .ensures .1) (c .before .before .before .before .run .ensures .2)
+    adds (directCycle (a .text .now)) (a .p .state) (a .inputs .now) (a .from) (a .width) (a .row .now) (c .before .before .before .before .run .result .answer)
+    (c .before .lines-of .ensures) (c .before .before .before .before .run .ensures .0) (c .add .ensures)
+    (c .before .before .before .before .run .ensures .1) (c .before .before .before .before .run .ensures .2)
 
 pub direct-row-spec : {M : Type 1} → statement M
 direct-row-spec =

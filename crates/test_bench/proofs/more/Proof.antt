@@ -1,5 +1,4 @@
 -- `test_bench::more` meets its contract: the test of its two. Assumes nothing.
-use mathlib.Core.Path.{refl}
 use native.Mathlib.Omega.{arith}
 use borrow.Author.Tests.{lt-ltb, le-ltb}
 use Rattle.test_bench.proofs.more.Statement.{statement}

@@ -1,5 +1,5 @@
 -- `test_bench::rabtishu_bench_opened` meets its contract: the rows on an image that opens, and none where it is refused. Assumes nothing.
-use mathlib.Core.Path.{_≡_, sym, _∙_, ap}
+use mathlib.Core.Path.{sym, _∙_, ap}
 use Rattle.image_loader.proofs.OpenLaws.{image-refused}
 use Rattle.test_bench.proofs.RowLaws.{closed-runs, runs-from}
 use borrow.Author.Needs.{needs}
@@ -17,8 +17,11 @@ returns c =
 returns-2 : tie.Need-returns-2
 returns-2 c =
     let r = c .enum-told .given .0 .0 in
-    let g = image-refused (c .before .before .before .before .before .before .args .image .now) r (sym (ap openTold (c .enum-told .given .1)) ∙ c .before .before .«open» .ensures) in
-    closed-runs (c .before .before .before .before .before .before .args .image .now) (numberOf r) (placeOf r) g _ (c .before .before .before .before .before .before .args .inputs .now) (c .before .before .before .before .before .before .args .width) (c .before .before .before .before .before .before .args .count) (c .before .before .before .before .before .before .args .row .now)
+    let g = image-refused (c .before .before .before .before .before .before .args .image .now) r
+    (sym (ap openTold (c .enum-told .given .1)) ∙ c .before .before .«open» .ensures) in
+    closed-runs (c .before .before .before .before .before .before .args .image .now) (numberOf r) (placeOf r) g _
+    (c .before .before .before .before .before .before .args .inputs .now) (c .before .before .before .before .before .before .args .width)
+    (c .before .before .before .before .before .before .args .count) (c .before .before .before .before .before .before .args .row .now)
 
 pub rabtishu-bench-opened-spec : {M : Type 1} → statement M
 rabtishu-bench-opened-spec =

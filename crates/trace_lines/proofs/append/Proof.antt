@@ -6,10 +6,13 @@ use Rattle.trace_lines.proofs.append.Statement.{statement}
 use Rattle.trace_lines.proofs.append.Tie as tie
 
 add-t10 : tie.Need-add-t10
-add-t10 c = let a = c .before .before .before .before .before .before .before .before .before .args in let z = part-inside (a .out .now) (a .size) _ _ _ (c .before .before .before .before .before .before .before .before .before .pre .2) (c .before .before .before .before .next .ensures .1) in omega arith
+add-t10 c = let a = c .before .before .before .before .before .before .before .before .before .args in
+    let z = part-inside (a .out .now) (a .size) _ _ _ (c .before .before .before .before .before .before .before .before .before .pre .2)
+    (c .before .before .before .before .next .ensures .1) in omega arith
 
 returns : tie.Need-returns
-returns c = let a = c .before .before .before .before .before .before .before .before .before .args in let r = c .before .before .before .before .next .ensures in (r .0, part-puts (a .out .now) (a .size) _ _ _ (r .1))
+returns c = let a = c .before .before .before .before .before .before .before .before .before .args in
+    let r = c .before .before .before .before .next .ensures in (r .0, part-puts (a .out .now) (a .size) _ _ _ (r .1))
 
 pub append-spec : {M : Type 1} → statement M
 append-spec =

@@ -6,7 +6,8 @@ use Rattle.trace_lines.proofs.call_row.Statement.{statement}
 use Rattle.trace_lines.proofs.call_row.Tie as tie
 
 returns : tie.Need-returns
-returns c = values-shown _ _ _ _ _ _ _ _ _ _ (c .before .before .before .before .before .before .outputs-of .ensures) refl (c .before .before .before .run-row .ensures)
+returns c = values-shown _ _ _ _ _ _ _ _ _ _ (c .before .before .before .before .before .before .outputs-of .ensures) refl
+    (c .before .before .before .run-row .ensures)
 
 pub call-row-spec : {M : Type 1} → statement M
 call-row-spec =

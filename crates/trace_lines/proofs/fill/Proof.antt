@@ -10,7 +10,8 @@ fill-opened-requires : tie.Need-fill-opened-requires
 fill-opened-requires c κs = sym (ap openTold (c .before .before .opened .given .1)) ∙ c .before .before .before .before .«open» .ensures
 
 returns : tie.Need-returns
-returns c = fill-opened _ _ _ _ _ _ _ (sym (ap openTold (c .before .before .before .before .before .opened .given .1)) ∙ c .before .before .before .before .before .before .before .«open» .ensures) (c .before .before .fill-opened .ensures)
+returns c = fill-opened _ _ _ _ _ _ _ (sym (ap openTold (c .before .before .before .before .before .opened .given .1))
+    ∙ c .before .before .before .before .before .before .before .«open» .ensures) (c .before .before .fill-opened .ensures)
 
 returns-2 : tie.Need-returns-2
 returns-2 c = fill-refused _ _ _ _ (c .enum-told .given .0 .0) (sym (ap openTold (c .enum-told .given .1)) ∙ c .before .before .«open» .ensures)

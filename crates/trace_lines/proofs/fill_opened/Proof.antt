@@ -25,16 +25,25 @@ sub-has-more c = let g = c .loop .inv in let k = filling-kept _ _ _ _ _ _ _ g in
 append-requires : tie.Need-append-requires Inv-loop μ-loop
 append-requires c κs =
     let g = c .before .before .before .loop .inv in
-    let k = filling-kept _ _ _ _ _ _ _ g in
-    (c .before .before .before .before .before .before .before .pre, more-facts _ _ _ (sym (c .before .before .has-more .ensures) ∙ c .before .if1 .taken) .1, omega (arith, g .fits))
+    let k = filling-kept _ _ _ _ _ _ _ g in (
+      c .before .before .before .before .before .before .before .pre,
+      more-facts _ _ _
+          (sym (c .before .before .has-more .ensures) ∙ c .before .if1 .taken) .1,
+      omega (arith, g .fits),
+    )
 
 loop-less : tie.Need-loop-less Inv-loop μ-loop
-loop-less c = filling-less _ _ _ _ _ _ _ (c .before .before .before .before .before .before .before .loop .inv) (sym (c .before .before .before .before .before .before .has-more .ensures) ∙ c .before .before .before .before .before .if1 .taken) _ (c .before .before .before .append .ensures .0)
+loop-less c = filling-less _ _ _ _ _ _ _ (c .before .before .before .before .before .before .before .loop .inv)
+    (sym (c .before .before .before .before .before .before .has-more .ensures) ∙ c .before .before .before .before .before .if1 .taken) _
+    (c .before .before .before .append .ensures .0)
 
 loop-again : tie.Need-loop-again Inv-loop μ-loop
 loop-again c =
-    let bytes = all-bytes (c .before .before .before .before .before .before .before .before .before .before .before .args .image .now) (λ k. omega (arith, c .before .before .before .before .before .before .before .before .before .before .shared-slice-known .given k)) in
-    filling-again _ _ _ _ _ _ _ (c .before .before .before .before .before .before .before .loop .inv) bytes (sym (c .before .before .before .before .before .before .has-more .ensures) ∙ c .before .before .before .before .before .if1 .taken) _ _ _ (c .before .before .before .append .ensures .0) (c .before .before .before .append .ensures .1)
+    let bytes = all-bytes (c .before .before .before .before .before .before .before .before .before .before .before .args .image .now)
+    (λ k. omega (arith, c .before .before .before .before .before .before .before .before .before .before .shared-slice-known .given k)) in
+    filling-again _ _ _ _ _ _ _ (c .before .before .before .before .before .before .before .loop .inv) bytes
+    (sym (c .before .before .before .before .before .before .has-more .ensures) ∙ c .before .before .before .before .before .if1 .taken) _ _ _
+    (c .before .before .before .append .ensures .0) (c .before .before .before .append .ensures .1)
 
 same-length : tie.Need-same-length Inv-loop μ-loop
 same-length c = filling-kept _ _ _ _ _ _ _ (c .before .before .loop .inv)

@@ -9,7 +9,8 @@ use Rattle.trace_lines.proofs.first_values.Statement.{statement}
 use Rattle.trace_lines.proofs.first_values.Tie as tie
 
 returns : tie.Need-returns
-returns c = let h : length (c .before .args .values .now) ≤ c .before .args .n = search needs in sym (take-all (c .before .args .n) (c .before .args .values .now) h)
+returns c = let h : length (c .before .args .values .now) ≤ c .before .args .n = search needs in
+    sym (take-all (c .before .args .n) (c .before .args .values .now) h)
 
 returns-2 : tie.Need-returns-2
 returns-2 c = part-first (c .before .before .args .values .now) (c .before .before .args .n)

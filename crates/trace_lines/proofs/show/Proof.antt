@@ -8,7 +8,8 @@ returns : tie.Need-returns
 returns c = show-performed _ _ _ _ _ _ _ _ (c .before .before .before .before .before .answer .given .1) (c .before .before .performed-line .ensures)
 
 returns-2 : tie.Need-returns-2
-returns-2 c = show-refused _ _ _ _ _ _ _ _ _ (c .before .before .before .before .before .before .answer2 .given .1) (c .before .before .before .number .ensures) (c .before .before .refused-line .ensures)
+returns-2 c = show-refused _ _ _ _ _ _ _ _ _ (c .before .before .before .before .before .before .answer2 .given .1) (c .before .before .before .number .ensures)
+    (c .before .before .refused-line .ensures)
 
 pub show-spec : {M : Type 1} → statement M
 show-spec =

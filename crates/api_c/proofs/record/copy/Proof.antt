@@ -40,7 +40,8 @@ same-length : tie.Need-same-length Inv-loop μ-loop
 same-length c = c .before .loop .inv .0
 
 returns : tie.Need-returns Inv-loop μ-loop
-returns c = copied (c .before .before .args .from .now) (c .before .before .args .to .now) (c .before .loop .k) _ (c .before .loop .inv .2) (omega arith) (c .before .loop .inv .3)
+returns c = copied (c .before .before .args .from .now) (c .before .before .args .to .now) (c .before .loop .k) _ (c .before .loop .inv .2) (omega arith)
+    (c .before .loop .inv .3)
 
 pub copy-spec : {M : Type 1} → statement M
 copy-spec =

@@ -8,7 +8,8 @@ use Rattle.api_c.proofs.record.place_from.Statement.{statement}
 use Rattle.api_c.proofs.record.place_from.Tie as tie
 
 returns : tie.Need-returns
-returns c = place-in (c .before .before .args .x) _ (c .before .before .fits .x) (c .before .to-bits .ensures ∙ ap unsigned32 (toZ-ofZ (c .before .before .fits .x))) (c .if1 .taken)
+returns c = place-in (c .before .before .args .x) _ (c .before .before .fits .x)
+    (c .before .to-bits .ensures ∙ ap unsigned32 (toZ-ofZ (c .before .before .fits .x))) (c .if1 .taken)
 
 returns-2 : tie.Need-returns-2
 returns-2 c = place-out (c .before .before .args .x) _ (c .before .to-bits .ensures ∙ ap unsigned32 (toZ-ofZ (c .before .before .fits .x))) (c .if1 .left)

@@ -13,8 +13,11 @@ use Rattle.api_c.proofs.record.to_state.Tie as tie
 
 returns : tie.Need-returns
 returns c =
-    let fit : SFits w32 (getD (c .before .before .before .before .before .before .before .before .before .before .before .before .args .t1) 0 (pos 0)) = search needs in
-    state-of (c .before .before .before .before .before .before .before .before .before .before .before .before .args .t1) _ _ _ (c .before .before .before .before .before .before .before .before .before .before .place-from .ensures ∙ ap placeOfC (toZ-ofZ fit)) (c .before .before .before .before .before .before .copy .ensures) (c .before .copy2 .ensures)
+    let fit : SFits w32 (getD (c .before .before .before .before .before .before .before .before .before .before .before .before .args .t1) 0 (pos 0)) =
+    search needs in
+    state-of (c .before .before .before .before .before .before .before .before .before .before .before .before .args .t1) _ _ _
+    (c .before .before .before .before .before .before .before .before .before .before .place-from .ensures ∙ ap placeOfC (toZ-ofZ fit))
+    (c .before .before .before .before .before .before .copy .ensures) (c .before .copy2 .ensures)
 
 pub to-state-spec : {M : Type 1} → statement M
 to-state-spec =

@@ -61,9 +61,9 @@ use Rattle.base_answers.proofs.Started as N
 use Rattle.base_answers.proofs.Started.Laws as N′
 use Rattle.api_rattle.proofs.calls.direct_start as callee
 use Rattle.api_rattle.proofs.calls.direct_start.Symbol as callee-def
-use Rattle.api_rattle.proofs.calls.direct_start.Symbol.{name as #entry·calls·direct-start}
+use Rattle.api_rattle.proofs.calls.direct_start.Symbol.{name as #api-rattle·calls·direct-start}
 use Rattle.api_rattle.proofs.calls.direct_start.Met as callee-thm
-use Rattle.api_rattle.proofs.calls.direct_fresh.Key.{name as #entry·calls·direct-fresh}
+use Rattle.api_rattle.proofs.calls.direct_fresh.Key.{name as #api-rattle·calls·direct-fresh}
 use Rattle.api_rattle.proofs.calls.direct_fresh as itself
 use Rattle.api_rattle.proofs.calls.direct_fresh.Statement as stated
 use Rattle.api_rattle.proofs.calls.direct_fresh.Code as code
@@ -125,10 +125,14 @@ module _ {M : Type 1} (𝓤 : URA M) (H : Heap 𝓤) (A : Atoms 𝓤) (W : Given
   said : (r : Start) → ent 𝓤 (ensured 𝓤 H A callee.ended (callee.clauses 𝓤 H A at-mem run) κs′ a′ tt r) (fact 𝓤 (Says r))
   said r = exE 𝓤 _ (λ ws. snd∗ 𝓤 (sem 𝓤 H A (lasts callee.ended κs′ a′ ws)) (fact 𝓤 (Says r)))
 
-  exits : (n : Started) (t : State) (u : Val) → Ends n t → ent 𝓤 (⋆ 𝓤 H A (‵ (fobs γ (S.the-row .coded .code t)) ∷ ‵ (fbor κ₁ (Body (mem S.the-row) b o γ)) ∷ ‵ (flft κ₁ q₁) ∷ (‵ (flft κ₀ q₀) ⊛ ‵ ftrue) ∷ ‵ Own₀ ∷ ‵ (N.the-row .own n (u ∷ [])) ∷ [])) (Post u)
+  exits : (n : Started) (t : State) (u : Val) → Ends n t
+      → ent 𝓤 (⋆ 𝓤 H A (‵ (fobs γ (S.the-row .coded .code t)) ∷ ‵ (fbor κ₁ (Body (mem S.the-row) b o γ)) ∷ ‵
+      (flft κ₁ q₁) ∷ (‵ (flft κ₀ q₀) ⊛ ‵ ftrue) ∷ ‵ Own₀ ∷ ‵ (N.the-row .own n (u ∷ [])) ∷ [])) (Post u)
   exits n t u e =
-      qed W (‵ (fobs γ (S.the-row .coded .code t)) ∷ ‵ (fbor κ₁ (Body (mem S.the-row) b o γ)) ∷ ‵ (flft κ₁ q₁) ∷ (‵ (flft κ₀ q₀) ⊛ ‵ ftrue) ∷ ‵ Own₀ ∷ ‵ (N.the-row .own n (u ∷ [])) ∷ []) ∵
-      suffices ! _ (ends-at 𝓤 H A itself.ended stayed (itself.clauses 𝓤 H A at-mem run) W ((κs, (q₀, (q₁, tt)), tt, a, vals), tt) u n (tt, (t, tt)) (tt, (tt, tt))) $
+      qed W (‵ (fobs γ (S.the-row .coded .code t)) ∷ ‵ (fbor κ₁ (Body (mem S.the-row) b o γ)) ∷ ‵ (flft κ₁ q₁) ∷ (‵ (flft κ₀ q₀) ⊛ ‵ ftrue) ∷ ‵ Own₀ ∷ ‵
+      (N.the-row .own n (u ∷ [])) ∷ []) ∵
+      suffices ! _ (ends-at 𝓤 H A itself.ended stayed (itself.clauses 𝓤 H A at-mem run) W ((κs, (q₀, (q₁, tt)), tt, a, vals), tt) u n (tt, (t, tt))
+      (tt, (tt, tt))) $
       says ! e $
       -- the tokens in the signature's order
       move ! (3 ∷ []) $ split ! $ move ! (4 ∷ 1 ∷ []) $ join ! $ move ! (1 ∷ 0 ∷ []) $ join ! $ frame ! $
@@ -138,9 +142,10 @@ module _ {M : Type 1} (𝓤 : URA M) (H : Heap 𝓤) (A : Atoms 𝓤) (W : Given
   -- the locals' types and places
   abbrev En : (l₀ l₁ l₂ l₃ l₄ : ℕ) → Env 𝓤 H
   En l₀ l₁ l₂ l₃ l₄ =
-      (N′.mir, l₀) ∷ (sliceTy (tyRef (named 0) imm (tyInt w8)), l₁) ∷ (tyRef (named 1) mut (pointee (S.the-row .written)), l₂) ∷ (D′.mir, l₃) ∷ (tyBool, l₄) ∷ []
+      (N′.mir, l₀) ∷ (sliceTy (tyRef (named 0) imm (tyInt w8)), l₁) ∷ (tyRef (named 1) mut (pointee (S.the-row .written)), l₂) ∷ (D′.mir, l₃) ∷ (tyBool, l₄)
+      ∷ []
 
-  module _ (C : Calls 𝓤 H) (Λ : Loops 𝓤 H) (fm : FmC 𝓤 H (W .laws) C) (known : Triple 𝓤 (C #entry·calls·direct-start) (Called 𝓤 H A at-mem run)) where
+  module _ (C : Calls 𝓤 H) (Λ : Loops 𝓤 H) (fm : FmC 𝓤 H (W .laws) C) (known : Triple 𝓤 (C #api-rattle·calls·direct-start) (Called 𝓤 H A at-mem run)) where
     walk : Room u8 (length (x₀ .now)) → ent 𝓤 (onEntry 𝓤 H A itself.signature κs (q₀, (q₁, tt)) a vals) (WpFn 𝓤 H C Λ code.function (v₀ ∷ vptr b o ∷ []) Post)
     walk g₀ =
         qed W ((‵ (flft κ₀ q₀) ⊛ ‵ (flft κ₁ q₁) ⊛ ‵ ftrue) ∷ ‵ (owns (ShrSlice (named 0) κ₀ u8 ∷ MutRef (named 1) κ₁ S.the-row ∷ []) a vals) ∷ []) ∵
@@ -152,7 +157,8 @@ module _ {M : Type 1} (𝓤 : URA M) (H : Heap 𝓤) (A : Atoms 𝓤) (W : Given
         move ! (12 ∷ []) $ split ! $ move ! (1 ∷ []) $ split ! $ move ! (1 ∷ []) $ drop ! $
         -- [t1; t0; state's; image's; _4; …]: the state's borrow is opened
         move ! (2 ∷ []) $ fsplit3 ! $ drop ! $ move ! (0 ∷ 1 ∷ 2 ∷ []) $
-        opens ! tt S.the-row {h = h} b o (λ vs. spelt ! S.the-row (Is S.the-row) (shows 𝓤 H A S.the-row) (LL.vals S.the-type S′.the-laws) (LL.tells S.the-type S′.the-laws) fullShare h vs b o $
+        opens ! tt S.the-row {h = h} b o (λ vs. spelt ! S.the-row (Is S.the-row) (shows 𝓤 H A S.the-row) (LL.vals S.the-type S′.the-laws)
+        (LL.tells S.the-type S′.the-laws) fullShare h vs b o $
         use1 W (‵ (fat fullShare S′.mir b o vh)) (W .laws .raw-at fullShare S′.mir b o vh) $
         move ! (1 ∷ []) $ peeks ! S.the-row (Is S.the-row) (shows 𝓤 H A S.the-row) h (LL.vals S.the-type S′.the-laws h) (λ was. drop ! $
         -- [the state's cell; the open borrow; obs; auth; t0; image's; _4; …; _0; …]: a copy of the shared slice
@@ -162,58 +168,74 @@ module _ {M : Type 1} (𝓤 : URA M) (H : Heap 𝓤) (A : Atoms 𝓤) (W : Given
         use2 W (raw (Called 𝓤 H A at-mem run .pre to)) asks $
         -- [the callee's pre; image's; the state's cell; the open borrow; obs; auth; _4; …; _0; …]
         calls-at ! fm (Called 𝓤 H A at-mem run) known to (and-then ! (load ! (from ! (stop !)) (look ! 12 refl)) (no-more !)) (λ w.
-        use1 W (later (some (λ (r : Start). ((‵ (flft κ₀ q₀) ⊛ ‵ ftrue) ⊛ ‵ (D.the-row .own r (w ∷ []))) ⊛ raw (ensured 𝓤 H A callee.ended (callee.clauses 𝓤 H A at-mem run) κs′ a′ tt r)))) (id⊢ 𝓤 _) $ await ! tt $ pick ! (λ r.
+        use1 W (later (some (λ (r : Start). ((‵ (flft κ₀ q₀) ⊛ ‵ ftrue) ⊛ ‵ (D.the-row .own r (w ∷ []))) ⊛ raw
+        (ensured 𝓤 H A callee.ended (callee.clauses 𝓤 H A at-mem run) κs′ a′ tt r)))) (id⊢ 𝓤 _) $ await ! tt $ pick ! (λ r.
         split ! $ move ! (1 ∷ []) $ use1 W (raw (fact 𝓤 (Says r))) (said r) $ heard ! (Says r) (λ e. split ! $ move ! (1 ∷ []) $
         peeks ! D.the-row (Is D.the-row) (shows 𝓤 H A D.the-row) r (w ∷ []) (λ is.
         land ! (from ! (stop !)) (init ! 9 refl (LL.lawful D.the-type D′.the-laws 𝓤 H A W .typed r _ is .0)) $
-        use1 W (given (w ∷ [] ≡ LL.vals D.the-type D′.the-laws r) (‵ (all-own (D.the-type .parts) D′.the-laws (r .done, (r .state, (r .answer, tt)))))) (own-open 𝓤 H A W D.the-type D′.the-laws (r .done, (r .state, (r .answer, tt))) w) $ learn ! (λ ew.
+        use1 W (given (w ∷ [] ≡ LL.vals D.the-type D′.the-laws r) (‵ (all-own (D.the-type .parts) D′.the-laws (r .done, (r .state, (r .answer, tt))))))
+        (own-open 𝓤 H A W D.the-type D′.the-laws (r .done, (r .state, (r .answer, tt))) w) $ learn ! (λ ew.
         fsplit ! $ move ! (1 ∷ []) $ fsplit ! $ move ! (1 ∷ []) $ fsplit ! $ move ! (1 ∷ []) $ drop ! $ move ! (2 ∷ []) $ drop ! $
         rewrite ! 10 (λ (u : Val). ‵ (fat fullShare D′.mir l₃ 0 u)) (ap only ew) refl $
         -- [the answer's; the new state's; the token; image's; the state's cell; the open borrow; obs; auth; _4; …; _0; …]
         assigns ! (of-opd ! (load ! (from ! (fld ! refl (stop !))) (look-in ! 10 (sub ! 0 refl (whole !))))) (from ! (stop !)) (init ! 8 refl (tt, tt)) $
         first ! $ branches ! (load ! (from ! (stop !)) (look ! 8 refl))
         -- a fresh state: it is stored
-        (λ held. assigns-last ! (of-opd ! (load ! (from ! (fld ! refl (stop !))) (look-in ! 10 (sub ! 1 refl (whole !))))) (from ! (hop ! (look ! 12 refl) (stop !))) (store-in ! 4 (whole !) (LL.lawful S.the-type S′.the-laws 𝓤 H A W .typed (r .state) _ (LL.owed D.the-type D′.the-laws r _ is .1 .0) .0)) $
+        (λ held. assigns-last ! (of-opd ! (load ! (from ! (fld ! refl (stop !))) (look-in ! 10 (sub ! 1 refl (whole !)))))
+        (from ! (hop ! (look ! 12 refl) (stop !)))
+        (store-in ! 4 (whole !) (LL.lawful S.the-type S′.the-laws 𝓤 H A W .typed (r .state) _ (LL.owed D.the-type D′.the-laws r _ is .1 .0) .0)) $
         exec ! C Λ (En l₀ l₁ l₂ l₃ l₄) pieces.t-4 (atRet (En l₀ l₁ l₂ l₃ l₄) Post) $
-        assigns ! (of-opd ! (load ! (from ! (fld ! refl (stop !))) (look-in ! 10 (sub ! 2 refl (whole !))))) (from ! (stop !)) (init ! 16 refl (EL.lawful N.the-type N′.the-laws 𝓤 H A W tt .typed (r .answer) _ (LL.owed D.the-type D′.the-laws r _ is .1 .1 .0) .0)) $
-        move ! (4 ∷ []) $ use1 W (‵ (cellAt fullShare (S.the-row .mir) (LL.vals S.the-type S′.the-laws (r .state)) b o)) (W .laws .at-raw fullShare S′.mir b o (LL.val S.the-type S′.the-laws (r .state))) $
+        assigns ! (of-opd ! (load ! (from ! (fld ! refl (stop !))) (look-in ! 10 (sub ! 2 refl (whole !))))) (from ! (stop !))
+        (init ! 16 refl (EL.lawful N.the-type N′.the-laws 𝓤 H A W tt .typed (r .answer) _ (LL.owed D.the-type D′.the-laws r _ is .1 .1 .0) .0)) $
+        move ! (4 ∷ []) $ use1 W (‵ (cellAt fullShare (S.the-row .mir) (LL.vals S.the-type S′.the-laws (r .state)) b o))
+        (W .laws .at-raw fullShare S′.mir b o (LL.val S.the-type S′.the-laws (r .state))) $
         move ! (0 ∷ 2 ∷ 5 ∷ 6 ∷ 7 ∷ []) $ closes ! tt S.the-row (r .state) (LL.vals S.the-type S′.the-laws (r .state)) b o $
         returns ! (look ! 14 refl) $ forget ! 6 refl $ forget ! 8 refl $ forget ! 10 refl $ forget ! 12 refl $ forget ! 14 refl $
-        move ! (14 ∷ 15 ∷ []) $ free1 ! $ move ! (12 ∷ 13 ∷ []) $ free1 ! $ move ! (10 ∷ 11 ∷ []) $ free1 ! $ move ! (8 ∷ 9 ∷ []) $ free1 ! $ move ! (6 ∷ 7 ∷ []) $ free1 ! $ free0 ! $
+        move ! (14 ∷ 15 ∷ []) $ free1 ! $ move ! (12 ∷ 13 ∷ []) $ free1 ! $ move ! (10 ∷ 11 ∷ []) $ free1 ! $ move ! (8 ∷ 9 ∷ []) $ free1 ! $ move !
+        (6 ∷ 7 ∷ []) $ free1 ! $ free0 ! $
         keep ! (0 ∷ 1 ∷ 2 ∷ 4 ∷ 5 ∷ 3 ∷ []) $
         by ! (exits (r .answer) (r .state) _ (e .answer, e .stored (is-true (r .done) held) h)))
         -- refused: the cell is as it was
-        (λ failed. skips ! $ move ! (1 ∷ []) $ drop ! $ owned ! S.the-row (Is S.the-row) ((LL.makes S.the-type S′.the-plain) 𝓤 H A) h _ was $ move ! (1 ∷ 0 ∷ []) $
+        (λ failed. skips ! $ move ! (1 ∷ []) $ drop ! $ owned ! S.the-row (Is S.the-row) ((LL.makes S.the-type S′.the-plain) 𝓤 H A) h _ was $ move !
+        (1 ∷ 0 ∷ []) $
         exec ! C Λ (En l₀ l₁ l₂ l₃ l₄) pieces.t-4 (atRet (En l₀ l₁ l₂ l₃ l₄) Post) $
-        assigns ! (of-opd ! (load ! (from ! (fld ! refl (stop !))) (look-in ! 10 (sub ! 2 refl (whole !))))) (from ! (stop !)) (init ! 16 refl (EL.lawful N.the-type N′.the-laws 𝓤 H A W tt .typed (r .answer) _ (LL.owed D.the-type D′.the-laws r _ is .1 .1 .0) .0)) $
-        move ! (4 ∷ []) $ use1 W (‵ (cellAt fullShare (S.the-row .mir) (LL.vals S.the-type S′.the-laws (h)) b o)) (W .laws .at-raw fullShare S′.mir b o (LL.val S.the-type S′.the-laws (h))) $
+        assigns ! (of-opd ! (load ! (from ! (fld ! refl (stop !))) (look-in ! 10 (sub ! 2 refl (whole !))))) (from ! (stop !))
+        (init ! 16 refl (EL.lawful N.the-type N′.the-laws 𝓤 H A W tt .typed (r .answer) _ (LL.owed D.the-type D′.the-laws r _ is .1 .1 .0) .0)) $
+        move ! (4 ∷ []) $ use1 W (‵ (cellAt fullShare (S.the-row .mir) (LL.vals S.the-type S′.the-laws (h)) b o))
+        (W .laws .at-raw fullShare S′.mir b o (LL.val S.the-type S′.the-laws (h))) $
         move ! (0 ∷ 2 ∷ 5 ∷ 6 ∷ 7 ∷ []) $ closes ! tt S.the-row (h) (LL.vals S.the-type S′.the-laws (h)) b o $
         returns ! (look ! 14 refl) $ forget ! 6 refl $ forget ! 8 refl $ forget ! 10 refl $ forget ! 12 refl $ forget ! 14 refl $
-        move ! (14 ∷ 15 ∷ []) $ free1 ! $ move ! (12 ∷ 13 ∷ []) $ free1 ! $ move ! (10 ∷ 11 ∷ []) $ free1 ! $ move ! (8 ∷ 9 ∷ []) $ free1 ! $ move ! (6 ∷ 7 ∷ []) $ free1 ! $ free0 ! $
+        move ! (14 ∷ 15 ∷ []) $ free1 ! $ move ! (12 ∷ 13 ∷ []) $ free1 ! $ move ! (10 ∷ 11 ∷ []) $ free1 ! $ move ! (8 ∷ 9 ∷ []) $ free1 ! $ move !
+        (6 ∷ 7 ∷ []) $ free1 ! $ free0 ! $
         keep ! (0 ∷ 1 ∷ 2 ∷ 4 ∷ 5 ∷ 3 ∷ []) $
         by ! (exits (r .answer) (h) _ (e .answer, e .kept (is-false (r .done) failed) h)))))))))))))))
 
 module _ {M : Type 1} (𝓤 : URA M) (H : Heap 𝓤) (A : Atoms 𝓤) (W : Given 𝓤 H A) (at-mem : Memory → SProp 𝓤) (run : Routine → Fun 𝓤) where
-  direct-fresh-walks : (C : Calls 𝓤 H) (Λ : Loops 𝓤 H) → FmC 𝓤 H (W .laws) C → Triple 𝓤 (C #entry·calls·direct-start) (Called 𝓤 H A at-mem run) → Walks 𝓤 H A itself.ended stayed (WpFn 𝓤 H C Λ code.function) (itself.clauses 𝓤 H A at-mem run)
+  direct-fresh-walks : (C : Calls 𝓤 H) (Λ : Loops 𝓤 H) → FmC 𝓤 H (W .laws) C → Triple 𝓤 (C #api-rattle·calls·direct-start) (Called 𝓤 H A at-mem run)
+      → Walks 𝓤 H A itself.ended stayed (WpFn 𝓤 H C Λ code.function) (itself.clauses 𝓤 H A at-mem run)
   direct-fresh-walks C Λ fm known = walked 𝓤 H A itself.ended stayed (itself.clauses 𝓤 H A at-mem run) (WpFn 𝓤 H C Λ code.function)
       (λ κs. (slice-vals, (ptr-vals, tt)))
       (λ κs. (shr-slice-tells (named 0) (κs .0) u8, (mut-tells (named 1) (κs .1 .0) S.the-row, tt)))
       (λ κs qs bounds a g are. via 𝓤 _ (fst∗ 𝓤 _ (emp 𝓤))
-      (walk 𝓤 H A W at-mem run (κs .0) (κs .1 .0) (qs .0) (qs .1 .0) (a .0) (a .1 .0 .ptr .0) (a .1 .0 .ptr .1) (a .1 .0 .name) (a .1 .0 .now) C Λ fm known (are .0 .0 .1)))
+      (walk 𝓤 H A W at-mem run (κs .0) (κs .1 .0) (qs .0) (qs .1 .0) (a .0) (a .1 .0 .ptr .0) (a .1 .0 .ptr .1) (a .1 .0 .name) (a .1 .0 .now) C Λ fm known
+      (are .0 .0 .1)))
 
   all-go : AllGo 𝓤 H A W 2 (itself.signature .params) (itself.ended .kept) stayed
   all-go = (goes-none-slice 𝓤 H A W 2 (0 ∷ []) tt (plain (λ _. u8)) yes, (goes-ref 𝓤 H A W 2 1 tt (plain (λ _. S.the-row)), tt))
 
-direct-fresh-meets : {M : Type 1} (𝓤 : URA M) (H : Heap 𝓤) (A : Atoms 𝓤) → Given 𝓤 H A → (at-mem : Memory → SProp 𝓤) (run : Routine → Fun 𝓤) (𝓣 : Tables 𝓤 H) → Triple 𝓤 (𝓣 .C #entry·calls·direct-start) (Called 𝓤 H A at-mem run)
+direct-fresh-meets : {M : Type 1} (𝓤 : URA M) (H : Heap 𝓤) (A : Atoms 𝓤) → Given 𝓤 H A → (at-mem : Memory → SProp 𝓤) (run : Routine → Fun 𝓤) (𝓣 : Tables 𝓤 H)
+    → Triple 𝓤 (𝓣 .C #api-rattle·calls·direct-start) (Called 𝓤 H A at-mem run)
     → Meets 𝓤 H A itself.signature (WpFn 𝓤 H (𝓣 .C) (𝓣 .Λ) code.function) (itself.spec 𝓤 H A at-mem run)
 direct-fresh-meets 𝓤 H A W at-mem run 𝓣 known =
     walk-meets 𝓤 H A itself.ended stayed W (all-go 𝓤 H A W at-mem run) (itself.clauses 𝓤 H A at-mem run)
-    (WpFn 𝓤 H (𝓣 .C) (𝓣 .Λ) code.function) (WpFn-mono 𝓤 H (W .laws) 𝓣 code.function) (direct-fresh-walks 𝓤 H A W at-mem run (𝓣 .C) (𝓣 .Λ) (fmOf 𝓤 H (W .laws) 𝓣) known)
+    (WpFn 𝓤 H (𝓣 .C) (𝓣 .Λ) code.function) (WpFn-mono 𝓤 H (W .laws) 𝓣 code.function)
+    (direct-fresh-walks 𝓤 H A W at-mem run (𝓣 .C) (𝓣 .Λ) (fmOf 𝓤 H (W .laws) 𝓣) known)
 
 pub direct-fresh-spec : {M : Type 1} → stated.statement M
 unfolding code.routine tablesOf
 direct-fresh-spec 𝓤 H 𝓜 𝓖 𝓡 =
     entered 𝓤 H (tripleOf 𝓤 H (𝓖 .A) itself.signature (itself.spec 𝓤 H (𝓖 .A) (𝓜 .mem) (𝓡 .run)))
-    (tables 𝓤 H 𝓜 𝓡 code.env .C) (tables 𝓤 H 𝓜 𝓡 code.env .Λ) #entry·calls·direct-fresh code.function (code.unfolded 𝓤 H 𝓜 𝓡)
+    (tables 𝓤 H 𝓜 𝓡 code.env .C) (tables 𝓤 H 𝓜 𝓡 code.env .Λ) #api-rattle·calls·direct-fresh code.function (code.unfolded 𝓤 H 𝓜 𝓡)
     (direct-fresh-meets 𝓤 H (𝓖 .A) (givenOf 𝓤 H 𝓜 𝓖) (𝓜 .mem) (𝓡 .run) (tablesOf 𝓤 H 𝓜 (tables 𝓤 H 𝓜 𝓡 code.env))
-    (cited 𝓤 H (Called 𝓤 H (𝓖 .A) (𝓜 .mem) (𝓡 .run)) 𝓜 𝓡 code.env #entry·calls·direct-start callee-def.routine code.calls-entry·calls·direct-start (callee-thm.met 𝓤 H 𝓜 𝓖 𝓡)))
+    (cited 𝓤 H (Called 𝓤 H (𝓖 .A) (𝓜 .mem) (𝓡 .run)) 𝓜 𝓡 code.env #api-rattle·calls·direct-start callee-def.routine code.calls-api-rattle·calls·direct-start
+    (callee-thm.met 𝓤 H 𝓜 𝓖 𝓡)))

@@ -26,7 +26,8 @@ returns-4 : tie.Need-returns-4
 unfolding all agrees bind binaryOf binaryType sumType
 returns-4 c =
     c .sum .ensures
-    ∙ either (c .before .if2 .came) (λ h. stretch sumType binaryOf 2 18 refl _ (c .before .before .if1 .left) (h .taken) _) (λ h. stretch sumType binaryOf 4 29 refl _ (h .3 .left) (h .4 .taken) _)
+    ∙ either (c .before .if2 .came) (λ h. stretch sumType binaryOf 2 18 refl _ (c .before .before .if1 .left) (h .taken) _)
+    (λ h. stretch sumType binaryOf 4 29 refl _ (h .3 .left) (h .4 .taken) _)
 
 returns-5 : tie.Need-returns-5
 unfolding all agrees bind binaryOf binaryType
@@ -38,4 +39,5 @@ returns-6 c = stretch-none binaryOf 223 33 refl _ (c .if6 .left) (search needs) 
 
 pub binary-type-spec : {M : Type 1} → statement M
 binary-type-spec =
-    tie.close (tie.spec (λ c κs. search needs) (λ c κs. search needs) (λ c κs. search needs) (λ c κs. search needs) returns returns-2 returns-3 returns-4 returns-5 returns-6)
+    tie.close (tie.spec (λ c κs. search needs) (λ c κs. search needs) (λ c κs. search needs)
+    (λ c κs. search needs) returns returns-2 returns-3 returns-4 returns-5 returns-6)

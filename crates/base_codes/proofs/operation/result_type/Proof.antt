@@ -1,5 +1,5 @@
 -- `base_codes::operation::result_type` meets its contract: the codes of the comparisons are successive, computed. Assumes nothing.
-use mathlib.Core.Path.{_≡_, refl}
+use mathlib.Core.Path.{refl}
 use borrow.Author.Needs.{needs}
 use Rattle.base_codes.specs.Token.{oneOf}
 use Rattle.base_codes.specs.Types.{comparing}

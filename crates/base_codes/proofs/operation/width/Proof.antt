@@ -1,7 +1,6 @@
 -- `base_codes::operation::width` meets its contract: the codes of literals and names, computed. Assumes nothing.
 use mathlib.Core.Path.{refl, sym, ap}
 use native.Mathlib.Omega.{arith}
-use native.Mathlib.Decide.{decLt}
 use borrow.Author.Needs.{needs}
 use Rattle.base_codes.specs.Operation.{widthOf}
 use Rattle.base_codes.proofs.Finite.{all, answers}
@@ -18,7 +17,11 @@ returns-2 c = (answers widthOf _ 3 2 refl (c .before .before .before .args .op) 
 
 returns-3 : tie.Need-returns-3
 unfolding all widthOf
-returns-3 c = (answers widthOf _ 1 0 refl (c .before .before .args .op) (omega arith) (let n = c .before .if1 .left in let l = c .if2 .taken in omega arith), omega arith)
+returns-3 c = (
+  answers widthOf _ 1 0 refl (c .before .before .args .op) (omega arith)
+      (let n = c .before .if1 .left in let l = c .if2 .taken in omega arith),
+  omega arith,
+)
 
 returns-4 : tie.Need-returns-4
 unfolding all widthOf

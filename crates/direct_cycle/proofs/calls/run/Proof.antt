@@ -15,22 +15,28 @@ returns-2 : tie.Need-returns-2
 returns-2 c = λ p d oc vc room f. absurd (let h = c .before .if2 .taken in let b = d .well-formed .variables in omega arith)
 
 part-outputs-end : tie.Need-part-outputs-end
-part-outputs-end c = let lo : length (c .before .before .before .before .before .before .before .args .s .outputs) ≡ 16 = search needs in let h = c .before .before .before .before .if1 .left in omega arith
+part-outputs-end c = let lo : length (c .before .before .before .before .before .before .before .args .s .outputs) ≡ 16 = search needs in
+    let h = c .before .before .before .before .if1 .left in omega arith
 
 part-variables-end : tie.Need-part-variables-end
-part-variables-end c = let lo : length (c .before .before .before .before .before .before .before .before .args .s .variables) ≡ 32 = search needs in let h = c .before .before .before .before .if2 .left in omega arith
+part-variables-end c = let lo : length (c .before .before .before .before .before .before .before .before .args .s .variables) ≡ 32 = search needs in
+    let h = c .before .before .before .before .if2 .left in omega arith
 
 returns-3 : tie.Need-returns-3
 returns-3 c =
     λ p d oc vc room f.
     run-passed p (c .before .before .before .before .before .before .before .before .before .before .before .before .before .before .before .before .before .before .args .s) f (d .well-formed) (c .before .before .before .before .before .before .before .before .before .before .before .before .before .before .before .before .before .before .args .inputs .now) (c .before .before .before .before .before .before .before .before .before .before .before .before .before .before .before .before .before .before .args .row .now) room (c .before .before .before .before .before .before .before .before .before .before .before .before .before .before .before .before .before .before .args .output-count) (c .before .before .before .before .before .before .before .before .before .before .before .before .before .before .before .before .before .before .args .variable-count) oc vc _ _ (c .before .before .before .before .before .before .before .before .cycle .result) (record { lines = c .before .before .before .before .r .given .0 .0 }) (c .before .performed .result) _
-    (c .before .before .before .before .before .before .before .before .cycle .ensures (p .body) (d .body) (d .block) (let b = d .well-formed .statements in let e = d .body .end in omega arith) (parts p (c .before .before .before .before .before .before .before .before .before .before .before .before .before .before .before .before .before .before .args .s) f .0)) (c .before .before .before .before .r .given .1) (c .before .performed .ensures) (search needs) (search needs)
+    (c .before .before .before .before .before .before .before .before .cycle .ensures (p .body) (d .body) (d .block)
+    (let b = d .well-formed .statements in let e = d .body .end in omega arith)
+    (parts p (c .before .before .before .before .before .before .before .before .before .before .before .before .before .before .before .before .before .before .args .s) f .0)) (c .before .before .before .before .r .given .1) (c .before .performed .ensures) (search needs) (search needs)
 
 returns-4 : tie.Need-returns-4
 returns-4 c =
     λ p d oc vc room f.
     run-reached p (c .before .before .before .before .before .before .before .before .before .before .before .before .before .before .before .before .before .before .args .s) f (d .well-formed) (c .before .before .before .before .before .before .before .before .before .before .before .before .before .before .before .before .before .before .args .inputs .now) (c .before .before .before .before .before .before .before .before .before .before .before .before .before .before .before .before .before .before .args .row .now) room (c .before .before .before .before .before .before .before .before .before .before .before .before .before .before .before .before .before .before .args .output-count) (c .before .before .before .before .before .before .before .before .before .before .before .before .before .before .before .before .before .before .args .variable-count) oc vc _ _ (c .before .before .before .before .before .before .before .before .cycle .result) (c .before .before .before .before .r2 .given .0 .0) (record { lines = c .before .before .before .before .r2 .given .0 .1 .0 }) (c .before .performed2 .result) _
-    (c .before .before .before .before .before .before .before .before .cycle .ensures (p .body) (d .body) (d .block) (let b = d .well-formed .statements in let e = d .body .end in omega arith) (parts p (c .before .before .before .before .before .before .before .before .before .before .before .before .before .before .before .before .before .before .args .s) f .0)) (c .before .before .before .before .r2 .given .1) (c .before .performed2 .ensures) (search needs) (search needs)
+    (c .before .before .before .before .before .before .before .before .cycle .ensures (p .body) (d .body) (d .block)
+    (let b = d .well-formed .statements in let e = d .body .end in omega arith)
+    (parts p (c .before .before .before .before .before .before .before .before .before .before .before .before .before .before .before .before .before .before .args .s) f .0)) (c .before .before .before .before .r2 .given .1) (c .before .performed2 .ensures) (search needs) (search needs)
 
 returns-5 : tie.Need-returns-5
 returns-5 c =

@@ -31,16 +31,26 @@ loop-less c = let h = c .before .before .before .before .loop-test .taken in ome
 
 loop-again : tie.Need-loop-again Inv-loop μ-loop
 loop-again c =
-    let h : SFits w32 (getD (c .before .before .before .before .before .before .before .args .inputs .now) (c .before .before .before .before .before .loop .k) (pos 0)) = search needs in
-    wrong-again (c .before .before .before .before .before .before .before .args .types .now) (c .before .before .before .before .before .before .before .args .inputs .now) (c .before .before .before .before .before .loop .k) (c .before .before .before .before .loop-test .taken) (c .before .before .before .before .before .before .before .pre) (sym (rw (toZ-ofZ h) at (c .before .in-type .ensures)) ∙ c .if1 .taken) ∙ c .before .before .before .before .before .loop .inv
+    let h : SFits w32 (getD (c .before .before .before .before .before .before .before .args .inputs .now) (c .before .before .before .before .before .loop .k)
+    (pos 0)) = search needs in
+    wrong-again (c .before .before .before .before .before .before .before .args .types .now)
+    (c .before .before .before .before .before .before .before .args .inputs .now) (c .before .before .before .before .before .loop .k)
+    (c .before .before .before .before .loop-test .taken) (c .before .before .before .before .before .before .before .pre)
+    (sym (rw (toZ-ofZ h) at (c .before .in-type .ensures)) ∙ c .if1 .taken) ∙ c .before .before .before .before .before .loop .inv
 
 returns : tie.Need-returns Inv-loop μ-loop
 returns c =
-    let h : SFits w32 (getD (c .before .before .before .before .before .before .before .args .inputs .now) (c .before .before .before .before .before .loop .k) (pos 0)) = search needs in
-    ap (λ (x : Option ℕ). checkOf x) (wrong-here (c .before .before .before .before .before .before .before .args .types .now) (c .before .before .before .before .before .before .before .args .inputs .now) (c .before .before .before .before .before .loop .k) (c .before .before .before .before .loop-test .taken) (c .before .before .before .before .before .before .before .pre) (sym (rw (toZ-ofZ h) at (c .before .in-type .ensures)) ∙ c .if1 .left) ∙ c .before .before .before .before .before .loop .inv)
+    let h : SFits w32 (getD (c .before .before .before .before .before .before .before .args .inputs .now) (c .before .before .before .before .before .loop .k)
+    (pos 0)) = search needs in
+    ap (λ (x : Option ℕ). checkOf x) (wrong-here (c .before .before .before .before .before .before .before .args .types .now)
+    (c .before .before .before .before .before .before .before .args .inputs .now) (c .before .before .before .before .before .loop .k)
+    (c .before .before .before .before .loop-test .taken) (c .before .before .before .before .before .before .before .pre)
+    (sym (rw (toZ-ofZ h) at (c .before .in-type .ensures)) ∙ c .if1 .left) ∙ c .before .before .before .before .before .loop .inv)
 
 returns-2 : tie.Need-returns-2 Inv-loop μ-loop
-returns-2 c = ap (λ (x : Option ℕ). checkOf x) (wrong-end (c .before .before .before .args .types .now) (c .before .before .before .args .inputs .now) (c .before .loop .k) (c .loop-test .left) (c .before .before .before .pre) ∙ c .before .loop .inv)
+returns-2 c = ap (λ (x : Option ℕ). checkOf x)
+    (wrong-end (c .before .before .before .args .types .now) (c .before .before .before .args .inputs .now) (c .before .loop .k) (c .loop-test .left)
+    (c .before .before .before .pre) ∙ c .before .loop .inv)
 
 pub first-wrong-spec : {M : Type 1} → statement M
 first-wrong-spec =

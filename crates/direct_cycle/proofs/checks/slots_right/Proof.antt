@@ -27,17 +27,27 @@ loop-less c = let h = c .before .before .before .loop-test .taken in omega arith
 
 loop-again : tie.Need-loop-again Inv-loop μ-loop
 loop-again c =
-    let h : SFits w32 (getD (c .before .before .before .before .before .before .args .slots .now) (c .before .before .before .before .loop .k) (pos 0)) = search needs in
-    let u = c .before .before .before .loop-test .taken in
-    (omega arith, slots-again (c .before .before .before .before .before .before .args .types .now) (c .before .before .before .before .before .before .args .slots .now) (c .before .before .before .before .loop .k) (c .before .before .before .loop-test .taken) (sym (rw (toZ-ofZ h) at (c .before .slot-right .ensures)) ∙ c .if1 .taken) ∙ c .before .before .before .before .loop .inv .1)
+    let h : SFits w32 (getD (c .before .before .before .before .before .before .args .slots .now) (c .before .before .before .before .loop .k) (pos 0)) =
+    search needs in
+    let u = c .before .before .before .loop-test .taken in (
+      omega arith,
+      slots-again (c .before .before .before .before .before .before .args .types .now)
+          (c .before .before .before .before .before .before .args .slots .now) (c .before .before .before .before .loop .k)
+          (c .before .before .before .loop-test .taken) (sym (rw (toZ-ofZ h) at (c .before .slot-right .ensures)) ∙ c .if1 .taken)
+          ∙ c .before .before .before .before .loop .inv .1,
+    )
 
 returns : tie.Need-returns Inv-loop μ-loop
 returns c =
-    let h : SFits w32 (getD (c .before .before .before .before .before .before .args .slots .now) (c .before .before .before .before .loop .k) (pos 0)) = search needs in
-    slots-wrong (c .before .before .before .before .before .before .args .types .now) (c .before .before .before .before .before .before .args .slots .now) (c .before .before .before .before .loop .k) (c .before .before .before .loop-test .taken) (sym (rw (toZ-ofZ h) at (c .before .slot-right .ensures)) ∙ c .if1 .left) ∙ c .before .before .before .before .loop .inv .1
+    let h : SFits w32 (getD (c .before .before .before .before .before .before .args .slots .now) (c .before .before .before .before .loop .k) (pos 0)) =
+    search needs in
+    slots-wrong (c .before .before .before .before .before .before .args .types .now) (c .before .before .before .before .before .before .args .slots .now)
+    (c .before .before .before .before .loop .k) (c .before .before .before .loop-test .taken)
+    (sym (rw (toZ-ofZ h) at (c .before .slot-right .ensures)) ∙ c .if1 .left) ∙ c .before .before .before .before .loop .inv .1
 
 returns-2 : tie.Need-returns-2 Inv-loop μ-loop
-returns-2 c = slots-end (c .before .before .before .args .types .now) (c .before .before .before .args .slots .now) (c .before .loop .k) (c .before .loop .inv .0) (c .loop-test .left) ∙ c .before .loop .inv .1
+returns-2 c = slots-end (c .before .before .before .args .types .now) (c .before .before .before .args .slots .now) (c .before .loop .k)
+    (c .before .loop .inv .0) (c .loop-test .left) ∙ c .before .loop .inv .1
 
 pub slots-right-spec : {M : Type 1} → statement M
 slots-right-spec =

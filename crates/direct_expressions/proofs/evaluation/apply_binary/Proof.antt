@@ -11,7 +11,8 @@ use Rattle.direct_expressions.proofs.evaluation.apply_binary.Statement.
 use Rattle.direct_expressions.proofs.evaluation.apply_binary.Tie as tie
 
 returns : tie.Need-returns
-returns c = stopped (c .before .args .stack .now) (c .before .args .depth) 13 (c .before .pre) (binary-short (c .before .args .stack .now) (c .before .args .depth) (c .before .args .op) (c .before .args .t) (c .if1 .taken))
+returns c = stopped (c .before .args .stack .now) (c .before .args .depth) 13 (c .before .pre)
+    (binary-short (c .before .args .stack .now) (c .before .args .depth) (c .before .args .op) (c .before .args .t) (c .if1 .taken))
 
 returns-2 : tie.Need-returns-2
 returns-2 c =
@@ -19,7 +20,9 @@ returns-2 c =
     let m = c .before .before .before .before .pre in
     let i = s .depth - 1 - 1 in
     let e : s .depth - 2 ≡ i = omega arith in
-    halted (binaryOn (s .op) (s .t) (getD (s .stack .now) i (pos 0)) (getD (s .stack .now) (i + 1) (pos 0))) (s .stack .now) i (rw e at (binary-more (s .stack .now) (s .depth) (s .op) (s .t) (c .before .before .before .if1 .left))) (c .before .apply-binary .ensures) (c .if2 .taken)
+    halted (binaryOn (s .op) (s .t) (getD (s .stack .now) i (pos 0)) (getD (s .stack .now) (i + 1) (pos 0))) (s .stack .now) i
+    (rw e at (binary-more (s .stack .now) (s .depth) (s .op) (s .t) (c .before .before .before .if1 .left))) (c .before .apply-binary .ensures)
+    (c .if2 .taken)
     (record { numbers = m .numbers; depth = omega (arith, m .depth) })
 
 returns-3 : tie.Need-returns-3
@@ -28,7 +31,9 @@ returns-3 c =
     let m = c .before .before .before .before .pre in
     let i = s .depth - 1 - 1 in
     let e : s .depth - 2 ≡ i = omega arith in
-    went (binaryOn (s .op) (s .t) (getD (s .stack .now) i (pos 0)) (getD (s .stack .now) (i + 1) (pos 0))) (s .stack .now) i (rw e at (binary-more (s .stack .now) (s .depth) (s .op) (s .t) (c .before .before .before .if1 .left))) (c .before .apply-binary .ensures) (c .if2 .left)
+    went (binaryOn (s .op) (s .t) (getD (s .stack .now) i (pos 0)) (getD (s .stack .now) (i + 1) (pos 0))) (s .stack .now) i
+    (rw e at (binary-more (s .stack .now) (s .depth) (s .op) (s .t) (c .before .before .before .if1 .left))) (c .before .apply-binary .ensures)
+    (c .if2 .left)
     (record { numbers = m .numbers; depth = omega (arith, m .depth) })
 
 pub apply-binary-spec : {M : Type 1} → statement M

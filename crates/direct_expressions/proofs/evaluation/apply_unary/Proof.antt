@@ -10,14 +10,16 @@ use Rattle.direct_expressions.proofs.evaluation.apply_unary.Statement.{
 use Rattle.direct_expressions.proofs.evaluation.apply_unary.Tie as tie
 
 returns : tie.Need-returns
-returns c = stopped (c .before .args .stack .now) (c .before .args .depth) 13 (c .before .pre) (unary-short (c .before .args .stack .now) (c .before .args .depth) (c .before .args .op) (c .before .args .t) (c .if1 .taken))
+returns c = stopped (c .before .args .stack .now) (c .before .args .depth) 13 (c .before .pre)
+    (unary-short (c .before .args .stack .now) (c .before .args .depth) (c .before .args .op) (c .before .args .t) (c .if1 .taken))
 
 returns-2 : tie.Need-returns-2
 returns-2 c =
     let s = c .before .before .before .before .args in
     let m = c .before .before .before .before .pre in
     let i = s .depth - 1 in
-    halted (unaryOn (s .op) (s .t) (getD (s .stack .now) i (pos 0))) (s .stack .now) i (unary-more (s .stack .now) (s .depth) (s .op) (s .t) (c .before .before .before .if1 .left)) (c .before .apply-unary .ensures) (c .if2 .taken)
+    halted (unaryOn (s .op) (s .t) (getD (s .stack .now) i (pos 0))) (s .stack .now) i
+    (unary-more (s .stack .now) (s .depth) (s .op) (s .t) (c .before .before .before .if1 .left)) (c .before .apply-unary .ensures) (c .if2 .taken)
     (record { numbers = m .numbers; depth = omega (arith, m .depth) })
 
 returns-3 : tie.Need-returns-3
@@ -25,7 +27,8 @@ returns-3 c =
     let s = c .before .before .before .before .args in
     let m = c .before .before .before .before .pre in
     let i = s .depth - 1 in
-    went (unaryOn (s .op) (s .t) (getD (s .stack .now) i (pos 0))) (s .stack .now) i (unary-more (s .stack .now) (s .depth) (s .op) (s .t) (c .before .before .before .if1 .left)) (c .before .apply-unary .ensures) (c .if2 .left)
+    went (unaryOn (s .op) (s .t) (getD (s .stack .now) i (pos 0))) (s .stack .now) i
+    (unary-more (s .stack .now) (s .depth) (s .op) (s .t) (c .before .before .before .if1 .left)) (c .before .apply-unary .ensures) (c .if2 .left)
     (record { numbers = m .numbers; depth = omega (arith, m .depth) })
 
 pub apply-unary-spec : {M : Type 1} → statement M

@@ -22,31 +22,43 @@ returns c =
 returns-2 : tie.Need-returns-2
 returns-2 c =
     let s = c .before .before .before .before .before .args in
-    let e : c .before .named .result ≡ getD (s .inputs .now) (unsigned32 (s .arg)) (pos 0) = rw (toZ-ofZ (c .before .before .before .before .before .fits .arg)) at (c .before .named .ensures) in
+    let e : c .before .named .result ≡ getD (s .inputs .now) (unsigned32 (s .arg)) (pos 0) =
+    rw (toZ-ofZ (c .before .before .before .before .before .fits .arg)) at (c .before .named .ensures) in
     let fit : SFits w32 (c .before .named .result) = search needs in
-    saying (step-input (s .inputs .now) (s .variables .now) (s .op) (s .arg) (stackOf (pos 0) (s .stack .now) (s .depth)) (c .before .before .before .if2 .taken))
+    saying (step-input (s .inputs .now) (s .variables .now) (s .op) (s .arg) (stackOf (pos 0) (s .stack .now) (s .depth))
+    (c .before .before .before .if2 .taken))
     (rw e at (rw (toZ-ofZ fit) at (c .push2 .ensures)))
 
 returns-3 : tie.Need-returns-3
 returns-3 c =
     let s = c .before .before .before .before .before .before .args in
-    let e : c .before .named2 .result ≡ getD (s .variables .now) (unsigned32 (s .arg)) (pos 0) = rw (toZ-ofZ (c .before .before .before .before .before .before .fits .arg)) at (c .before .named2 .ensures) in
+    let e : c .before .named2 .result ≡ getD (s .variables .now) (unsigned32 (s .arg)) (pos 0) =
+    rw (toZ-ofZ (c .before .before .before .before .before .before .fits .arg)) at (c .before .named2 .ensures) in
     let fit : SFits w32 (c .before .named2 .result) = search needs in
-    saying (step-variable (s .inputs .now) (s .variables .now) (s .op) (s .arg) (stackOf (pos 0) (s .stack .now) (s .depth)) (c .before .before .before .if3 .taken))
+    saying (step-variable (s .inputs .now) (s .variables .now) (s .op) (s .arg) (stackOf (pos 0) (s .stack .now) (s .depth))
+    (c .before .before .before .if3 .taken))
     (rw e at (rw (toZ-ofZ fit) at (c .push3 .ensures)))
 
 returns-4 : tie.Need-returns-4
 returns-4 c =
     let s = c .before .before .before .before .before .before .before .before .args in
-    let k : c .before .kind .result ≡ kindOf (s .arg) = rw (toZ-ofZ (c .before .before .before .before .before .before .before .before .fits .arg)) at (c .before .kind .ensures) in
-    saying (step-unary (s .inputs .now) (s .variables .now) (s .op) (s .arg) (stackOf (pos 0) (s .stack .now) (s .depth)) (c .before .before .before .before .before .before .before .if1 .left) (c .before .before .before .before .before .before .if2 .left) (c .before .before .before .before .before .if3 .left) (sym (c .before .before .before .before .operands .ensures) ∙ c .before .before .before .if4 .taken))
+    let k : c .before .kind .result ≡ kindOf (s .arg) =
+    rw (toZ-ofZ (c .before .before .before .before .before .before .before .before .fits .arg)) at (c .before .kind .ensures) in
+    saying (step-unary (s .inputs .now) (s .variables .now) (s .op) (s .arg) (stackOf (pos 0) (s .stack .now) (s .depth))
+    (c .before .before .before .before .before .before .before .if1 .left) (c .before .before .before .before .before .before .if2 .left)
+    (c .before .before .before .before .before .if3 .left)
+    (sym (c .before .before .before .before .operands .ensures) ∙ c .before .before .before .if4 .taken))
     (rw k at (c .apply-unary .ensures))
 
 returns-5 : tie.Need-returns-5
 returns-5 c =
     let s = c .before .before .before .before .before .before .before .before .args in
-    let k : c .before .kind2 .result ≡ kindOf (s .arg) = rw (toZ-ofZ (c .before .before .before .before .before .before .before .before .fits .arg)) at (c .before .kind2 .ensures) in
-    saying (step-binary (s .inputs .now) (s .variables .now) (s .op) (s .arg) (stackOf (pos 0) (s .stack .now) (s .depth)) (c .before .before .before .before .before .before .before .if1 .left) (c .before .before .before .before .before .before .if2 .left) (c .before .before .before .before .before .if3 .left) (λ z. c .before .before .before .if4 .left (c .before .before .before .before .operands .ensures ∙ z)))
+    let k : c .before .kind2 .result ≡ kindOf (s .arg) =
+    rw (toZ-ofZ (c .before .before .before .before .before .before .before .before .fits .arg)) at (c .before .kind2 .ensures) in
+    saying (step-binary (s .inputs .now) (s .variables .now) (s .op) (s .arg) (stackOf (pos 0) (s .stack .now) (s .depth))
+    (c .before .before .before .before .before .before .before .if1 .left) (c .before .before .before .before .before .before .if2 .left)
+    (c .before .before .before .before .before .if3 .left)
+    (λ z. c .before .before .before .if4 .left (c .before .before .before .before .operands .ensures ∙ z)))
     (rw k at (c .apply-binary .ensures))
 
 pub step-spec : {M : Type 1} → statement M

@@ -87,7 +87,14 @@ start-returns t c =
     let k = c .before .before .before .loop .inv in
     let h = c .before .before .loop-test .taken in (
       omega arith,
-      (λ q w h l. let p = going-inside (c .before .before .before .before .before .before .args .codes .now) (c .before .before .before .before .before .before .args .args .now) (c .before .before .before .before .before .before .args .rows .now) (c .before .before .before .before .before .before .args .inputs .now) (c .before .before .before .before .before .before .args .end) (startRest q (c .before .before .before .before .before .before .args .first) (c .before .before .before .before .before .before .args .inputs .now) (run w (c .before .before .before .before .before .before .args .outputs .now) (c .before .before .before .before .before .before .args .variables .now))) (c .before .before .before .loop .at) (c .before .before .before .loop .n) (c .before .entry .result) (c .before .before .before .loop .outputs) (c .before .before .before .loop .variables) (c .before .before .before .loop .outputs) (c .before .before .before .loop .variables) (Passed 0) (c .before .before .before .loop .inv .going q w h l) (c .before .before .loop-test .taken) (c .before .entry .ensures .0) in
+      (λ q w h l. let p = going-inside (c .before .before .before .before .before .before .args .codes .now)
+          (c .before .before .before .before .before .before .args .args .now) (c .before .before .before .before .before .before .args .rows .now)
+          (c .before .before .before .before .before .before .args .inputs .now) (c .before .before .before .before .before .before .args .end)
+          (startRest q (c .before .before .before .before .before .before .args .first) (c .before .before .before .before .before .before .args .inputs .now)
+          (run w (c .before .before .before .before .before .before .args .outputs .now) (c .before .before .before .before .before .before .args .variables .now)))
+          (c .before .before .before .loop .at) (c .before .before .before .loop .n) (c .before .entry .result) (c .before .before .before .loop .outputs)
+          (c .before .before .before .loop .variables) (c .before .before .before .loop .outputs) (c .before .before .before .loop .variables) (Passed 0)
+          (c .before .before .before .loop .inv .going q w h l) (c .before .before .loop-test .taken) (c .before .entry .ensures .0) in
           let g = c .if1 .taken in absurd (omega arith)),
     )
 
@@ -102,7 +109,17 @@ start-returns-2 t c =
     let k = c .before .before .before .before .loop .inv in
     let h = c .before .before .before .loop-test .taken in (
       omega arith,
-      (λ q w h l. let p = going-inside (c .before .before .before .before .before .before .before .args .codes .now) (c .before .before .before .before .before .before .before .args .args .now) (c .before .before .before .before .before .before .before .args .rows .now) (c .before .before .before .before .before .before .before .args .inputs .now) (c .before .before .before .before .before .before .before .args .end) (startRest q (c .before .before .before .before .before .before .before .args .first) (c .before .before .before .before .before .before .before .args .inputs .now) (run w (c .before .before .before .before .before .before .before .args .outputs .now) (c .before .before .before .before .before .before .before .args .variables .now))) (c .before .before .before .before .loop .at) (c .before .before .before .before .loop .n) (c .before .before .entry .result) (c .before .before .before .before .loop .outputs) (c .before .before .before .before .loop .variables) (c .before .before .before .before .loop .outputs) (c .before .before .before .before .loop .variables) (Passed 0) (c .before .before .before .before .loop .inv .going q w h l) (c .before .before .before .loop-test .taken) (c .before .before .entry .ensures .0) in
+      (λ q w h l. let p = going-inside (c .before .before .before .before .before .before .before .args .codes .now)
+          (c .before .before .before .before .before .before .before .args .args .now) (c .before .before .before .before .before .before .before .args .rows .now)
+          (c .before .before .before .before .before .before .before .args .inputs .now) (c .before .before .before .before .before .before .before .args .end)
+          (startRest q (c .before .before .before .before .before .before .before .args .first)
+          (c .before .before .before .before .before .before .before .args .inputs .now)
+          (run w (c .before .before .before .before .before .before .before .args .outputs .now)
+          (c .before .before .before .before .before .before .before .args .variables .now))) (c .before .before .before .before .loop .at)
+          (c .before .before .before .before .loop .n) (c .before .before .entry .result) (c .before .before .before .before .loop .outputs)
+          (c .before .before .before .before .loop .variables) (c .before .before .before .before .loop .outputs)
+          (c .before .before .before .before .loop .variables) (Passed 0) (c .before .before .before .before .loop .inv .going q w h l)
+          (c .before .before .before .loop-test .taken) (c .before .before .entry .ensures .0) in
           let g = c .if2 .taken in absurd (omega arith)),
     )
 
@@ -183,7 +200,11 @@ start-returns-5 : (t : ℕ) → start-lts.Need-returns-5 (start-calls t) (start-
 start-returns-5 t c =
     let k = c .before .loop .inv in (
       omega arith,
-      (λ q w h l. going-end (c .before .before .before .before .args .codes .now) (c .before .before .before .before .args .args .now) (c .before .before .before .before .args .rows .now) (c .before .before .before .before .args .inputs .now) (c .before .before .before .before .args .end) (startRest q (c .before .before .before .before .args .first) (c .before .before .before .before .args .inputs .now) (run w (c .before .before .before .before .args .outputs .now) (c .before .before .before .before .args .variables .now))) (c .before .loop .at) (c .before .loop .n) (c .before .loop .outputs) (c .before .loop .variables) (c .before .loop .inv .going q w h l) (c .loop-test .left)),
+      (λ q w h l. going-end (c .before .before .before .before .args .codes .now) (c .before .before .before .before .args .args .now)
+          (c .before .before .before .before .args .rows .now) (c .before .before .before .before .args .inputs .now) (c .before .before .before .before .args .end)
+          (startRest q (c .before .before .before .before .args .first) (c .before .before .before .before .args .inputs .now)
+          (run w (c .before .before .before .before .args .outputs .now) (c .before .before .before .before .args .variables .now))) (c .before .loop .at)
+          (c .before .loop .n) (c .before .loop .outputs) (c .before .loop .variables) (c .before .loop .inv .going q w h l) (c .loop-test .left)),
     )
 
 statement-perform-requires : (t : ℕ) → statement-lts.Need-perform-requires (statement-calls t) (statement-at t) statement′.Post
@@ -205,11 +226,16 @@ statement-nested-requires : (t : ℕ) → statement-lts.Need-nested-requires (st
 statement-nested-requires t c κs = search needs
 
 statement-add-start : (t : ℕ) → statement-lts.Need-add-start (statement-calls t) (statement-at t) statement′.Post
-statement-add-start t c = let b = c .before .before .before .before .before .before .before .before .before .before .before .before .before .before .pre .1 in omega arith
+statement-add-start t c = let b = c .before .before .before .before .before .before .before .before .before .before .before .before .before .before .pre .1 in
+    omega arith
 
 statement-start-requires : (t : ℕ) → statement-lts.Need-start-requires (statement-calls t) (statement-at t) statement′.Post
 statement-start-requires t c κs =
-    let f = nested-true (c .before .before .before .nested .result) (c .before .before .before .before .before .before .before .before .before .before .before .before .before .before .args .at) (c .before .before .before .before .before .m2 .given .0 .0) (c .before .before .before .before .before .m2 .given .0 .1 .0) (c .before .before .before .before .before .before .before .before .before .before .before .before .before .before .args .next) (c .before .before .before .nested .ensures) (c .before .before .if1 .taken) in
+    let f = nested-true (c .before .before .before .nested .result)
+    (c .before .before .before .before .before .before .before .before .before .before .before .before .before .before .args .at)
+    (c .before .before .before .before .before .m2 .given .0 .0) (c .before .before .before .before .before .m2 .given .0 .1 .0)
+    (c .before .before .before .before .before .before .before .before .before .before .before .before .before .before .args .next)
+    (c .before .before .before .nested .ensures) (c .before .before .if1 .taken) in
     let b = c .before .before .before .before .before .before .before .before .before .before .before .before .before .before .pre .1 in
     let t0 = c .before .before .before .before .before .before .before .before .before .before .before .before .before .before .pre .0 in
     (omega arith, record { order = omega arith; few = omega arith; room = omega arith })
@@ -222,11 +248,18 @@ statement-same-length-2 t c = search needs
 
 statement-returns : (t : ℕ) → statement-lts.Need-returns (statement-calls t) (statement-at t) statement′.Post
 statement-returns t c =
-    let f = nested-true (c .before .before .before .before .before .before .nested .result) (c .before .before .before .before .before .before .before .before .before .before .before .before .before .before .before .before .before .args .at) (c .before .before .before .before .before .before .before .before .m2 .given .0 .0) (c .before .before .before .before .before .before .before .before .m2 .given .0 .1 .0) (c .before .before .before .before .before .before .before .before .before .before .before .before .before .before .before .before .before .args .next) (c .before .before .before .before .before .before .nested .ensures) (c .before .before .before .before .before .if1 .taken) in
-    let b = c .before .before .before .before .before .before .before .before .before .before .before .before .before .before .before .before .before .pre .1 in
+    let f = nested-true (c .before .before .before .before .before .before .nested .result) _
+    (c .before .before .before .before .before .before .before .before .m2 .given .0 .0)
+    (c .before .before .before .before .before .before .before .before .m2 .given .0 .1 .0) _
+    (c .before .before .before .before .before .before .nested .ensures) (c .before .before .before .before .before .if1 .taken) in
     let u = c .before .before .start .ensures .0 in (
       omega arith,
-      (λ f w s h l. enters-stand (c .before .before .before .before .before .before .before .before .before .before .before .before .before .before .before .before .before .args .codes .now) (c .before .before .before .before .before .before .before .before .before .before .before .before .before .before .before .before .before .args .args .now) (c .before .before .before .before .before .before .before .before .before .before .before .before .before .before .before .before .before .args .rows .now) (c .before .before .before .before .before .before .before .before .before .before .before .before .before .before .before .before .before .args .inputs .now) (c .before .before .before .before .before .before .before .before .before .before .before .before .before .before .before .before .before .args .at) (c .before .before .before .before .before .before .before .before .before .before .before .before .before .before .before .before .before .args .next) (c .before .before .before .before .before .before .before .before .before .before .before .before .before .before .before .before .before .args .count) (c .before .before .before .before .before .before .before .before .before .before .before .before .before .before .before .before .before .args .outputs .now) (c .before .before .before .before .before .before .before .before .before .before .before .before .before .before .before .before .before .args .variables .now) _ _ (c .before .before .before .before .before .before .before .before .before .before .before .before .perform .result) (c .before .before .before .before .before .before .before .before .m2 .given .0 .0) (c .before .before .before .before .before .before .before .before .m2 .given .0 .1 .0) (c .before .before .start .result) _ _ w (c .before .before .before .before .before .before .before .before .before .before .before .before .perform .ensures) (c .before .before .before .before .before .before .before .before .m2 .given .1) (c .before .before .start .ensures .1) s h l),
+      (λ f w s h l. enters-stand _ _ _ _ _ _ _ _ _ _ _
+          (c .before .before .before .before .before .before .before .before .before .before .before .before .perform .result)
+          (c .before .before .before .before .before .before .before .before .m2 .given .0 .0)
+          (c .before .before .before .before .before .before .before .before .m2 .given .0 .1 .0) (c .before .before .start .result) _ _ w
+          (c .before .before .before .before .before .before .before .before .before .before .before .before .perform .ensures)
+          (c .before .before .before .before .before .before .before .before .m2 .given .1) (c .before .before .start .ensures .1) s h l),
     )
 
 statement-add-t27 : (t : ℕ) → statement-lts.Need-add-t27 (statement-calls t) (statement-at t) statement′.Post
@@ -242,7 +275,16 @@ statement-returns-2 : (t : ℕ) → statement-lts.Need-returns-2 (statement-call
 statement-returns-2 t c =
     let b = c .before .before .before .before .before .before .before .before .before .pre .1 in (
       omega arith,
-      (λ f w s h l. waits-stand (c .before .before .before .before .before .before .before .before .before .args .codes .now) (c .before .before .before .before .before .before .before .before .before .args .args .now) (c .before .before .before .before .before .before .before .before .before .args .rows .now) (c .before .before .before .before .before .before .before .before .before .args .inputs .now) (c .before .before .before .before .before .before .before .before .before .args .at) (c .before .before .before .before .before .before .before .before .before .args .next) (c .before .before .before .before .before .before .before .before .before .args .count) (c .before .before .before .before .before .before .before .before .before .args .outputs .now) (c .before .before .before .before .before .before .before .before .before .args .variables .now) _ _ (c .before .before .before .before .perform .result) w (c .before .before .before .before .perform .ensures) (c .enum-told .given .1) s h l),
+      (λ f w s h l. waits-stand (c .before .before .before .before .before .before .before .before .before .args .codes .now)
+          (c .before .before .before .before .before .before .before .before .before .args .args .now)
+          (c .before .before .before .before .before .before .before .before .before .args .rows .now)
+          (c .before .before .before .before .before .before .before .before .before .args .inputs .now)
+          (c .before .before .before .before .before .before .before .before .before .args .at)
+          (c .before .before .before .before .before .before .before .before .before .args .next)
+          (c .before .before .before .before .before .before .before .before .before .args .count)
+          (c .before .before .before .before .before .before .before .before .before .args .outputs .now)
+          (c .before .before .before .before .before .before .before .before .before .args .variables .now) _ _
+          (c .before .before .before .before .perform .result) w (c .before .before .before .before .perform .ensures) (c .enum-told .given .1) s h l),
     )
 
 statement-same-length-5 : (t : ℕ) → statement-lts.Need-same-length-5 (statement-calls t) (statement-at t) statement′.Post
@@ -254,7 +296,17 @@ statement-same-length-6 t c = search needs
 statement-returns-3 : (t : ℕ) → statement-lts.Need-returns-3 (statement-calls t) (statement-at t) statement′.Post
 statement-returns-3 t c = (
   omega arith,
-  (λ f w s h l. refuses-stand (c .before .before .before .before .before .before .before .before .before .before .args .codes .now) (c .before .before .before .before .before .before .before .before .before .before .args .args .now) (c .before .before .before .before .before .before .before .before .before .before .args .rows .now) (c .before .before .before .before .before .before .before .before .before .before .args .inputs .now) (c .before .before .before .before .before .before .before .before .before .before .args .at) (c .before .before .before .before .before .before .before .before .before .before .args .next) (c .before .before .before .before .before .before .before .before .before .before .args .count) (c .before .before .before .before .before .before .before .before .before .before .args .outputs .now) (c .before .before .before .before .before .before .before .before .before .before .args .variables .now) _ _ (c .before .before .before .before .before .perform .result) w (c .before .m .given .0 .0) (c .before .before .before .before .before .perform .ensures) (c .before .m .given .1) s h),
+  (λ f w s h l. refuses-stand (c .before .before .before .before .before .before .before .before .before .before .args .codes .now)
+      (c .before .before .before .before .before .before .before .before .before .before .args .args .now)
+      (c .before .before .before .before .before .before .before .before .before .before .args .rows .now)
+      (c .before .before .before .before .before .before .before .before .before .before .args .inputs .now)
+      (c .before .before .before .before .before .before .before .before .before .before .args .at)
+      (c .before .before .before .before .before .before .before .before .before .before .args .next)
+      (c .before .before .before .before .before .before .before .before .before .before .args .count)
+      (c .before .before .before .before .before .before .before .before .before .before .args .outputs .now)
+      (c .before .before .before .before .before .before .before .before .before .before .args .variables .now) _ _
+      (c .before .before .before .before .before .perform .result) w (c .before .m .given .0 .0) (c .before .before .before .before .before .perform .ensures)
+      (c .before .m .given .1) s h),
 )
 
 statement-same-length-7 : (t : ℕ) → statement-lts.Need-same-length-7 (statement-calls t) (statement-at t) statement′.Post
@@ -267,7 +319,18 @@ statement-returns-4 : (t : ℕ) → statement-lts.Need-returns-4 (statement-call
 statement-returns-4 t c =
     let b = c .before .before .before .before .before .before .before .before .before .before .before .before .pre .1 in (
       omega arith,
-      (λ f w s h l. absurd (never-outside (c .before .before .before .before .before .before .before .before .before .before .before .before .args .codes .now) (c .before .before .before .before .before .before .before .before .before .before .before .before .args .args .now) (c .before .before .before .before .before .before .before .before .before .before .before .before .args .rows .now) (c .before .before .before .before .before .before .before .before .before .before .before .before .args .inputs .now) (c .before .before .before .before .before .before .before .before .before .before .before .before .args .at) (c .before .before .before .before .before .before .before .before .before .before .before .before .args .next) (c .before .before .before .before .before .before .before .before .before .before .before .before .args .count) (c .before .before .before .before .before .before .before .before .before .before .before .before .args .outputs .now) (c .before .before .before .before .before .before .before .before .before .before .before .before .args .variables .now) _ _ (c .before .before .before .before .before .before .before .perform .result) w (c .before .before .before .m2 .given .0 .0) (c .before .before .before .m2 .given .0 .1 .0) (c .before .nested .result) (c .before .before .before .before .before .before .before .perform .ensures) (c .before .before .before .m2 .given .1) (c .before .nested .ensures) (c .if1 .left) s h)),
+      (λ f w s h l. absurd (never-outside (c .before .before .before .before .before .before .before .before .before .before .before .before .args .codes .now)
+          (c .before .before .before .before .before .before .before .before .before .before .before .before .args .args .now)
+          (c .before .before .before .before .before .before .before .before .before .before .before .before .args .rows .now)
+          (c .before .before .before .before .before .before .before .before .before .before .before .before .args .inputs .now)
+          (c .before .before .before .before .before .before .before .before .before .before .before .before .args .at)
+          (c .before .before .before .before .before .before .before .before .before .before .before .before .args .next)
+          (c .before .before .before .before .before .before .before .before .before .before .before .before .args .count)
+          (c .before .before .before .before .before .before .before .before .before .before .before .before .args .outputs .now)
+          (c .before .before .before .before .before .before .before .before .before .before .before .before .args .variables .now) _ _
+          (c .before .before .before .before .before .before .before .perform .result) w (c .before .before .before .m2 .given .0 .0)
+          (c .before .before .before .m2 .given .0 .1 .0) (c .before .nested .result) (c .before .before .before .before .before .before .before .perform .ensures)
+          (c .before .before .before .m2 .given .1) (c .before .nested .ensures) (c .if1 .left) s h)),
     )
 
 pub +start+statement-spec : {M : Type 1} → statement M

@@ -18,20 +18,39 @@ returns c =
     let u = c .before .before .start .ensures .0 in
     let e = ap (λ (x : Progress). counted x) (c .before .before .before .before .before .before .r .given .1) in (
       omega arith,
-      (λ R q s h. on-passed (c .before .before .before .before .before .before .before .before .before .before .args .codes .now) (c .before .before .before .before .before .before .before .before .before .before .args .args .now) (c .before .before .before .before .before .before .before .before .before .before .args .rows .now) (c .before .before .before .before .before .before .before .before .before .before .args .inputs .now) (c .before .before .before .before .before .before .before .before .before .before .args .from) (c .before .before .before .before .before .before .before .before .before .before .args .end) R q (c .before .before .before .before .before .before .before .before .before .before .args .r) (c .before .before .before .before .before .before .before .before .before .before .args .outputs .now) (c .before .before .before .before .before .before .before .before .before .before .args .variables .now) (c .before .before .before .before .before .before .r .given .0 .0) (c .before .before .start .result) _ _ s (c .before .before .before .before .before .before .r .given .1) h (c .before .before .start .ensures .1)),
+      (λ R q s h. on-passed (c .before .before .before .before .before .before .before .before .before .before .args .codes .now)
+          (c .before .before .before .before .before .before .before .before .before .before .args .args .now)
+          (c .before .before .before .before .before .before .before .before .before .before .args .rows .now)
+          (c .before .before .before .before .before .before .before .before .before .before .args .inputs .now)
+          (c .before .before .before .before .before .before .before .before .before .before .args .from)
+          (c .before .before .before .before .before .before .before .before .before .before .args .end) R q
+          (c .before .before .before .before .before .before .before .before .before .before .args .r)
+          (c .before .before .before .before .before .before .before .before .before .before .args .outputs .now)
+          (c .before .before .before .before .before .before .before .before .before .before .args .variables .now)
+          (c .before .before .before .before .before .before .r .given .0 .0) (c .before .before .start .result) _ _ s
+          (c .before .before .before .before .before .before .r .given .1) h (c .before .before .start .ensures .1)),
     )
 
 returns-2 : tie.Need-returns-2
 returns-2 c =
     let e = ap (λ (x : Progress). counted x) (c .before .r2 .given .1) in (
       omega arith,
-      (λ R q s h. on-reached (c .before .before .before .before .before .args .codes .now) (c .before .before .before .before .before .args .args .now) (c .before .before .before .before .before .args .rows .now) (c .before .before .before .before .before .args .inputs .now) (c .before .before .before .before .before .args .from) (c .before .before .before .before .before .args .end) R q (c .before .before .before .before .before .args .r) (c .before .before .before .before .before .args .outputs .now) (c .before .before .before .before .before .args .variables .now) (c .before .r2 .given .0 .0) (c .before .r2 .given .0 .1 .0) s (c .before .r2 .given .1)),
+      (λ R q s h. on-reached (c .before .before .before .before .before .args .codes .now) (c .before .before .before .before .before .args .args .now)
+          (c .before .before .before .before .before .args .rows .now) (c .before .before .before .before .before .args .inputs .now)
+          (c .before .before .before .before .before .args .from) (c .before .before .before .before .before .args .end) R q
+          (c .before .before .before .before .before .args .r) (c .before .before .before .before .before .args .outputs .now)
+          (c .before .before .before .before .before .args .variables .now) (c .before .r2 .given .0 .0) (c .before .r2 .given .0 .1 .0) s
+          (c .before .r2 .given .1)),
     )
 
 returns-3 : tie.Need-returns-3
 returns-3 c = (
   omega arith,
-  (λ R q s h. on-refused (c .before .before .before .before .before .args .codes .now) (c .before .before .before .before .before .args .args .now) (c .before .before .before .before .before .args .rows .now) (c .before .before .before .before .before .args .inputs .now) (c .before .before .before .before .before .args .from) (c .before .before .before .before .before .args .end) R q (c .before .before .before .before .before .args .r) (c .before .before .before .before .before .args .outputs .now) (c .before .before .before .before .before .args .variables .now) (c .before .r3 .given .0 .0) (c .before .r3 .given .0 .1 .0) s (c .before .r3 .given .1)),
+  (λ R q s h. on-refused (c .before .before .before .before .before .args .codes .now) (c .before .before .before .before .before .args .args .now)
+      (c .before .before .before .before .before .args .rows .now) (c .before .before .before .before .before .args .inputs .now)
+      (c .before .before .before .before .before .args .from) (c .before .before .before .before .before .args .end) R q
+      (c .before .before .before .before .before .args .r) (c .before .before .before .before .before .args .outputs .now)
+      (c .before .before .before .before .before .args .variables .now) (c .before .r3 .given .0 .0) (c .before .r3 .given .0 .1 .0) s (c .before .r3 .given .1)),
 )
 
 pub go-on-spec : {M : Type 1} → statement M

@@ -15,13 +15,22 @@ use Rattle.direct_statements.proofs.blocks.part.Tie as tie
 
 abbrev Inv-loop : tie.InvT-loop
 Inv-loop rows first end place at₀ at =
-    (first ≤ at) × ((at < 65536) × ((codes : List ℕ) (args : List ℤ) (s : Stmt) → HeldIn codes args rows s first end → Block s → has s first place ≡ true → Later codes args rows s first end place at))
+    (first ≤ at) × ((at < 65536) × ((codes : List ℕ) (args : List ℤ) (s : Stmt) → HeldIn codes args rows s first end → Block s → has s first place ≡ true
+    → Later codes args rows s first end place at))
 
 abbrev μ-loop : tie.MeasureT-loop
 μ-loop rows first end place at₀ at = end - at
 
 loop-holds : tie.Need-loop-holds Inv-loop μ-loop
-loop-holds c = (omega arith, (let b = c .before .pre in omega arith, λ codes args s h b x. later-first codes args (c .before .args .rows .now) s (c .before .args .first) (c .before .args .end) (c .before .args .place) h b x))
+loop-holds c = (
+  omega arith,
+  (
+    let b = c .before .pre in
+        omega arith,
+    λ codes args s h b x. later-first codes args (c .before .args .rows .now) s (c .before .args .first) (c .before .args .end)
+        (c .before .args .place) h b x,
+  ),
+)
 
 mul-entry : tie.Need-mul-entry Inv-loop μ-loop
 mul-entry c = let b = c .before .before .before .pre in let h = c .loop-test .taken in omega arith
@@ -30,10 +39,23 @@ add-entry : tie.Need-add-entry Inv-loop μ-loop
 add-entry c = let b = c .before .before .before .pre in let h = c .loop-test .taken in omega arith
 
 returns : tie.Need-returns Inv-loop μ-loop
-returns c = ((c .before .before .before .loop .inv .0, c .before .before .before .loop .inv .1 .0), (λ codes args s h b x. later-found codes args (c .before .before .before .before .before .args .rows .now) s (c .before .before .before .before .before .args .first) (c .before .before .before .before .before .args .end) (c .before .before .before .before .before .args .place) (c .before .before .before .loop .at) (c .before .entry .result) (c .before .before .before .loop .inv .1 .1 codes args s h b x) (c .before .entry .ensures .0) (c .if1 .taken)))
+returns c = (
+  (c .before .before .before .loop .inv .0, c .before .before .before .loop .inv .1 .0),
+  (λ codes args s h b x. later-found codes args (c .before .before .before .before .before .args .rows .now) s
+      (c .before .before .before .before .before .args .first) (c .before .before .before .before .before .args .end)
+      (c .before .before .before .before .before .args .place) (c .before .before .before .loop .at) (c .before .entry .result)
+      (c .before .before .before .loop .inv .1 .1 codes args s h b x) (c .before .entry .ensures .0) (c .if1 .taken)),
+)
 
 returns-2 : tie.Need-returns-2 Inv-loop μ-loop
-returns-2 c = ((c .before .before .before .before .loop .inv .0, c .before .before .before .before .loop .inv .1 .0), (λ codes args s h b x. absurd (let l = later-again codes args (c .before .before .before .before .before .before .args .rows .now) s (c .before .before .before .before .before .before .args .first) (c .before .before .before .before .before .before .args .end) (c .before .before .before .before .before .before .args .place) (c .before .before .before .before .loop .at) (c .before .before .entry .result) (c .before .before .before .before .loop .inv .1 .1 codes args s h b x) (c .before .before .entry .ensures .0) (c .before .if1 .left) .0 in let g = c .if2 .taken in omega arith)))
+returns-2 c = (
+  (c .before .before .before .before .loop .inv .0, c .before .before .before .before .loop .inv .1 .0),
+  (λ codes args s h b x. absurd (let l = later-again codes args (c .before .before .before .before .before .before .args .rows .now) s
+      (c .before .before .before .before .before .before .args .first) (c .before .before .before .before .before .before .args .end)
+      (c .before .before .before .before .before .before .args .place) (c .before .before .before .before .loop .at) (c .before .before .entry .result)
+      (c .before .before .before .before .loop .inv .1 .1 codes args s h b x) (c .before .before .entry .ensures .0) (c .before .if1 .left) .0 in
+      let g = c .if2 .taken in omega arith)),
+)
 
 loop-less : tie.Need-loop-less Inv-loop μ-loop
 loop-less c = let g = c .if2 .left in let h = c .before .before .before .loop-test .taken in omega arith
@@ -41,11 +63,25 @@ loop-less c = let g = c .if2 .left in let h = c .before .before .before .loop-te
 loop-again : tie.Need-loop-again Inv-loop μ-loop
 loop-again c =
     let g = c .if2 .left in
-    let k = c .before .before .before .before .loop .inv .0 in
-    (omega arith, (c .before .before .entry .ensures .1, λ codes args s h b x. later-again codes args (c .before .before .before .before .before .before .args .rows .now) s (c .before .before .before .before .before .before .args .first) (c .before .before .before .before .before .before .args .end) (c .before .before .before .before .before .before .args .place) (c .before .before .before .before .loop .at) (c .before .before .entry .result) (c .before .before .before .before .loop .inv .1 .1 codes args s h b x) (c .before .before .entry .ensures .0) (c .before .if1 .left) .1))
+    let k = c .before .before .before .before .loop .inv .0 in (
+      omega arith,
+      (
+        c .before .before .entry .ensures .1,
+        λ codes args s h b x. later-again codes args
+            (c .before .before .before .before .before .before .args .rows .now) s (c .before .before .before .before .before .before .args .first)
+            (c .before .before .before .before .before .before .args .end) (c .before .before .before .before .before .before .args .place)
+            (c .before .before .before .before .loop .at) (c .before .before .entry .result) (c .before .before .before .before .loop .inv .1 .1 codes args s h b x)
+            (c .before .before .entry .ensures .0) (c .before .if1 .left) .1,
+      ),
+    )
 
 returns-3 : tie.Need-returns-3 Inv-loop μ-loop
-returns-3 c = ((c .before .loop .inv .0, c .before .loop .inv .1 .0), (λ codes args s h b x. absurd (let l = later-inside codes args (c .before .before .before .args .rows .now) s (c .before .before .before .args .first) (c .before .before .before .args .end) (c .before .before .before .args .place) (c .before .loop .at) (c .before .loop .inv .1 .1 codes args s h b x) in let g = c .loop-test .left in omega arith)))
+returns-3 c = (
+  (c .before .loop .inv .0, c .before .loop .inv .1 .0),
+  (λ codes args s h b x. absurd (let l = later-inside codes args (c .before .before .before .args .rows .now) s (c .before .before .before .args .first)
+      (c .before .before .before .args .end) (c .before .before .before .args .place) (c .before .loop .at) (c .before .loop .inv .1 .1 codes args s h b x) in
+      let g = c .loop-test .left in omega arith)),
+)
 
 pub part-spec : {M : Type 1} → statement M
 part-spec =

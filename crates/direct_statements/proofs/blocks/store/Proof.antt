@@ -12,7 +12,8 @@ returns : tie.Need-returns
 returns c = other-kind _ _ _ _ (c .if1 .taken)
 
 returns-2 : tie.Need-returns-2
-returns-2 c = this-kind _ _ _ _ _ (c .before .if1 .left) (ap (λ z. set (c .before .before .args .row .now) (c .before .before .args .n) z) (toZ-ofZ (c .before .before .fits .v)))
+returns-2 c = this-kind _ _ _ _ _ (c .before .if1 .left)
+    (ap (λ z. set (c .before .before .args .row .now) (c .before .before .args .n) z) (toZ-ofZ (c .before .before .fits .v)))
 
 returns-3 : tie.Need-returns-3
 returns-3 c = this-kind _ _ _ _ _ (c .before .if1 .left) (sym (set-out _ _ _ (search needs)))

@@ -14,7 +14,12 @@ returns c = λ s h b l x. absurd (let g = c .if1 .taken in omega arith)
 
 returns-2 : tie.Need-returns-2
 unfolding cycleOf
-returns-2 c = λ s h b l x. c .before .before .go-on .ensures .1 (enterOf s (placeFor (c .before .before .before .before .before .before .before .before .before .before .before .before .before .args .place)) (c .before .before .before .before .before .before .before .before .before .before .before .before .before .args .inputs .now) (run [] (c .before .before .before .before .before .before .before .before .before .before .before .before .before .args .outputs .now) (c .before .before .before .before .before .before .before .before .before .before .before .before .before .args .variables .now))) (some s) (c .before .before .before .before .before .before .before .enter .ensures .1 s h b x) (h, b)
+returns-2 c = λ s h b l x. c .before .before .go-on .ensures .1
+    (enterOf s (placeFor (c .before .before .before .before .before .before .before .before .before .before .before .before .before .args .place))
+    (c .before .before .before .before .before .before .before .before .before .before .before .before .before .args .inputs .now)
+    (run [] (c .before .before .before .before .before .before .before .before .before .before .before .before .before .args .outputs .now)
+    (c .before .before .before .before .before .before .before .before .before .before .before .before .before .args .variables .now))) (some s)
+    (c .before .before .before .before .before .before .before .enter .ensures .1 s h b x) (h, b)
 
 pub cycle-spec : {M : Type 1} → statement M
 cycle-spec =

@@ -13,14 +13,25 @@ returns : tie.Need-returns
 returns c =
     let u = c .before .before .start .ensures .0 in (
       omega arith,
-      (λ s h b x. enter-starts s (c .before .before .before .before .before .before .before .before .args .place) (c .before .before .before .before .before .before .before .before .args .inputs .now) (run [] (c .before .before .before .before .before .before .before .before .args .outputs .now) (c .before .before .before .before .before .before .before .before .args .variables .now)) (c .before .before .start .result) _ _ (c .before .before .before .before .before .if1 .taken) (c .before .before .start .ensures .1 (some s) [] (h, b) refl)),
+      (λ s h b x. enter-starts s (c .before .before .before .before .before .before .before .before .args .place)
+          (c .before .before .before .before .before .before .before .before .args .inputs .now)
+          (run [] (c .before .before .before .before .before .before .before .before .args .outputs .now)
+          (c .before .before .before .before .before .before .before .before .args .variables .now)) (c .before .before .start .result) _ _
+          (c .before .before .before .before .before .if1 .taken) (c .before .before .start .ensures .1 (some s) [] (h, b) refl)),
     )
 
 returns-2 : tie.Need-returns-2
 returns-2 c =
     let u = c .before .before .resume .ensures .0 in (
       omega arith,
-      (λ s h b x. enter-resumes s (c .before .before .before .before .before .before .before .before .args .place) (c .before .before .before .before .before .before .before .before .args .inputs .now) (run [] (c .before .before .before .before .before .before .before .before .args .outputs .now) (c .before .before .before .before .before .before .before .before .args .variables .now)) (c .before .before .resume .result) _ _ (c .before .before .before .before .before .if1 .left) (c .before .before .resume .ensures .1 s [] h b (place-wait s (c .before .before .before .before .before .before .before .before .args .place) (c .before .before .before .before .before .if1 .left) x) refl)),
+      (λ s h b x. enter-resumes s (c .before .before .before .before .before .before .before .before .args .place)
+          (c .before .before .before .before .before .before .before .before .args .inputs .now)
+          (run [] (c .before .before .before .before .before .before .before .before .args .outputs .now)
+          (c .before .before .before .before .before .before .before .before .args .variables .now)) (c .before .before .resume .result) _ _
+          (c .before .before .before .before .before .if1 .left)
+          (c .before .before .resume .ensures .1 s h b
+          (place-wait s (c .before .before .before .before .before .before .before .before .args .place)
+          (c .before .before .before .before .before .if1 .left) x))),
     )
 
 pub enter-spec : {M : Type 1} → statement M

@@ -5,7 +5,11 @@ use Rattle.front_elaborator.proofs.arrays.field_at.Statement.{statement
 use Rattle.front_elaborator.proofs.arrays.field_at.Tie as tie
 
 returns : tie.Need-returns
-returns c = rw (lt-ltb (c .before .before .before .args .q) 65 (c .before .before .if1 .taken), lt-ltb (c .before .before .before .args .c) 6 (c .before .if2 .taken))
+returns c = rw (
+  lt-ltb (c .before .before .before .args .q) 65 (c .before .before .if1 .taken),
+  lt-ltb (c .before .before .before .args .c) 6
+      (c .before .if2 .taken),
+)
 
 returns-2 : tie.Need-returns-2
 returns-2 c = rw (lt-ltb (c .before .before .args .q) 65 (c .before .if1 .taken), le-ltb (c .before .before .args .c) 6 (c .if2 .left))

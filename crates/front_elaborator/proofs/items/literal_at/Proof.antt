@@ -5,10 +5,12 @@ use Rattle.front_elaborator.proofs.items.literal_at.Statement.{statemen
 use Rattle.front_elaborator.proofs.items.literal_at.Tie as tie
 
 returns : tie.Need-returns
-returns c = literal-fits _ _ _ (c .before .number-value .ensures) (c .before .before .before .number-at .ensures) (c .before .before .number-at2 .ensures) (c .if1 .taken)
+returns c = literal-fits _ _ _ (c .before .number-value .ensures) (c .before .before .before .number-at .ensures) (c .before .before .number-at2 .ensures)
+    (c .if1 .taken)
 
 returns-2 : tie.Need-returns-2
-returns-2 c = literal-past _ _ _ (c .before .number-value .ensures) (c .before .before .before .number-at .ensures) (c .before .before .number-at2 .ensures) (c .if1 .left)
+returns-2 c = literal-past _ _ _ (c .before .number-value .ensures) (c .before .before .before .number-at .ensures) (c .before .before .number-at2 .ensures)
+    (c .if1 .left)
 
 pub literal-at-spec : {M : Type 1} → statement M
 literal-at-spec =

@@ -9,7 +9,8 @@ use Rattle.front_elaborator.proofs.items.whole.Statement.{statement}
 use Rattle.front_elaborator.proofs.items.whole.Tie as tie
 
 returns : tie.Need-returns
-returns c = let h : c .before .args .n < 2147483648 = (let k = c .if1 .taken in omega arith) in rw (toZ-pos w32 h, le-leb (c .before .args .n) 2147483647 (c .if1 .taken))
+returns c = let h : c .before .args .n < 2147483648 = (let k = c .if1 .taken in omega arith) in
+    rw (toZ-pos w32 h, le-leb (c .before .args .n) 2147483647 (c .if1 .taken))
 
 returns-2 : tie.Need-returns-2
 returns-2 c = rw (lt-leb (c .before .args .n) 2147483647 (c .if1 .left))

@@ -8,16 +8,23 @@ use Rattle.front_elaborator.proofs.names.initial.Statement.{statement}
 use Rattle.front_elaborator.proofs.names.initial.Tie as tie
 
 returns : tie.Need-returns
-returns c = let h : SFits w32 (c .positive .result) = search needs in rw (toZ-ofZ h) (initial-number _ _ _ _ _ _ (c .before .before .before .before .field-at .ensures) (c .before .before .before .field-at2 .ensures) (c .before .before .match .keys1) (c .before .literal .ensures .0) (c .positive .ensures))
+returns c = let h : SFits w32 (c .positive .result) = search needs in
+    rw (toZ-ofZ h) (initial-number _ _ _ _ _ _ (c .before .before .before .before .field-at .ensures) (c .before .before .before .field-at2 .ensures)
+    (c .before .before .match .keys1) (c .before .literal .ensures .0) (c .positive .ensures))
 
 returns-2 : tie.Need-returns-2
-returns-2 c = let h : SFits w32 (c .bit .result) = search needs in rw (toZ-ofZ h) (initial-bit _ _ _ _ _ _ (c .before .before .before .field-at .ensures) (c .before .before .field-at2 .ensures) (c .before .match .keys2) (c .bit .ensures))
+returns-2 c = let h : SFits w32 (c .bit .result) = search needs in
+    rw (toZ-ofZ h) (initial-bit _ _ _ _ _ _ (c .before .before .before .field-at .ensures) (c .before .before .field-at2 .ensures) (c .before .match .keys2)
+    (c .bit .ensures))
 
 returns-3 : tie.Need-returns-3
-returns-3 c = let h : SFits w32 (c .negative .result) = search needs in rw (toZ-ofZ h) (initial-negative _ _ _ _ _ _ (c .before .before .before .before .field-at .ensures) (c .before .before .before .field-at2 .ensures) (c .before .before .match .keys3) (c .before .literal2 .ensures .0) (c .negative .ensures))
+returns-3 c = let h : SFits w32 (c .negative .result) = search needs in
+    rw (toZ-ofZ h) (initial-negative _ _ _ _ _ _ (c .before .before .before .before .field-at .ensures) (c .before .before .before .field-at2 .ensures)
+    (c .before .before .match .keys3) (c .before .literal2 .ensures .0) (c .negative .ensures))
 
 returns-4 : tie.Need-returns-4
-returns-4 c = initial-none _ _ _ _ _ _ (c .before .before .field-at .ensures) (c .before .field-at2 .ensures) (c .match .rest .0 .0 .1) (c .match .rest .0 .1) (c .match .rest .1)
+returns-4 c = initial-none _ _ _ _ _ _ (c .before .before .field-at .ensures) (c .before .field-at2 .ensures) (c .match .rest .0 .0 .1) (c .match .rest .0 .1)
+    (c .match .rest .1)
 
 pub initial-spec : {M : Type 1} → statement M
 initial-spec =

@@ -13,7 +13,8 @@ unfolding minus
 returns c = rw (c .if1 .taken)
 
 returns-2 : tie.Need-returns-2
-returns-2 c = let h : SFits w32 (c .from-bits .result) = search needs in rw (toZ-ofZ h) (bits-negative _ (c .before .if1 .left) (c .before .before .pre) (c .from-bits .ensures))
+returns-2 c = let h : SFits w32 (c .from-bits .result) = search needs in
+    rw (toZ-ofZ h) (bits-negative _ (c .before .if1 .left) (c .before .before .pre) (c .from-bits .ensures))
 
 pub negative-spec : {M : Type 1} → statement M
 negative-spec =

@@ -12,10 +12,11 @@ use Rattle.front_elaborator.proofs.names.values.Statement.{statement}
 use Rattle.front_elaborator.proofs.names.values.Tie as tie
 
 abbrev Inv-loop : tie.InvT-loop
-Inv-loop text starts sizes kinds decls d mode out₀ end n₀ k₀ out n k = Picks (ofMode decls 65 mode) (initialAt text starts sizes kinds decls) out₀ (min d 65) end out n k
+Inv-loop text starts sizes kinds decls d clock mode out₀ end n₀ k₀ out n k =
+    Picks (ofMode decls clock mode) (initialAt text starts sizes kinds decls) out₀ (min d 65) end out n k
 
 abbrev μ-loop : tie.MeasureT-loop
-μ-loop text starts sizes kinds decls d mode out₀ end n₀ k₀ out n k = end - k
+μ-loop text starts sizes kinds decls d clock mode out₀ end n₀ k₀ out n k = end - k
 
 loop-holds : tie.Need-loop-holds Inv-loop μ-loop
 loop-holds c = pick-first _ _ _ _ (omega arith) (c .at-most .ensures)
@@ -25,7 +26,10 @@ unfolding valuesOf
 returns c = pick-full _ _ _ _ (c .before .before .loop .inv) (c .if1 .taken)
 
 loop-again : tie.Need-loop-again Inv-loop μ-loop
-loop-again c = let h : SFits w32 (c .before .initial .result) = search needs in pick-again _ _ _ _ (c .before .before .before .before .before .before .loop .inv) (c .before .before .before .before .before .loop-test .taken) (c .before .before .before .before .if1 .left) (c .before .before .belongs .ensures) (c .before .initial .ensures) (c .put-value .ensures .0) (rw (toZ-ofZ h) at (c .put-value .ensures .1))
+loop-again c = let h : SFits w32 (c .before .initial .result) = search needs in
+    pick-again _ _ _ _ (c .before .before .before .before .before .before .loop .inv) (c .before .before .before .before .before .loop-test .taken)
+    (c .before .before .before .before .if1 .left) (c .before .before .belongs .ensures) (c .before .initial .ensures) (c .put-value .ensures .0)
+    (rw (toZ-ofZ h) at (c .put-value .ensures .1))
 
 returns-2 : tie.Need-returns-2 Inv-loop μ-loop
 unfolding valuesOf

@@ -1,5 +1,5 @@
 -- `front_elaborator::rows::put` meets its contract: six stores. Assumes nothing.
-use Rattle.front_statements.specs.Rows.{setRow}
+use Rattle.front_layout.specs.Rows.{setRow}
 use borrow.Author.Needs.{needs}
 use Rattle.front_elaborator.proofs.rows.put.Statement.{statement}
 use Rattle.front_elaborator.proofs.rows.put.Tie as tie

@@ -26,7 +26,11 @@ loop-less : tie.Need-loop-less Inv-loop μ-loop
 loop-less c = let t = c .before .before .loop-test .taken in omega arith
 
 loop-again : tie.Need-loop-again Inv-loop μ-loop
-loop-again c = (c .before .before .before .loop .inv .0, storing-again _ _ _ _ _ _ _ (c .before .before .loop-test .taken) (c .put .ensures) (c .before .before .before .loop .inv .1))
+loop-again c = (
+  c .before .before .before .loop .inv .0,
+  storing-again _ _ _ _ _ _ _ (c .before .before .loop-test .taken) (c .put .ensures)
+      (c .before .before .before .loop .inv .1),
+)
 
 returns : tie.Need-returns Inv-loop μ-loop
 returns c = storing-last _ _ _ _ _ _ _ _ (c .before .loop .inv .0) (c .loop-test .left) (c .before .loop .inv .1)

@@ -4,7 +4,6 @@ use mathlib.Core.Path.{_≡_, refl, sym, _∙_}
 use mathlib.Core.List.{map}
 use Prim.Native.Nat.{_-_}
 use lib.ListN.{length, drop}
-use native.Mathlib.Omega.{arith}
 use Rattle.spec_language.specs.Bytes.{lower}
 use Rattle.spec_language.specs.Lexing.{equal}
 use Rattle.front_token.proofs.WordLaws.{spells-again, spells-differs, spells-end, spells-length}
@@ -25,7 +24,10 @@ spells-spec =
     (λ c. sym (spells-length _ (c .before .before .before .args .word .now) (c .if1 .taken)))
     (λ c. refl)
     (λ c. search needs) (λ c κs. search needs) (λ c. search needs)
-    (λ c. sym (spells-differs _ _ _ (c .before .before .before .before .loop-test .taken) (c .before .before .before .before .before .before .if1 .left) (λ e. c .if2 .taken (c .before .before .lower-case .ensures ∙ e))) ∙ c .before .before .before .before .before .loop .inv)
+    (λ c. sym (spells-differs _ _ _ (c .before .before .before .before .loop-test .taken) (c .before .before .before .before .before .before .if1 .left)
+    (λ e. c .if2 .taken (c .before .before .lower-case .ensures ∙ e))) ∙ c .before .before .before .before .before .loop .inv)
     (λ c. search needs) (λ c. search needs)
-    (λ c. spells-again _ _ _ (c .before .before .before .before .loop-test .taken) (c .before .before .before .before .before .before .if1 .left) (sym (c .before .before .lower-case .ensures) ∙ c .if2 .left) ∙ c .before .before .before .before .before .loop .inv)
-    (λ c. sym (spells-end _ (c .before .before .before .before .before .args .word .now) _ (c .loop-test .left) (c .before .before .if1 .left)) ∙ c .before .loop .inv))
+    (λ c. spells-again _ _ _ (c .before .before .before .before .loop-test .taken) (c .before .before .before .before .before .before .if1 .left)
+    (sym (c .before .before .lower-case .ensures) ∙ c .if2 .left) ∙ c .before .before .before .before .before .loop .inv)
+    (λ c. sym (spells-end _ (c .before .before .before .before .before .args .word .now) _ (c .loop-test .left) (c .before .before .if1 .left))
+    ∙ c .before .loop .inv))

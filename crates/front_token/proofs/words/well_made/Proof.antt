@@ -22,7 +22,9 @@ well-made-spec =
     (tie.spec Inv-loop μ-loop
     (λ c. refl)
     (λ c. search needs) (λ c κs. search needs) (λ c κs. search needs)
-    (λ c. sym (made-stop _ _ _ _ (c .before .before .before .before .loop-test .taken) (c .before .before .is-underscore .ensures) (flag (c .before .both .ensures) (c .if1 .taken))) ∙ c .before .before .before .before .before .loop .inv)
+    (λ c. sym (made-stop _ _ _ _ (c .before .before .before .before .loop-test .taken) (c .before .before .is-underscore .ensures)
+    (flag (c .before .both .ensures) (c .if1 .taken))) ∙ c .before .before .before .before .before .loop .inv)
     (λ c. search needs) (λ c. search needs)
-    (λ c. made-again _ _ _ _ (c .before .before .before .before .loop-test .taken) (c .before .before .is-underscore .ensures) (flag (c .before .both .ensures) (c .if1 .left)) ∙ c .before .before .before .before .before .loop .inv)
+    (λ c. made-again _ _ _ _ (c .before .before .before .before .loop-test .taken) (c .before .before .is-underscore .ensures)
+    (flag (c .before .both .ensures) (c .if1 .left)) ∙ c .before .before .before .before .before .loop .inv)
     (λ c. sym (made-end _ _ _ (c .loop-test .left)) ∙ c .before .loop .inv))

@@ -6,7 +6,8 @@ use Rattle.front_typing.proofs.expression.declared_type.Statement.{stat
 use Rattle.front_typing.proofs.expression.declared_type.Tie as tie
 
 returns : tie.Need-returns
-returns c = rw (lt-ltb _ _ (c .before .before .before .if1 .taken), lt-ltb _ _ (c .before .before .if2 .taken), sym (c .before .cell .ensures)) (c .declared .ensures)
+returns c = rw (lt-ltb _ _ (c .before .before .before .if1 .taken), lt-ltb _ _ (c .before .before .if2 .taken), sym (c .before .cell .ensures))
+    (c .declared .ensures)
 
 returns-2 : tie.Need-returns-2
 returns-2 c = rw (lt-ltb _ _ (c .before .if1 .taken), le-ltb _ _ (c .if2 .left))

@@ -20,7 +20,8 @@ returns-3 : tie.Need-returns-3
 returns-3 c =
     let a = c .before .before .before .before .before .before .args in
     λ σ e. c .first-wrong .ensures ∙ values-judged (a .signature .now) (a .inputs .now) (a .room)
-    (c .before .before .before .if1 .left ∙ c .before .before .before .before .count .ensures .0) (c .before .if2 .left ∙ c .before .before .count2 .ensures .0) σ e
+    (c .before .before .before .if1 .left ∙ c .before .before .before .before .count .ensures .0)
+    (c .before .if2 .left ∙ c .before .before .count2 .ensures .0) σ e
 
 pub row-place-spec : {M : Type 1} → statement M
 row-place-spec = tie.close (tie.spec (λ c κs. search needs) returns (λ c κs. search needs) returns-2 (λ c κs. search needs) returns-3)

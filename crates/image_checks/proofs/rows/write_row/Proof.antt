@@ -30,7 +30,8 @@ same-length c = c .before .before .loop .inv .0
 returns : tie.Need-returns Inv-loop μ-loop
 returns c =
     let l = c .before .before .loop in
-    written-whole (c .before .before .before .args .row .now) (c .before .before .before .args .outputs .now) (l .k) _ (l .inv .1) (l .inv .2) (inr (c .if1 .taken)) (l .inv .3)
+    written-whole (c .before .before .before .args .row .now) (c .before .before .before .args .outputs .now) (l .k) _ (l .inv .1) (l .inv .2)
+    (inr (c .if1 .taken)) (l .inv .3)
 
 loop-less : tie.Need-loop-less Inv-loop μ-loop
 loop-less c = omega arith
@@ -41,8 +42,13 @@ loop-again c =
     let l = c .before .before .before .loop in
     let h : l .k < length (c .before .before .before .before .args .row .now) = omega arith in
     let j : l .k < length o = omega arith in
-    let fit : SFits w32 (getD o (l .k) (pos 0)) = search needs in
-    (simp length-set (l .inv .0), omega arith, omega arith, written-more (c .before .before .before .before .args .row .now) o (l .k) _ _ h j (l .inv .3) (toZ-ofZ fit))
+    let fit : SFits w32 (getD o (l .k) (pos 0)) = search needs in (
+      simp length-set (l .inv .0),
+      omega arith,
+      omega arith,
+      written-more (c .before .before .before .before .args .row .now) o (l .k) _ _ h j (l .inv .3)
+          (toZ-ofZ fit),
+    )
 
 same-length-2 : tie.Need-same-length-2 Inv-loop μ-loop
 same-length-2 c = c .before .loop .inv .0

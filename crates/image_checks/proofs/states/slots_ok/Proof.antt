@@ -23,10 +23,16 @@ abbrev μ-loop : tie.MeasureT-loop
 μ-loop signature at n slots k₀ k = n - k
 
 returns : tie.Need-returns Inv-loop μ-loop
-returns c = slots-short (c .before .before .args .signature .now) (c .before .before .args .at) (c .before .before .args .n) (c .before .before .args .slots .now) (c .if1 .taken)
+returns c = slots-short (c .before .before .args .signature .now) (c .before .before .args .at) (c .before .before .args .n)
+    (c .before .before .args .slots .now) (c .if1 .taken)
 
 loop-holds : tie.Need-loop-holds Inv-loop μ-loop
-loop-holds c = (omega arith, c .if1 .left, slots-first (c .before .before .args .signature .now) (c .before .before .args .at) (c .before .before .args .n) (c .before .before .args .slots .now))
+loop-holds c = (
+  omega arith,
+  c .if1 .left,
+  slots-first (c .before .before .args .signature .now) (c .before .before .args .at) (c .before .before .args .n)
+      (c .before .before .args .slots .now),
+)
 
 mul-value-ok : tie.Need-mul-value-ok Inv-loop μ-loop
 mul-value-ok c = omega arith
@@ -38,7 +44,10 @@ returns-2 : tie.Need-returns-2 Inv-loop μ-loop
 returns-2 c =
     let l = c .before .before .before .before .loop in
     let h : SFits w32 (getD (c .before .before .before .before .before .before .before .args .slots .now) (l .k) (pos 0)) = search needs in
-    slots-wrong (c .before .before .before .before .before .before .before .args .signature .now) (c .before .before .before .before .before .before .before .args .at) (c .before .before .before .before .before .before .before .args .n) (c .before .before .before .before .before .before .before .args .slots .now) (l .k) (c .before .before .before .loop-test .taken) (let u = l .inv .1 in let t = c .before .before .before .loop-test .taken in omega arith)
+    slots-wrong (c .before .before .before .before .before .before .before .args .signature .now)
+    (c .before .before .before .before .before .before .before .args .at) (c .before .before .before .before .before .before .before .args .n)
+    (c .before .before .before .before .before .before .before .args .slots .now) (l .k) (c .before .before .before .loop-test .taken)
+    (let u = l .inv .1 in let t = c .before .before .before .loop-test .taken in omega arith)
     (sym (rw (toZ-ofZ h) at (c .before .value-ok .ensures)) ∙ not-true _ (c .if2 .taken))
     ∙ l .inv .2
 
@@ -54,7 +63,10 @@ loop-again c =
     let h : SFits w32 (getD (c .before .before .before .before .before .before .before .args .slots .now) (l .k) (pos 0)) = search needs in (
       omega arith,
       l .inv .1,
-      slots-again (c .before .before .before .before .before .before .before .args .signature .now) (c .before .before .before .before .before .before .before .args .at) (c .before .before .before .before .before .before .before .args .n) (c .before .before .before .before .before .before .before .args .slots .now) (l .k) (c .before .before .before .loop-test .taken) (let u = l .inv .1 in let t = c .before .before .before .loop-test .taken in omega arith)
+      slots-again (c .before .before .before .before .before .before .before .args .signature .now)
+          (c .before .before .before .before .before .before .before .args .at) (c .before .before .before .before .before .before .before .args .n)
+          (c .before .before .before .before .before .before .before .args .slots .now) (l .k) (c .before .before .before .loop-test .taken)
+          (let u = l .inv .1 in let t = c .before .before .before .loop-test .taken in omega arith)
           (sym (rw (toZ-ofZ h) at (c .before .value-ok .ensures)) ∙ not-false _ (c .if2 .left))
           ∙ l .inv .2,
     )
@@ -64,7 +76,10 @@ unused-ok-requires c κs = c .before .loop .inv .1
 
 returns-3 : tie.Need-returns-3 Inv-loop μ-loop
 returns-3 c =
-    c .unused-ok .ensures ∙ slots-end (c .before .before .before .before .before .args .signature .now) (c .before .before .before .before .before .args .at) (c .before .before .before .before .before .args .n) (c .before .before .before .before .before .args .slots .now) (c .before .before .loop .k) (c .before .before .loop .inv .0) (c .before .loop-test .left) ∙ c .before .before .loop .inv .2
+    c .unused-ok .ensures ∙ slots-end (c .before .before .before .before .before .args .signature .now) (c .before .before .before .before .before .args .at)
+    (c .before .before .before .before .before .args .n) (c .before .before .before .before .before .args .slots .now) (c .before .before .loop .k)
+    (c .before .before .loop .inv .0) (c .before .loop-test .left) ∙ c .before .before .loop .inv .2
 
 pub slots-ok-spec : {M : Type 1} → statement M
-slots-ok-spec = tie.close (tie.spec Inv-loop μ-loop returns loop-holds mul-value-ok add-value-ok (λ c. search needs) (λ c. search needs) (λ c κs. search needs) returns-2 add-k loop-less loop-again unused-ok-requires returns-3)
+slots-ok-spec = tie.close (tie.spec Inv-loop μ-loop returns loop-holds mul-value-ok add-value-ok (λ c. search needs) (λ c. search needs)
+    (λ c κs. search needs) returns-2 add-k loop-less loop-again unused-ok-requires returns-3)

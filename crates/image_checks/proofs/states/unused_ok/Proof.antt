@@ -28,7 +28,8 @@ returns : tie.Need-returns Inv-loop μ-loop
 returns c =
     let l = c .before .before .before .before .loop in
     let h : SFits w32 (getD (c .before .before .before .before .before .args .slots .now) (l .k) (pos 0)) = search needs in
-    zeros-wrong (c .before .before .before .before .before .args .slots .now) (l .k) (c .before .before .before .loop-test .taken) (sym (rw (toZ-ofZ h) at (c .before .equal .ensures)) ∙ not-true _ (c .if1 .taken)) ∙ l .inv
+    zeros-wrong (c .before .before .before .before .before .args .slots .now) (l .k) (c .before .before .before .loop-test .taken)
+    (sym (rw (toZ-ofZ h) at (c .before .equal .ensures)) ∙ not-true _ (c .if1 .taken)) ∙ l .inv
 
 loop-less : tie.Need-loop-less Inv-loop μ-loop
 loop-less c = omega arith
@@ -37,10 +38,12 @@ loop-again : tie.Need-loop-again Inv-loop μ-loop
 loop-again c =
     let l = c .before .before .before .before .loop in
     let h : SFits w32 (getD (c .before .before .before .before .before .args .slots .now) (l .k) (pos 0)) = search needs in
-    zeros-again (c .before .before .before .before .before .args .slots .now) (l .k) (c .before .before .before .loop-test .taken) (sym (rw (toZ-ofZ h) at (c .before .equal .ensures)) ∙ not-false _ (c .if1 .left)) ∙ l .inv
+    zeros-again (c .before .before .before .before .before .args .slots .now) (l .k) (c .before .before .before .loop-test .taken)
+    (sym (rw (toZ-ofZ h) at (c .before .equal .ensures)) ∙ not-false _ (c .if1 .left)) ∙ l .inv
 
 returns-2 : tie.Need-returns-2 Inv-loop μ-loop
 returns-2 c = zeros-end (c .before .before .args .slots .now) (c .before .loop .k) (c .loop-test .left) ∙ c .before .loop .inv
 
 pub unused-ok-spec : {M : Type 1} → statement M
-unused-ok-spec = tie.close (tie.spec Inv-loop μ-loop loop-holds (λ c. search needs) (λ c. search needs) (λ c κs. search needs) returns (λ c. search needs) loop-less loop-again returns-2)
+unused-ok-spec = tie.close (tie.spec Inv-loop μ-loop loop-holds (λ c. search needs) (λ c. search needs) (λ c κs. search needs) returns
+    (λ c. search needs) loop-less loop-again returns-2)

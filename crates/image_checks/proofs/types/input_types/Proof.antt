@@ -7,7 +7,8 @@ use Rattle.image_checks.proofs.types.input_types.Tie as tie
 
 returns : tie.Need-returns
 returns c =
-    λ σ e. inputs-inside (c .before .before .before .args .signature .now) σ e (c .before .outputs-at .result) (c .before .outputs-at .ensures .0) (c .if1 .taken)
+    λ σ e. inputs-inside (c .before .before .before .args .signature .now) σ e (c .before .outputs-at .result) (c .before .outputs-at .ensures .0)
+    (c .if1 .taken)
 
 sub-result : tie.Need-sub-result
 sub-result c = omega arith

@@ -14,7 +14,9 @@ use Rattle.image_encoder.proofs.sections.put_cells.Statement.{statement
 use Rattle.image_encoder.proofs.sections.put_cells.Tie as tie
 
 abbrev Inv-loop : tie.InvT-loop
-Inv-loop image₀ at types values n k₀ image k = (k ≤ n) × ((length image ≡ length image₀) × (sets image (at + 5 * k) (cellsFrom types values k (n - k)) ≡ sets image₀ (at + 5 * k₀) (cellsFrom types values k₀ (n - k₀))))
+Inv-loop image₀ at types values n k₀ image k = (k ≤ n)
+    × ((length image ≡ length image₀) × (sets image (at + 5 * k) (cellsFrom types values k (n - k)) ≡ sets image₀ (at + 5 * k₀)
+    (cellsFrom types values k₀ (n - k₀))))
 
 abbrev μ-loop : tie.MeasureT-loop
 μ-loop image₀ at types values n k₀ image k = n - k
@@ -39,11 +41,26 @@ loop-less c = omega arith
 
 loop-again : tie.Need-loop-again Inv-loop μ-loop
 loop-again c =
-    let h : SFits w32 (c .before .before .before .value .result) = search needs in
-    (omega arith, (search needs, cells-again (c .before .before .before .before .before .before .before .before .before .before .args .types .now) (c .before .before .before .before .before .before .before .before .before .before .args .values .now) (c .before .before .before .before .before .before .before .loop .image) (c .before .before .before .before .before .before .before .before .before .before .args .at) (c .before .before .before .before .before .before .before .loop .k) (c .before .before .before .before .before .before .before .before .before .before .args .n) (c .before .before .before .before .before .before .loop-test .taken) (c .before .before .before .before .byte .ensures) (toZ-ofZ h ∙ c .before .before .before .value .ensures) (c .before .before .put-cell .ensures) ∙ c .before .before .before .before .before .before .before .loop .inv .1 .1))
+    let h : SFits w32 (c .before .before .before .value .result) = search needs in (
+      omega arith,
+      (
+        search needs,
+        cells-again (c .before .before .before .before .before .before .before .before .before .before .args .types .now)
+            (c .before .before .before .before .before .before .before .before .before .before .args .values .now)
+            (c .before .before .before .before .before .before .before .loop .image)
+            (c .before .before .before .before .before .before .before .before .before .before .args .at)
+            (c .before .before .before .before .before .before .before .loop .k)
+            (c .before .before .before .before .before .before .before .before .before .before .args .n)
+            (c .before .before .before .before .before .before .loop-test .taken) (c .before .before .before .before .byte .ensures)
+            (toZ-ofZ h ∙ c .before .before .before .value .ensures) (c .before .before .put-cell .ensures)
+            ∙ c .before .before .before .before .before .before .before .loop .inv .1 .1,
+      ),
+    )
 
 returns : tie.Need-returns Inv-loop μ-loop
-returns c = cells-done (c .before .before .before .before .args .types .now) (c .before .before .before .before .args .values .now) (c .before .loop .image) (c .before .before .before .before .args .image .now) (c .before .before .before .before .args .at) (c .before .loop .k) (c .before .before .before .before .args .n) (c .loop-test .left) (c .before .loop .inv .1 .1)
+returns c = cells-done (c .before .before .before .before .args .types .now) (c .before .before .before .before .args .values .now) (c .before .loop .image)
+    (c .before .before .before .before .args .image .now) (c .before .before .before .before .args .at) (c .before .loop .k)
+    (c .before .before .before .before .args .n) (c .loop-test .left) (c .before .loop .inv .1 .1)
 
 pub put-cells-spec : {M : Type 1} → statement M
 put-cells-spec =

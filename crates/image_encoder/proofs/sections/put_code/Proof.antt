@@ -16,7 +16,8 @@ use Rattle.image_encoder.proofs.sections.put_code.Statement.{statement}
 use Rattle.image_encoder.proofs.sections.put_code.Tie as tie
 
 abbrev Inv-loop : tie.InvT-loop
-Inv-loop image₀ at codes args k i₀ p₀ image i p = (i ≤ k) × ((p ≤ at + 5 * i) × ((length image ≡ length image₀) × (sets image p (codeFrom codes args i (k - i)) ≡ sets image₀ p₀ (codeFrom codes args i₀ (k - i₀)))))
+Inv-loop image₀ at codes args k i₀ p₀ image i p = (i ≤ k)
+    × ((p ≤ at + 5 * i) × ((length image ≡ length image₀) × (sets image p (codeFrom codes args i (k - i)) ≡ sets image₀ p₀ (codeFrom codes args i₀ (k - i₀)))))
 
 abbrev μ-loop : tie.MeasureT-loop
 μ-loop image₀ at codes args k i₀ p₀ image i p = k - i
@@ -47,11 +48,28 @@ loop-less c = omega arith
 
 loop-again : tie.Need-loop-again Inv-loop μ-loop
 loop-again c =
-    let h : SFits w32 (getD (c .before .before .before .before .before .before .before .before .before .before .args .args .now) (c .before .before .before .before .before .before .before .before .loop .i) (pos 0)) = search needs in
-    (omega arith, (omega (arith, c .width .ensures .1), (search needs, code-again (c .before .before .before .before .before .before .before .before .before .before .args .codes .now) (c .before .before .before .before .before .before .before .before .before .before .args .args .now) (c .before .before .before .before .before .before .before .before .loop .image) (c .before .before .before .before .before .before .before .before .loop .p) (c .before .before .before .before .before .before .before .before .loop .i) (c .before .before .before .before .before .before .before .before .before .before .args .k) (c .before .before .before .before .before .before .before .loop-test .taken) refl (toZ-ofZ h) (c .before .before .before .put-op .ensures) (c .width .ensures .0) ∙ c .before .before .before .before .before .before .before .before .loop .inv .1 .1 .1)))
+    let h : SFits w32 (getD (c .before .before .before .before .before .before .before .before .before .before .args .args .now)
+    (c .before .before .before .before .before .before .before .before .loop .i) (pos 0)) = search needs in (
+      omega arith,
+      (
+        omega (arith, c .width .ensures .1),
+        (
+          search needs,
+          code-again (c .before .before .before .before .before .before .before .before .before .before .args .codes .now)
+              (c .before .before .before .before .before .before .before .before .before .before .args .args .now)
+              (c .before .before .before .before .before .before .before .before .loop .image)
+              (c .before .before .before .before .before .before .before .before .loop .p) (c .before .before .before .before .before .before .before .before .loop .i)
+              (c .before .before .before .before .before .before .before .before .before .before .args .k)
+              (c .before .before .before .before .before .before .before .loop-test .taken) refl (toZ-ofZ h) (c .before .before .before .put-op .ensures)
+              (c .width .ensures .0) ∙ c .before .before .before .before .before .before .before .before .loop .inv .1 .1 .1,
+        ),
+      ),
+    )
 
 returns : tie.Need-returns Inv-loop μ-loop
-returns c = code-done (c .before .before .before .args .codes .now) (c .before .before .before .args .args .now) (c .before .loop .image) (c .before .before .before .args .image .now) (c .before .loop .p) (c .before .before .before .args .at) (c .before .loop .i) (c .before .before .before .args .k) (c .loop-test .left) (c .before .loop .inv .1 .1 .1)
+returns c = code-done (c .before .before .before .args .codes .now) (c .before .before .before .args .args .now) (c .before .loop .image)
+    (c .before .before .before .args .image .now) (c .before .loop .p) (c .before .before .before .args .at) (c .before .loop .i)
+    (c .before .before .before .args .k) (c .loop-test .left) (c .before .loop .inv .1 .1 .1)
 
 pub put-code-spec : {M : Type 1} → statement M
 put-code-spec =

@@ -13,7 +13,10 @@ use Rattle.image_encoder.proofs.sections.put_lines.Statement.{statement
 use Rattle.image_encoder.proofs.sections.put_lines.Tie as tie
 
 abbrev Inv-loop : tie.InvT-loop
-Inv-loop image₀ at codes rows n next other reaches j₀ p₀ image j p = (j ≤ n) × ((p ≤ 81920 * j) × ((length image ≡ length image₀) × (sets image (at + 12 * j) (rawsBytes (linesFrom codes rows (links next other) reaches j (n - j) p)) ≡ sets image₀ (at + 12 * j₀) (rawsBytes (linesFrom codes rows (links next other) reaches j₀ (n - j₀) p₀)))))
+Inv-loop image₀ at codes rows n next other reaches j₀ p₀ image j p = (j ≤ n)
+    × ((p ≤ 81920 * j) × ((length image ≡ length image₀)
+    × (sets image (at + 12 * j) (rawsBytes (linesFrom codes rows (links next other) reaches j (n - j) p)) ≡ sets image₀ (at + 12 * j₀)
+    (rawsBytes (linesFrom codes rows (links next other) reaches j₀ (n - j₀) p₀)))))
 
 abbrev μ-loop : tie.MeasureT-loop
 μ-loop image₀ at codes rows n next other reaches j₀ p₀ image j p = n - j
@@ -54,11 +57,29 @@ loop-less c = omega arith
 loop-again : tie.Need-loop-again Inv-loop μ-loop
 loop-again c =
     let a = c .before .before .before .before .before .before .before .before .before .before .before .before .before .before .before .before .before .before .args in
-    let l = c .before .before .before .before .before .before .before .before .before .before .before .before .before .loop in
-    (omega arith, (omega (arith, c .before .before .before .before .before .before .before .run-width .ensures .1), (search needs, lines-again (a .codes .now) (a .rows .now) (a .next .now) (a .other .now) (a .reaches .now) (l .image) (a .at) (l .j) (a .n) (l .p) (c .before .before .before .before .before .before .before .before .before .before .before .before .loop-test .taken) (c .before .before .before .before .before .before .before .before .before .before .number .ensures) (c .before .before .before .before .before .before .before .before .number2 .ensures) (c .before .before .before .before .before .before .before .run-width .ensures .0) (c .before .before .before .before .before .number3 .ensures) (c .before .before .before .before .number4 .ensures) (c .before .before .before .number5 .ensures) (c .before .before .put-row .ensures) ∙ l .inv .1 .1 .1)))
+    let l = c .before .before .before .before .before .before .before .before .before .before .before .before .before .loop in (
+      omega arith,
+      (
+        omega (arith, c .before .before .before .before .before .before .before .run-width .ensures .1),
+        (
+          search needs,
+          lines-again (a .codes .now) (a .rows .now) (a .next .now) (a .other .now) (a .reaches .now) (l .image) (a .at) (l .j) (a .n) (l .p)
+              (c .before .before .before .before .before .before .before .before .before .before .before .before .loop-test .taken)
+              (c .before .before .before .before .before .before .before .before .before .before .number .ensures)
+              (c .before .before .before .before .before .before .before .before .number2 .ensures)
+              (c .before .before .before .before .before .before .before .run-width .ensures .0) (c .before .before .before .before .before .number3 .ensures)
+              (c .before .before .before .before .number4 .ensures) (c .before .before .before .number5 .ensures) (c .before .before .put-row .ensures)
+              ∙ l .inv .1 .1 .1,
+        ),
+      ),
+    )
 
 returns : tie.Need-returns Inv-loop μ-loop
-returns c = lines-done (c .before .before .before .before .before .before .args .codes .now) (c .before .before .before .before .before .before .args .rows .now) (c .before .before .before .before .before .before .args .next .now) (c .before .before .before .before .before .before .args .other .now) (c .before .before .before .before .before .before .args .reaches .now) (c .before .loop .image) (c .before .before .before .before .before .before .args .image .now) (c .before .before .before .before .before .before .args .at) (c .before .loop .j) (c .before .before .before .before .before .before .args .n) (c .before .loop .p) (c .loop-test .left) (c .before .loop .inv .1 .1 .1)
+returns c = lines-done (c .before .before .before .before .before .before .args .codes .now)
+    (c .before .before .before .before .before .before .args .rows .now) (c .before .before .before .before .before .before .args .next .now)
+    (c .before .before .before .before .before .before .args .other .now) (c .before .before .before .before .before .before .args .reaches .now)
+    (c .before .loop .image) (c .before .before .before .before .before .before .args .image .now) (c .before .before .before .before .before .before .args .at)
+    (c .before .loop .j) (c .before .before .before .before .before .before .args .n) (c .before .loop .p) (c .loop-test .left) (c .before .loop .inv .1 .1 .1)
 
 pub put-lines-spec : {M : Type 1} → statement M
 put-lines-spec =

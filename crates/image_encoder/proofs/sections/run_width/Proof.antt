@@ -30,10 +30,21 @@ loop-less : tie.Need-loop-less Inv-loop μ-loop
 loop-less c = omega arith
 
 loop-again : tie.Need-loop-again Inv-loop μ-loop
-loop-again c = (width-again (c .before .before .before .before .before .args .codes .now) (c .before .before .before .loop .i) (c .before .before .before .before .bounded .result) (c .before .before .before .loop .w) _ _ (c .before .before .loop-test .taken) (c .width .ensures .0) (c .before .before .before .loop .inv .0), omega (arith, c .width .ensures .1))
+loop-again c = (
+  width-again (c .before .before .before .before .before .args .codes .now) (c .before .before .before .loop .i)
+      (c .before .before .before .before .bounded .result) (c .before .before .before .loop .w) _ _ (c .before .before .loop-test .taken) (c .width .ensures .0)
+      (c .before .before .before .loop .inv .0),
+  omega (arith, c .width .ensures .1),
+)
 
 returns : tie.Need-returns Inv-loop μ-loop
-returns c = (width-done (c .before .before .before .args .codes .now) (c .before .loop .i) (c .before .before .bounded .result) (c .before .before .before .args .from) (c .before .loop .w) (c .loop-test .left) (c .before .loop .inv .0) ∙ ap (λ s. widthFrom (c .before .before .before .args .codes .now) (c .before .before .before .args .from) (s - c .before .before .before .args .from)) (c .before .before .bounded .ensures), omega (arith, c .before .before .bounded .ensures))
+returns c = (
+  width-done (c .before .before .before .args .codes .now) (c .before .loop .i) (c .before .before .bounded .result)
+      (c .before .before .before .args .from) (c .before .loop .w) (c .loop-test .left) (c .before .loop .inv .0)
+      ∙ ap (λ s. widthFrom (c .before .before .before .args .codes .now) (c .before .before .before .args .from) (s - c .before .before .before .args .from))
+      (c .before .before .bounded .ensures),
+  omega (arith, c .before .before .bounded .ensures),
+)
 
 pub run-width-spec : {M : Type 1} → statement M
 run-width-spec =

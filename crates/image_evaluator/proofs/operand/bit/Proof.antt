@@ -24,19 +24,22 @@ returns-2 : tie.Need-returns-2
 unfolding widthOf
 returns-2 c =
     let w : c .before .before .before .width .result ≡ 2 = c .before .before .before .width .ensures .0 in
-    bit-zero (c .before .before .before .before .before .args .code .now) (c .before .before .before .before .before .args .at) (rw w at (c .before .before .if1 .left)) (c .if2 .taken)
+    bit-zero (c .before .before .before .before .before .args .code .now) (c .before .before .before .before .before .args .at)
+    (rw w at (c .before .before .if1 .left)) (c .if2 .taken)
 
 returns-3 : tie.Need-returns-3
 unfolding widthOf
 returns-3 c =
     let w : c .before .before .before .before .width .result ≡ 2 = c .before .before .before .before .width .ensures .0 in
-    bit-one (c .before .before .before .before .before .before .args .code .now) (c .before .before .before .before .before .before .args .at) (rw w at (c .before .before .before .if1 .left)) (c .if3 .taken)
+    bit-one (c .before .before .before .before .before .before .args .code .now) (c .before .before .before .before .before .before .args .at)
+    (rw w at (c .before .before .before .if1 .left)) (c .if3 .taken)
 
 returns-4 : tie.Need-returns-4
 unfolding widthOf
 returns-4 c =
     let w : c .before .before .before .before .width .result ≡ 2 = c .before .before .before .before .width .ensures .0 in
-    bit-other (c .before .before .before .before .before .before .args .code .now) (c .before .before .before .before .before .before .args .at) (rw w at (c .before .before .before .if1 .left)) (c .before .if2 .left) (c .if3 .left)
+    bit-other (c .before .before .before .before .before .before .args .code .now) (c .before .before .before .before .before .before .args .at)
+    (rw w at (c .before .before .before .if1 .left)) (c .before .if2 .left) (c .if3 .left)
 
 pub bit-spec : {M : Type 1} → statement M
 bit-spec =

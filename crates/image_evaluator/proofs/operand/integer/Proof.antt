@@ -16,7 +16,8 @@ returns c =
     let w : c .before .before .before .width .result ≡ 5 = c .before .before .before .width .ensures .0 in
     let fit : SFits w32 (c .from-bits .result) = search needs in
     rw (toZ-ofZ fit)
-    (int-found (c .before .before .before .before .before .args .code .now) (c .before .before .before .before .before .args .at) (c .from-bits .result) (rw w at (c .before .before .if1 .taken)) fit (c .from-bits .ensures ∙ ap signed32 (c .before .word4 .ensures)))
+    (int-found (c .before .before .before .before .before .args .code .now) (c .before .before .before .before .before .args .at) (c .from-bits .result)
+    (rw w at (c .before .before .if1 .taken)) fit (c .from-bits .ensures ∙ ap signed32 (c .before .word4 .ensures)))
 
 returns-2 : tie.Need-returns-2
 unfolding widthOf

@@ -14,7 +14,8 @@ returns : tie.Need-returns
 unfolding widthOf
 returns c =
     let w : c .before .width .result ≡ 2 = c .before .width .ensures .0 in
-    name-short (c .before .before .before .before .args .code .now) (c .before .before .before .before .args .at) (c .before .before .before .before .args .kinds .now) (c .before .before .before .before .args .row .now) (rw w at (c .if1 .taken))
+    name-short (c .before .before .before .before .args .code .now) (c .before .before .before .before .args .at)
+    (c .before .before .before .before .args .kinds .now) (c .before .before .before .before .args .row .now) (rw w at (c .if1 .taken))
 
 shared-slice-read-wide : tie.Need-shared-slice-read-wide
 unfolding widthOf
@@ -27,16 +28,24 @@ returns-2 : tie.Need-returns-2
 unfolding widthOf
 returns-2 c =
     let w : c .before .before .before .before .width .result ≡ 2 = c .before .before .before .before .width .ensures .0 in
-    name-unknown (c .before .before .before .before .before .before .before .args .code .now) (c .before .before .before .before .before .before .before .args .at) (c .before .before .before .before .before .before .before .args .kinds .now) (c .before .before .before .before .before .before .before .args .row .now) (rw w at (c .before .before .before .if1 .left)) (rw (c .before .wide .ensures .0) at (c .if2 .taken))
+    name-unknown (c .before .before .before .before .before .before .before .args .code .now)
+    (c .before .before .before .before .before .before .before .args .at) (c .before .before .before .before .before .before .before .args .kinds .now)
+    (c .before .before .before .before .before .before .before .args .row .now) (rw w at (c .before .before .before .if1 .left))
+    (rw (c .before .wide .ensures .0) at (c .if2 .taken))
 
 returns-3 : tie.Need-returns-3
 unfolding widthOf
 returns-3 c =
-    let w : c .before .before .before .before .before .before .before .width .result ≡ 2 = c .before .before .before .before .before .before .before .width .ensures .0 in
+    let w : c .before .before .before .before .before .before .before .width .result ≡ 2 =
+    c .before .before .before .before .before .before .before .width .ensures .0 in
     let k = c .before .before .before .before .wide .ensures .0 in
     let fit : SFits w32 (c .number .result) = search needs in
     rw (toZ-ofZ fit, c .number .ensures, c .before .tag .ensures, k)
-    (name-found (c .before .before .before .before .before .before .before .before .before .before .args .code .now) (c .before .before .before .before .before .before .before .before .before .before .args .at) (c .before .before .before .before .before .before .before .before .before .before .args .kinds .now) (c .before .before .before .before .before .before .before .before .before .before .args .row .now) (rw w at (c .before .before .before .before .before .before .if1 .left)) (rw k at (c .before .before .before .if2 .left)))
+    (name-found (c .before .before .before .before .before .before .before .before .before .before .args .code .now)
+    (c .before .before .before .before .before .before .before .before .before .before .args .at)
+    (c .before .before .before .before .before .before .before .before .before .before .args .kinds .now)
+    (c .before .before .before .before .before .before .before .before .before .before .args .row .now)
+    (rw w at (c .before .before .before .before .before .before .if1 .left)) (rw k at (c .before .before .before .if2 .left)))
 
 pub named-spec : {M : Type 1} → statement M
 named-spec =

@@ -10,7 +10,9 @@ use Rattle.image_flow.proofs.followers.followers.Statement.{statement}
 use Rattle.image_flow.proofs.followers.followers.Tie as tie
 
 abbrev Inv-loop : tie.InvT-loop
-Inv-loop rows n next₀ other₀ j₀ next other j = (j ≤ n) × ((length next ≡ length next₀) × ((length other ≡ length other₀) × (followed rows j (n - j) (links next other) ≡ followed rows j₀ (n - j₀) (links next₀ other₀))))
+Inv-loop rows n next₀ other₀ j₀ next other j = (j ≤ n)
+    × ((length next ≡ length next₀) × ((length other ≡ length other₀)
+    × (followed rows j (n - j) (links next other) ≡ followed rows j₀ (n - j₀) (links next₀ other₀))))
 
 abbrev μ-loop : tie.MeasureT-loop
 μ-loop rows n next₀ other₀ j₀ next other j = n - j
@@ -31,7 +33,11 @@ loop-again c =
     (omega arith, (search needs, (search needs, again)))
 
 returns : tie.Need-returns Inv-loop μ-loop
-returns c = followed-done (c .before .before .before .before .before .before .before .before .before .before .before .args .rows .now) (c .before .before .before .before .before .before .before .before .before .before .before .args .n) (c .before .loop .j) (links (c .before .before .before .before .before .before .before .before .before .before .before .args .next .now) (c .before .before .before .before .before .before .before .before .before .before .before .args .other .now)) _ _ (c .loop-test .left) (c .before .loop .inv .1 .1 .1) (c .before .before .before .before .before .before .link-at .ensures)
+returns c = followed-done (c .before .before .before .before .before .before .before .before .before .before .before .args .rows .now)
+    (c .before .before .before .before .before .before .before .before .before .before .before .args .n) (c .before .loop .j)
+    (links (c .before .before .before .before .before .before .before .before .before .before .before .args .next .now)
+    (c .before .before .before .before .before .before .before .before .before .before .before .args .other .now)) _ _ (c .loop-test .left)
+    (c .before .loop .inv .1 .1 .1) (c .before .before .before .before .before .before .link-at .ensures)
 
 pub followers-spec : {M : Type 1} → statement M
 followers-spec =

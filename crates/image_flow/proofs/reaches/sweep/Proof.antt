@@ -10,7 +10,8 @@ use Rattle.image_flow.proofs.reaches.sweep.Statement.{statement}
 use Rattle.image_flow.proofs.reaches.sweep.Tie as tie
 
 abbrev Inv-loop : tie.InvT-loop
-Inv-loop rows n next other reaches₀ j₀ changed₀ reaches j changed = Sweeping rows (links next other) n j reaches₀ reaches changed × ((length reaches ≡ length reaches₀) × (j ≤ n))
+Inv-loop rows n next other reaches₀ j₀ changed₀ reaches j changed =
+    Sweeping rows (links next other) n j reaches₀ reaches changed × ((length reaches ≡ length reaches₀) × (j ≤ n))
 
 abbrev μ-loop : tie.MeasureT-loop
 μ-loop rows n next other reaches₀ j₀ changed₀ reaches j changed = j
@@ -28,7 +29,10 @@ loop-again : tie.Need-loop-again Inv-loop μ-loop
 loop-again c = (sweeping-again (c .before .before .before .before .before .before .before .before .before .before .before .before .before .before .args .rows .now) (links (c .before .before .before .before .before .before .before .before .before .before .before .before .before .before .args .next .now) (c .before .before .before .before .before .before .before .before .before .before .before .before .before .before .args .other .now)) (c .before .before .before .before .before .before .before .before .before .before .before .before .before .before .args .n) (c .before .before .before .before .before .before .before .before .before .before .loop .j) (c .before .before .before .before .before .before .before .before .before .before .before .before .before .before .args .reaches .now) (c .before .before .before .before .before .before .before .before .before .before .loop .reaches) _ (c .before .before .before .before .before .before .before .before .before .before .loop .changed) _ _ _ (c .before .before .before .before .before .before .before .before .before .loop-test .taken) (c .before .before .before .before .before .before .before .before .before .before .loop .inv .0) (c .before .before .before .before .before .before .before .reach-at .ensures) (c .before .before .before .before .before .number .ensures) (c .before .before .before .before .changes .ensures) (c .before .before .store .ensures), (search needs, omega arith))
 
 returns : tie.Need-returns Inv-loop μ-loop
-returns c = sweeping-end (c .before .before .before .before .before .args .rows .now) (links (c .before .before .before .before .before .args .next .now) (c .before .before .before .before .before .args .other .now)) (c .before .before .before .before .before .args .n) (c .before .loop .j) (c .before .before .before .before .before .args .reaches .now) (c .before .loop .reaches) (c .before .loop .changed) (c .loop-test .left) (c .before .loop .inv .0)
+returns c = sweeping-end (c .before .before .before .before .before .args .rows .now)
+    (links (c .before .before .before .before .before .args .next .now) (c .before .before .before .before .before .args .other .now))
+    (c .before .before .before .before .before .args .n) (c .before .loop .j) (c .before .before .before .before .before .args .reaches .now)
+    (c .before .loop .reaches) (c .before .loop .changed) (c .loop-test .left) (c .before .loop .inv .0)
 
 pub sweep-spec : {M : Type 1} → statement M
 sweep-spec =

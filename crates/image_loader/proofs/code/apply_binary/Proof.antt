@@ -10,7 +10,8 @@ returns c = binary-none (c .before .args .k) (c .before .args .depth) (c .before
 returns-2 : tie.Need-returns-2
 returns-2 c =
     let args = c .before .before .before .before .before .before .before .args in
-    binary-some (args .k) (args .depth) (args .stack .now) (c .before .before .before .before .before .before .if1 .left) (c .before .before .before .if2 .taken) (c .before .before .binary-type .ensures) (c .push .ensures)
+    binary-some (args .k) (args .depth) (args .stack .now) (c .before .before .before .before .before .before .if1 .left)
+    (c .before .before .before .if2 .taken) (c .before .before .binary-type .ensures) (c .push .ensures)
 
 returns-3 : tie.Need-returns-3
 returns-3 c =

@@ -12,7 +12,8 @@ returns : tie.Need-returns
 returns c =
     let args = c .before .before .before .before .args in
     let s = (args .s .now) in
-    rw (lt-ltb (args .at) (length s) (c .before .before .if1 .taken)) (c .is-type-byte .ensures ∙ ap isTypeByte (c .before .byte .ensures) ∙ type-there (getD s (args .at) 0))
+    rw (lt-ltb (args .at) (length s) (c .before .before .if1 .taken))
+    (c .is-type-byte .ensures ∙ ap isTypeByte (c .before .byte .ensures) ∙ type-there (getD s (args .at) 0))
 
 returns-2 : tie.Need-returns-2
 returns-2 c = let s = (c .before .before .args .s .now) in rw (le-ltb (c .before .before .args .at) (length s) (c .if1 .left))

@@ -1,5 +1,5 @@
 -- `test_vectors::traces::copy` is safe and ends: the buffer keeps its length, and the measure is what is left of it. Assumes nothing.
-use mathlib.Core.Path.{_≡_, _∙_}
+use mathlib.Core.Path.{_≡_}
 use Prim.Native.Nat.{_≤_, _-_}
 use native.Mathlib.Omega.{arith}
 use lib.ListN.{length, length-set}

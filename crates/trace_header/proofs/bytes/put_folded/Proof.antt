@@ -18,7 +18,8 @@ loop-holds : tie.Need-loop-holds Inv-loop μ-loop
 loop-holds c = goes-first
 
 loop-again : tie.Need-loop-again Inv-loop μ-loop
-loop-again c = word-again _ _ _ (c .before .before .before .before .before .loop .inv) (c .before .before .before .before .loop-test .taken) (c .before .lower-case .ensures) (c .put .ensures)
+loop-again c = word-again _ _ _ (c .before .before .before .before .before .loop .inv) (c .before .before .before .before .loop-test .taken)
+    (c .before .lower-case .ensures) (c .put .ensures)
 
 returns : tie.Need-returns Inv-loop μ-loop
 returns c = word-end _ _ (c .before .loop .inv) (c .loop-test .left)

@@ -43,7 +43,8 @@ put-digits-same-length : (t : ℕ) → put-digits-lts.Need-same-length (put-digi
 put-digits-same-length t c = search needs
 
 put-digits-returns : (t : ℕ) → put-digits-lts.Need-returns (put-digits-calls t) (put-digits-at t) put-digits.Post
-put-digits-returns t c = λ f h. digits-few _ _ _ _ _ _ f (c .before .before .before .before .before .if1 .taken) (c .before .before .before .digit-byte .ensures) (c .before .before .put .ensures)
+put-digits-returns t c = λ f h. digits-few _ _ _ _ _ _ f (c .before .before .before .before .before .if1 .taken)
+    (c .before .before .before .digit-byte .ensures) (c .before .before .put .ensures)
 
 put-digits-put-digits-requires : (t : ℕ) → put-digits-lts.Need-put-digits-requires (put-digits-calls t) (put-digits-at t) put-digits.Post
 put-digits-put-digits-requires t c κs = (fall _ _ (c .before .if1 .left) (c .before .before .before .pre .0), tt)
@@ -58,7 +59,9 @@ put-digits-same-length-2 : (t : ℕ) → put-digits-lts.Need-same-length-2 (put-
 put-digits-same-length-2 t c = search needs
 
 put-digits-returns-2 : (t : ℕ) → put-digits-lts.Need-returns-2 (put-digits-calls t) (put-digits-at t) put-digits.Post
-put-digits-returns-2 t c = λ f h. digits-more _ _ _ _ _ _ _ _ f (c .before .before .before .before .before .before .before .before .before .if1 .left) h (c .before .before .before .before .before .before .before .put-digits .ensures) (c .before .before .before .digit-byte2 .ensures) (c .before .before .put2 .ensures)
+put-digits-returns-2 t c = λ f h. digits-more _ _ _ _ _ _ _ _ f (c .before .before .before .before .before .before .before .before .before .if1 .left) h
+    (c .before .before .before .before .before .before .before .put-digits .ensures) (c .before .before .before .digit-byte2 .ensures)
+    (c .before .before .put2 .ensures)
 
 pub +put-digits-spec : {M : Type 1} → statement M
 +put-digits-spec = close μ-put-digits λ t. put-digits-lts.spec (put-digits-calls t)

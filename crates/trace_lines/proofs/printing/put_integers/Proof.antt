@@ -19,7 +19,11 @@ loop-holds : tie.Need-loop-holds Inv-loop μ-loop
 loop-holds c = printed-first _ _ _
 
 loop-again : tie.Need-loop-again Inv-loop μ-loop
-loop-again c = let fit : SFits w32 (c .before .before .before .value .result) = search needs in printed-again _ _ _ _ _ _ (c .before .before .before .before .before .before .before .before .before .before .loop .inv) (c .before .before .before .value .result) _ _ _ _ (c .before .before .before .before .before .before .before .before .before .loop-test .taken) (c .before .before .before .value .ensures) (c .before .before .before .before .before .before .before .put .ensures) (rw (toZ-ofZ fit) at (c .before .before .put-integer .ensures)) (search needs)
+loop-again c = let fit : SFits w32 (c .before .before .before .value .result) = search needs in
+    printed-again _ _ _ _ _ _ (c .before .before .before .before .before .before .before .before .before .before .loop .inv)
+    (c .before .before .before .value .result) _ _ _ _ (c .before .before .before .before .before .before .before .before .before .loop-test .taken)
+    (c .before .before .before .value .ensures) (c .before .before .before .before .before .before .before .put .ensures)
+    (rw (toZ-ofZ fit) at (c .before .before .put-integer .ensures)) (search needs)
 
 same-length : tie.Need-same-length Inv-loop μ-loop
 same-length c = c .before .loop .inv .kept

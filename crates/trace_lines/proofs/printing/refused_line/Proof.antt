@@ -7,7 +7,10 @@ use Rattle.trace_lines.proofs.printing.refused_line.Tie as tie
 
 returns : tie.Need-returns
 unfolding bytes
-returns c = refused-puts _ _ _ _ _ _ _ _ _ _ _ (c .before .before .before .before .before .before .before .before .before .before .before .before .before .before .before .put-number .ensures) (c .before .before .before .before .before .before .before .before .before .before .put-text .ensures) (c .before .before .before .before .before .before .put-number2 .ensures) (c .before .before .put .ensures)
+returns c = refused-puts _ _ _ _ _ _ _ _ _ _ _
+    (c .before .before .before .before .before .before .before .before .before .before .before .before .before .before .before .put-number .ensures)
+    (c .before .before .before .before .before .before .before .before .before .before .put-text .ensures)
+    (c .before .before .before .before .before .before .put-number2 .ensures) (c .before .before .put .ensures)
 
 pub refused-line-spec : {M : Type 1} → statement M
 refused-line-spec =

@@ -14,7 +14,8 @@ returns-2 : tie.Need-returns-2
 returns-2 c = let fit : SFits w32 (c .from-bits .result) = search needs in rw (toZ-ofZ fit) (down-zero _ _ (c .before .if2 .taken) (c .from-bits .ensures))
 
 returns-3 : tie.Need-returns-3
-returns-3 c = let fit : SFits w32 (c .from-bits2 .result) = search needs in rw (toZ-ofZ fit) (down-value _ _ (c .before .before .if1 .left) (c .before .if2 .left) (c .from-bits2 .ensures))
+returns-3 c = let fit : SFits w32 (c .from-bits2 .result) = search needs in
+    rw (toZ-ofZ fit) (down-value _ _ (c .before .before .if1 .left) (c .before .if2 .left) (c .from-bits2 .ensures))
 
 pub downward-spec : {M : Type 1} → statement M
 downward-spec =

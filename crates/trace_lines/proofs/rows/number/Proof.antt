@@ -23,10 +23,17 @@ loop-holds : tie.Need-loop-holds Inv-loop μ-loop
 loop-holds c = (search needs, number-first _ _ 0 (c .if1 .left))
 
 returns-2 : tie.Need-returns-2 Inv-loop μ-loop
-returns-2 c = number-stop (c .before .before .before .before .before .before .before .args .w .now) _ (c .before .before .before .before .loop .v) (c .before .before .before .loop-test .taken) (sym (c .before .is-digit .ensures) ∙ not-true _ (c .if2 .taken)) ∙ c .before .before .before .before .loop .inv .1
+returns-2 c = number-stop (c .before .before .before .before .before .before .before .args .w .now) _ (c .before .before .before .before .loop .v)
+    (c .before .before .before .loop-test .taken) (sym (c .before .is-digit .ensures) ∙ not-true _ (c .if2 .taken))
+    ∙ c .before .before .before .before .loop .inv .1
 
 loop-again : tie.Need-loop-again Inv-loop μ-loop
-loop-again c = (search needs, number-again _ _ _ _ (c .before .before .before .before .before .loop-test .taken) (sym (c .before .before .before .is-digit .ensures) ∙ not-false _ (c .before .before .if2 .left)) (c .next-number .ensures) ∙ c .before .before .before .before .before .before .loop .inv .1)
+loop-again c = (
+  search needs,
+  number-again _ _ _ _ (c .before .before .before .before .before .loop-test .taken)
+      (sym (c .before .before .before .is-digit .ensures) ∙ not-false _ (c .before .before .if2 .left)) (c .next-number .ensures)
+      ∙ c .before .before .before .before .before .before .loop .inv .1,
+)
 
 returns-3 : tie.Need-returns-3 Inv-loop μ-loop
 returns-3 c = number-end (c .before .before .before .before .args .w .now) _ _ (c .loop-test .left) (c .before .loop .inv .0) ∙ c .before .loop .inv .1

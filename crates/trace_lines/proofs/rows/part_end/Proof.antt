@@ -19,10 +19,12 @@ loop-holds : tie.Need-loop-holds Inv-loop μ-loop
 loop-holds c = refl
 
 returns : tie.Need-returns Inv-loop μ-loop
-returns c = sym (run-stop (other (c .before .before .before .before .args .c)) _ _ (c .before .before .loop-test .taken) (other-is _ _ (c .if1 .taken))) ∙ c .before .before .before .loop .inv
+returns c = sym (run-stop (other (c .before .before .before .before .args .c)) _ _ (c .before .before .loop-test .taken) (other-is _ _ (c .if1 .taken)))
+    ∙ c .before .before .before .loop .inv
 
 loop-again : tie.Need-loop-again Inv-loop μ-loop
-loop-again c = run-pass (other (c .before .before .before .before .args .c)) _ _ (c .before .before .loop-test .taken) (other-not _ _ (c .if1 .left)) ∙ c .before .before .before .loop .inv
+loop-again c = run-pass (other (c .before .before .before .before .args .c)) _ _ (c .before .before .loop-test .taken) (other-not _ _ (c .if1 .left))
+    ∙ c .before .before .before .loop .inv
 
 returns-2 : tie.Need-returns-2 Inv-loop μ-loop
 returns-2 c = sym (run-end (other (c .before .before .args .c)) _ _ (c .loop-test .left)) ∙ c .before .loop .inv

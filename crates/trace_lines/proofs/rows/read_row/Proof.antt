@@ -32,16 +32,27 @@ returns-2 : tie.Need-returns-2 Inv-loop μ-loop
 returns-2 c = row-long _ _ _ _ _ (c .before .before .loop .inv) (c .before .loop-test .taken) (c .if2 .taken)
 
 same-length-2 : tie.Need-same-length-2 Inv-loop μ-loop
-same-length-2 c = ap length (c .before .before .before .before .before .before .before .loop .inv .stored) ∙ length-sets _ 0 (c .before .before .before .before .before .before .before .loop .inv .read)
+same-length-2 c = ap length (c .before .before .before .before .before .before .before .loop .inv .stored)
+    ∙ length-sets _ 0 (c .before .before .before .before .before .before .before .loop .inv .read)
 
 returns-3 : tie.Need-returns-3 Inv-loop μ-loop
-returns-3 c = row-unreadable _ _ _ _ _ (c .before .before .before .before .before .before .before .loop .inv) _ _ _ (c .before .before .before .before .before .before .loop-test .taken) (c .before .before .before .before .part-end .ensures) (c .before .before .before .part-of .ensures) (c .before .before .read-decimal .ensures) (c .enum-told .given .1)
+returns-3 c = row-unreadable _ _ _ _ _ (c .before .before .before .before .before .before .before .loop .inv) _ _ _
+    (c .before .before .before .before .before .before .loop-test .taken) (c .before .before .before .before .part-end .ensures)
+    (c .before .before .before .part-of .ensures) (c .before .before .read-decimal .ensures) (c .enum-told .given .1)
 
 add-i : tie.Need-add-i Inv-loop μ-loop
-add-i c = let z = end-inside _ _ _ _ _ (c .before .before .before .before .before .before .before .before .before .before .before .loop .inv) _ (c .before .before .before .before .before .before .before .before .before .before .loop-test .taken) (c .before .before .before .before .before .before .before .before .part-end .ensures) in omega arith
+add-i c = let z = end-inside _ _ _ _ _ (c .before .before .before .before .before .before .before .before .before .before .before .loop .inv) _
+    (c .before .before .before .before .before .before .before .before .before .before .loop-test .taken)
+    (c .before .before .before .before .before .before .before .before .part-end .ensures) in omega arith
 
 loop-again : tie.Need-loop-again Inv-loop μ-loop
-loop-again c = let fit : SFits w32 (c .before .before .before .before .v .given .0 .0) = search needs in row-again _ _ _ _ _ (c .before .before .before .before .before .before .before .before .before .before .before .loop .inv) _ _ _ _ _ _ (c .before .before .before .before .before .before .before .before .before .before .loop-test .taken) (c .before .before .before .before .before .before .before .before .before .if2 .left) (c .before .before .before .before .before .before .before .before .part-end .ensures) (c .before .before .before .before .before .before .before .part-of .ensures) (c .before .before .before .before .before .before .read-decimal .ensures) (c .before .before .before .before .v .given .1) (c .before .store .ensures) (toZ-ofZ fit)
+loop-again c = let fit : SFits w32 (c .before .before .before .before .v .given .0 .0) = search needs in
+    row-again _ _ _ _ _ (c .before .before .before .before .before .before .before .before .before .before .before .loop .inv) _ _ _ _ _ _
+    (c .before .before .before .before .before .before .before .before .before .before .loop-test .taken)
+    (c .before .before .before .before .before .before .before .before .before .if2 .left)
+    (c .before .before .before .before .before .before .before .before .part-end .ensures)
+    (c .before .before .before .before .before .before .before .part-of .ensures) (c .before .before .before .before .before .before .read-decimal .ensures)
+    (c .before .before .before .before .v .given .1) (c .before .store .ensures) (toZ-ofZ fit)
 
 same-length-3 : tie.Need-same-length-3 Inv-loop μ-loop
 same-length-3 c = ap length (c .before .loop .inv .stored) ∙ length-sets _ 0 (c .before .loop .inv .read)

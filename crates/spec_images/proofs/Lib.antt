@@ -1,6 +1,0 @@
-pub mod InputRows
-pub mod Tables
-pub mod States
-pub mod Outcomes
-pub mod Processes
-pub mod Places
