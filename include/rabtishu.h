@@ -51,7 +51,7 @@
  * 16 and 18 are one stage: the operator that is reached first is told.
  * Places of 1 to 9 are byte offsets of the text. Every place and every count is at most 65535 and is told as it is.
  *
- * Stack: rabtishu_compile, rabtishu_direct_fresh and rabtishu_direct keep their arrays on the stack of the caller's thread, about 245,000 bytes; every
+ * Stack: rabtishu_compile, rabtishu_direct_fresh and rabtishu_direct keep their arrays on the stack of the caller's thread, about 230,000 bytes; every
  * call has been run on the largest texts and images in a stack of 1 MiB.
  */
 #ifndef RABTISHU_H

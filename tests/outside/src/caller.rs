@@ -1,4 +1,4 @@
-//! What the test program `test_caller`, which calls every public function of the crate entry and many rows
+//! What the test program `test_caller`, which calls every public function of the crate api_rattle and many rows
 //! in one call, must print for the texts of its file: the answers of this implementation, in the
 //! program's own words.
 

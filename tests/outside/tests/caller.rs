@@ -19,7 +19,8 @@ fn the_program_prints_what_document_01_says() {
 /// Every refusal of document 01 is among them.
 #[test]
 fn every_refusal_is_told() {
-    let texts = PathBuf::from(env!("CARGO_MANIFEST_DIR")).join("../../crates/test_caller/data/texts");
+    let texts =
+        PathBuf::from(env!("CARGO_MANIFEST_DIR")).join("../../crates/test_caller/data/texts");
     let answers = answers(&std::fs::read(texts).expect("texts"));
     for number in 1..=18 {
         assert!(answers.contains(&format!(" refused {number} ")), "{number}");

@@ -236,13 +236,13 @@ mod proved {
         let tally = include_bytes!("../../../../examples/tally/process.vhd");
         let gcd_text = include_bytes!("../../../../examples/gcd/process.vhd");
         let headway = include_bytes!("../../../../examples/headway/process.vhd");
-        let many = many_statements();
+        let (many, long) = (many_statements(), long_text(16_384));
         println!(
             "{:<44} {:>6}   {:>13} {:>13}",
             "", "ratio", "proved", "Rust"
         );
         compile("compile tally", tally, 400);
-        compile("compile 16,384 bytes", &long_text(16_384), 20);
+        compile("compile 16,384 bytes", &long, 20);
         compile("compile 512 statements", &many, 40);
         growth();
         let mut random = Random::new(SEED);
@@ -255,13 +255,16 @@ mod proved {
         let gcd_rows = of(gcd(400, &mut random), 3, 2);
         let many_rows = of(small(40, &mut random), 1, 1);
         let headway_rows = of(headways(400, &mut random), 4, 5);
+        let long_rows = of(small(400, &mut random), 1, 1);
         cycles("tally", tally, &tally_rows, 40);
         cycles("gcd", gcd_text, &gcd_rows, 20);
         cycles("512 lines", &many, &many_rows, 20);
         cycles("headway", headway, &headway_rows, 20);
+        cycles("16,384 bytes", &long, &long_rows, 20);
         println!("many rows; the bar against single calls, in the place of Rust, is 0.75 each");
         in_one_call("tally", tally, &tally_rows, 40);
         in_one_call("gcd", gcd_text, &gcd_rows, 20);
         in_one_call("512 lines", &many, &many_rows, 20);
+        in_one_call("16,384 bytes", &long, &long_rows, 20);
     }
 }
