@@ -1,7 +1,7 @@
 /*
  * rabtishu.h: the C interface of Rabtishu, a compiler from ABC-VHDL to cycle tables for countdown boards.
  *
- * The functions are those of crates/api_c, proved to meet contracts by the definitions in crates/spec_promises/specs/CInterface.antt.
+ * The functions are those of crates/api_c, proved to meet contracts by the definitions in crates/spec_interface/specs/CInterface.antt.
  * Build the library by `rt staticlib api_c`, and link target/staticlib/libapi_c.a.
  * No function allocates memory, keeps anything between calls, reads or writes a file, or fails in another way than by its answer.
  *

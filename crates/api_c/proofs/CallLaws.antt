@@ -18,8 +18,8 @@ use Rattle.spec_format.specs.Batch.{batchOf, batchAnswer, isMoved}
 use Rattle.image_loader.specs.Open.{openAnswer}
 use Rattle.image_batch.specs.declared.Outcome.{Outcome}
 use Rattle.image_batch.specs.Batches.{Batches}
-use Rattle.spec_promises.proofs.BatchInC.{slots-moved}
-use Rattle.spec_promises.specs.CInterface.{stateOfC, cOfState, cycledSlots, cycleLeft, startLeft, openNumbers, batchInC}
+use Rattle.spec_interface.proofs.Batch.{slots-moved}
+use Rattle.spec_interface.specs.CInterface.{stateOfC, cOfState, cycledSlots, cycleLeft, startLeft, openNumbers, batchInC}
 use Rattle.base_answers.specs.Numbers.{numbersOf, uncounted, startedNumbers, cycledNumbers, batchedNumbers}
 
 -- an image opened

@@ -19,7 +19,7 @@ use Rattle.spec_format.specs.Words.{Bytes}
 use Rattle.spec_format.specs.Opening.{Opened, opened, not-opened, openOf}
 use Rattle.spec_format.specs.State.{freshOf}
 use Rattle.spec_behaviour.specs.Direct.{directOf, directFresh}
-use Rattle.spec_promises.specs.Compile.{compileOf}
+use Rattle.spec_interface.specs.Compile.{compileOf}
 use Rattle.spec_simulation.proofs.Places.{open-place}
 use Rattle.spec_promises.proofs.Places.{compile-place, compile-count, fresh-place, direct-place, direct-count, direct-fresh-place}
 use Rattle.image_loader.specs.Open.{openAnswer}

@@ -13,7 +13,7 @@ use mir.Val.{SFits}
 use borrow.Author.Tests.{lt-ltb, le-ltb}
 use Rattle.spec_semantics.specs.Twos.{signed32, unsigned32}
 use Rattle.base_answers.specs.declared.State.{State}
-use Rattle.spec_promises.specs.CInterface.{placeOfC, stateOfC, cOfState}
+use Rattle.spec_interface.specs.CInterface.{placeOfC, stateOfC, cOfState}
 
 -- a place within 16 bits is read as it is
 pub place-in : (x : ℤ) (b : ℕ) → SFits w32 x → b ≡ unsigned32 x → b < 65536 → b ≡ placeOfC x

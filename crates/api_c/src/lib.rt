@@ -3,7 +3,7 @@
 mod record;
 
 ghost use mathlib.Core.Path.{_≡_};
-ghost use Rattle.spec_promises.specs.CInterface.{compileInC, openInC, freshInC, cycleInC, batchInC, directFreshInC, directInC, tokenInC};
+ghost use Rattle.spec_interface.specs.CInterface.{compileInC, openInC, freshInC, cycleInC, batchInC, directFreshInC, directInC, tokenInC};
 use base_codes::record::ANSWER;
 use base_codes::record::STATE;
 

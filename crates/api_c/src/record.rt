@@ -2,7 +2,7 @@
 ghost use mathlib.Core.Path.{_≡_};
 ghost use lib.ListN.{length};
 ghost use lib.IntN.{pos};
-ghost use Rattle.spec_promises.specs.CInterface.{placeOfC, stateOfC, cOfState};
+ghost use Rattle.spec_interface.specs.CInterface.{placeOfC, stateOfC, cOfState};
 use base_answers::State;
 use base_codes::limit;
 use base_codes::record as numbers;

@@ -12,7 +12,7 @@ use Rattle.base_answers.specs.declared.Sections.{Sections}
 use Rattle.spec_format.specs.Opening.{openOf}
 use Rattle.image_loader.specs.Open.{openAnswer}
 use Rattle.image_loader.proofs.OpenLaws.{image-opened, image-refused}
-use Rattle.spec_promises.specs.Lending.{within, Lends}
+use Rattle.spec_interface.specs.Lending.{within, Lends}
 use Rattle.api_rattle.specs.Lending.{noSections, openingOf}
 use Rattle.api_rattle.specs.declared.Opening.{Opening}
 

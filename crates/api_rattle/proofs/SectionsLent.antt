@@ -8,9 +8,9 @@ use Rattle.spec_format.specs.Words.{Bytes}
 use Rattle.spec_format.specs.Image.{Table, sectionsFor}
 use Rattle.spec_format.specs.Opening.{opened, sectionsOf, openOf}
 use Rattle.spec_format.proofs.Opens.{table-sections, opens-exactly}
-use Rattle.spec_promises.specs.Lending.{boundsOf}
-use Rattle.spec_promises.specs.Promises.{SectionsLent}
-use Rattle.spec_promises.proofs.Main as M
+use Rattle.spec_interface.specs.Lending.{boundsOf}
+use Rattle.spec_interface.specs.Told.{SectionsLent}
+use Rattle.spec_interface.proofs.SectionsLent as L
 use Rattle.image_loader.specs.Sections.{isSome, parts}
 use Rattle.image_loader.specs.Open.{placesOf}
 use Rattle.image_loader.proofs.OpenLaws.{lengths, opened-sections}
@@ -34,4 +34,4 @@ module _ (b : List ℕ) (t : Table) (h : Bytes b) (e : openOf b ≡ opened t) wh
   bounds-found = ap (λ o. openingAs b o .sections) e ∙ (places-are ∙ ap boundsOf parts-are)
 
   pub sections-lent : SectionsLent b t (openingOf b .sections)
-  sections-lent = subst (SectionsLent b t) (sym bounds-found) (M.sections-lent b h t e)
+  sections-lent = subst (SectionsLent b t) (sym bounds-found) (L.sections-lent b h t e)

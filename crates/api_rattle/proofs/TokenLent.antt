@@ -8,7 +8,7 @@ use lib.ListN.{length}
 use borrow.Author.Tests.{le-leb, lt-leb}
 use denote.Ref.{RefT, now}
 use Rattle.spec_language.specs.Lexer.{tokenAt}
-use Rattle.spec_promises.specs.Lending.{within, Lends}
+use Rattle.spec_interface.specs.Lending.{within, Lends}
 use Rattle.spec_promises.proofs.Handed.{token-between}
 
 -- bounds that do not lie in the bytes lend out an empty part

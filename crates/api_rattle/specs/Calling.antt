@@ -10,7 +10,7 @@ use Rattle.spec_semantics.specs.Records.{Started}
 use Rattle.spec_behaviour.specs.Direct.{directOf}
 use Rattle.direct_cycle.specs.Calls.{callOf}
 use Rattle.spec_semantics.specs.Advances.{cycleAnswer, freshAnswer}
-use Rattle.spec_promises.specs.Entry.{stateAfter}
+use Rattle.spec_interface.specs.Entry.{stateAfter}
 use Rattle.api_rattle.specs.declared.calls.Outcome.{Outcome}
 use Rattle.api_rattle.specs.declared.calls.Start.{Start}
 

@@ -4,7 +4,7 @@ use Prim.Native.Nat.{ℕ}
 use Rattle.base_answers.specs.declared.Sections.{Sections}
 use Rattle.spec_format.specs.Opening.{Opened, opened, not-opened, openOf}
 use Rattle.image_loader.specs.Open.{placesOf}
-use Rattle.spec_promises.specs.Entry.{openingTold}
+use Rattle.spec_interface.specs.Entry.{openingTold}
 use Rattle.api_rattle.specs.declared.Opening.{Opening}
 
 -- the bounds of three empty sections

@@ -5,7 +5,7 @@ ghost use Rattle.base_answers.specs.Answers.{cycleTold, freshTold};
 ghost use Rattle.spec_format.specs.State.{freshOf};
 ghost use Rattle.spec_behaviour.specs.Direct.{directOf, directFresh};
 ghost use Rattle.direct_cycle.specs.Calls.{callOf};
-ghost use Rattle.spec_promises.specs.Entry.{stateAfter};
+ghost use Rattle.spec_interface.specs.Entry.{stateAfter};
 ghost use Rattle.api_rattle.specs.Calling.{DirectOutcomes, Starting};
 ghost use Rattle.spec_semantics.specs.Advances.{cycleAnswer, freshAnswer};
 use base_answers::Cycled;

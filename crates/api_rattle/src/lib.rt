@@ -12,7 +12,7 @@ ghost use mathlib.Core.Path.{_≡_};
 ghost use Prim.Native.Nat.{_+_};
 ghost use lib.ListN.{length};
 ghost use Rattle.spec_language.specs.Lexer.{tokenAt};
-ghost use Rattle.spec_promises.specs.Lending.{Lends};
+ghost use Rattle.spec_interface.specs.Lending.{Lends};
 ghost use Rattle.api_rattle.specs.Lending.{openingOf};
 use base_answers::Opened;
 use base_answers::Sections;

@@ -6,7 +6,9 @@ use mathlib.Core.List.{List, [], _∷_}
 use Prim.Native.Nat.{ℕ, zero, suc, _+_}
 use native.Mathlib.Omega.{arith}
 use Rattle.base_answers.specs.declared.Refusal.{Refusal}
-use Rattle.base_answers.specs.declared.Refusal.the-variants.{TextTooLong, NoToken, NoSentence, LimitPassed, WrongName, WrongType, NoValue, WrongClock, WrongClass, BufferTooShort, BadSections, BadSignature, BadLine, BadRow, BadState, OutOfRange, BadLengths, ZeroDivisor}
+use Rattle.base_answers.specs.declared.Refusal.the-variants.{TextTooLong, NoToken, NoSentence, LimitPassed, WrongName, WrongType, NoValue, WrongClock}
+use Rattle.base_answers.specs.declared.Refusal.the-variants.{WrongClass, BufferTooShort, BadSections, BadSignature, BadLine, BadRow, BadState, OutOfRange}
+use Rattle.base_answers.specs.declared.Refusal.the-variants.{BadLengths, ZeroDivisor}
 use Rattle.base_answers.specs.Answers.{numberOf, placeOf, operatorRefusal, Told, refusal, refusedBy}
 
 -- a row of the table: the refusal at a place, or none where the row has not that place

@@ -3,3 +3,4 @@ pub mod TokenLaws
 pub mod OperationLaws
 pub mod TypeLaws
 pub mod StackLaws
+pub mod Arrays

@@ -6,7 +6,8 @@ use Prim.Native.Nat.{ℕ, _<_}
 use lib.Dec.{eqb}
 use native.Mathlib.Omega.{arith}
 use borrow.Author.Tests.{ne-eqb, eqb-true}
-use Rattle.spec_design.specs.Expression.{Unary, sign, invert, Binary, plus, minus, equal, unequal, less, at-most, greater, at-least, and, or, xor, times, divide, modulo, remainder}
+use Rattle.spec_design.specs.Expression.{Unary, sign, invert, Binary, plus, minus, equal, unequal, less, at-most, greater, at-least, and, or, xor, times}
+use Rattle.spec_design.specs.Expression.{divide, modulo, remainder}
 use Rattle.base_codes.specs.Operation.{PLUS, unaryCode, binaryCode, unaryFor, binaryFor, operatorOf, codeOr, operationOf, countOr, operandsOf}
 use Rattle.base_codes.proofs.Finite.{all, answers}
 

@@ -8,10 +8,12 @@ use native.Mathlib.Omega.{arith}
 use lib.Dec.{eqb}
 use borrow.Author.Tests.{eqb-true, ne-eqb}
 use Rattle.spec_design.specs.Types.{Ty, std-logic, integer, ExprTy, plain, boolean, sameTy, sameType, typeByte}
-use Rattle.spec_design.specs.Expression.{Unary, sign, invert, Binary, plus, minus, equal, unequal, less, at-most, greater, at-least, and, or, xor, times, divide, modulo, remainder, sumType, orderType, equalityType, logicalType, unaryType, binaryType}
+use Rattle.spec_design.specs.Expression.{Unary, sign, invert, Binary, plus, minus, equal, unequal, less, at-most, greater, at-least, and, or, xor, times}
+use Rattle.spec_design.specs.Expression.{divide, modulo, remainder, sumType, orderType, equalityType, logicalType, unaryType, binaryType}
 use Rattle.base_codes.specs.Token.{oneOf}
 use Rattle.base_codes.specs.Operation.{SIGN, NOT, unaryCode, binaryCode, unaryFor, binaryFor}
-use Rattle.base_codes.specs.Types.{BOOLEAN, NONE, comparing, resultFor, tagOf, tagOr, typeOfTag, declaredType, unaryOf, binaryOf, typeAfter, unaryTypeFor, binaryTypeFor}
+use Rattle.base_codes.specs.Types.{BOOLEAN, NONE, comparing, resultFor, tagOf, tagOr, typeOfTag, declaredType, unaryOf, binaryOf, typeAfter, unaryTypeFor}
+use Rattle.base_codes.specs.Types.{binaryTypeFor}
 use Rattle.base_codes.proofs.Finite.{all, first, rest, within}
 
 -- Numbers of types.

@@ -15,7 +15,8 @@ use mir.Syntax.{w32}
 use mir.Val.{SFits, toZ, ofZ}
 use mir.Facts.{toZ-ofZ}
 use Rattle.spec_design.specs.Types.{std-logic, integer, ExprTy, plain, boolean}
-use Rattle.spec_design.specs.Expression.{Unary, sign, invert, Binary, plus, minus, equal, unequal, less, at-most, greater, at-least, and, or, xor, times, divide, modulo, remainder, leaf, int, unary, binary, Out, fine, fault, bind, fold}
+use Rattle.spec_design.specs.Expression.{Unary, sign, invert, Binary, plus, minus, equal, unequal, less, at-most, greater, at-least, and, or, xor, times}
+use Rattle.spec_design.specs.Expression.{divide, modulo, remainder, leaf, int, unary, binary, Out, fine, fault, bind, fold}
 use Rattle.spec_design.specs.Expression.{sumType, orderType, equalityType, logicalType, unaryType, binaryType}
 use Rattle.spec_semantics.specs.Evaluation.{asInteger, binaryResult, applyUnary, applyBinary, leafValue, evaluate}
 use Rattle.spec_semantics.proofs.Basic.{fault-injective}

@@ -41,7 +41,7 @@ use Rattle.direct_statements.specs.Holding.{Ready, HeldIn}
 use Rattle.direct_statements.specs.Standing.{run, Stands}
 use Rattle.direct_cycle.specs.Checks.{checkOf, rowIs, slotsIn, placeIn, inUse, stateIs}
 use Rattle.spec_semantics.proofs.Described.{used-outputs, used-variables, outputs-long, variables-long, kept-laid}
-use Rattle.direct_cycle.specs.Calls.{Design, Names, callOf, fedOf}
+use Rattle.direct_cycle.specs.Calls.{Design, Names, callOf, fedOf, placeBy, leftBy, rowBy}
 use Rattle.spec_semantics.specs.Advances.{Advances}
 use Rattle.direct_statements.specs.declared.Progress.{Progress}
 use Rattle.direct_statements.specs.declared.Progress.the-variants.{Passed, Reached, Refused}
@@ -340,20 +340,21 @@ module _ (p : Process) (s : State) (f : fitsText p s ≡ true) (w : WellFormed p
   abbrev Ran : Result
   Ran = cycle (p .body) (placeFor (s .place)) i (run [] (take (n - 0) (drop 0 (s .outputs))) (take (m - 0) (drop 0 (s .variables))))
 
+  -- the slots as they are after it
+  abbrev Outputs : List ℤ
+  Outputs = take 0 (s .outputs) ++ (o′ ++ drop (n - 0) (drop 0 (s .outputs)))
+
+  abbrev Variables : List ℤ
+  Variables = take 0 (s .variables) ++ (v′ ++ drop (m - 0) (drop 0 (s .variables)))
+
   -- the state that it makes of them
   abbrev Back : ℕ → State
-  Back x = record {
-    place = x;
-    outputs = take 0 (s .outputs) ++ (o′ ++ drop (n - 0) (drop 0 (s .outputs)));
-    variables = take 0
-        (s .variables) ++ (v′ ++ drop (m - 0) (drop 0 (s .variables)));
-  }
+  Back x = record { place = x; outputs = Outputs; variables = Variables }
 
   back : (x : ℕ) → Back x ≡ record {
     place = x;
     outputs = o′ ++ drop (length (p .outputs)) (s .outputs);
-    variables = v′ ++ drop (length (p .variables))
-        (s .variables);
+    variables = v′ ++ drop (length (p .variables)) (s .variables);
   }
   back x = rw (← oc, ← vc) (λ j. record { place = x; outputs = part-back (s .outputs) o′ n j; variables = part-back (s .variables) v′ m j })
 
@@ -369,36 +370,27 @@ module _ (p : Process) (s : State) (f : fitsText p s ≡ true) (w : WellFormed p
   variables-count : length v′ ≡ length (take (m - 0) (drop 0 (s .variables))) → length v′ ≡ length (p .variables)
   variables-count e = e ∙ (part-length (s .variables) m 32 (variables-long p s f) (let h = w .variables in omega arith) ∙ vc)
 
-  -- what `performed` makes at the place x
-  abbrev Performs : ℕ → Counts → Advanced → List ℤ → Type 0
-  Performs x k a row = x < 65536 → length o ≤ 16
-      → (a ≡ record { state = Back x; answer = Performed k }) × (row ≡ take (length o) (take 0 (s .outputs) ++ (o′ ++ drop (n - 0) (drop 0 (s .outputs)))))
+  shown : {row : List ℤ} → row ≡ take (length o) Outputs → row ≡ take (length o) (o′ ++ drop (length (p .outputs)) (s .outputs))
+  shown e = e ∙ ap (λ (z : List ℤ). take (length o) z) (part-back (s .outputs) o′ n ∙ ap (λ (j : ℕ). o′ ++ drop j (s .outputs)) oc)
 
-  pub run-passed : (r : Progress) (k : Counts) (a : Advanced) (row : List ℤ) → Stands Ran r o′ v′ → r ≡ Passed (k .lines) → Performs 512 k a row
+  -- what `concluded` makes of it is the definition's cycle
+  pub run-concluded : (r : Progress) (a : Advanced) (row : List ℤ) → Stands Ran r o′ v′
+      → (placeBy r < 65536 → length o ≤ 16 → (a ≡ leftBy s r Outputs Variables) × (row ≡ rowBy r Outputs o))
       → length o′ ≡ length (take (n - 0) (drop 0 (s .outputs))) → length v′ ≡ length (take (m - 0) (drop 0 (s .variables)))
       → Advances (cycled p (keptOf p s) (callOf i o)) a row
-  run-passed r k a row t e q x y =
+  run-concluded (Passed k) a row t q x y =
       let u = q (omega arith) few in
-      let b = part-back (s .outputs) o′ n in
-      passed-advances p s f w i o room k o′ v′ (rw (ran, e) at t) (outputs-count x) (variables-count y) a row
-      (u .0 ∙ ap (λ (z : State). record { state = z; answer = Performed k }) (back 512))
-      (u .1 ∙ ap (λ (z : List ℤ). take (length o) z) (b ∙ ap (λ (j : ℕ). o′ ++ drop j (s .outputs)) oc))
-
-  pub run-reached : (r : Progress) (z : ℕ) (k : Counts) (a : Advanced) (row : List ℤ) → Stands Ran r o′ v′ → r ≡ Reached z (k .lines) → Performs z k a row
-      → length o′ ≡ length (take (n - 0) (drop 0 (s .outputs))) → length v′ ≡ length (take (m - 0) (drop 0 (s .variables)))
-      → Advances (cycled p (keptOf p s) (callOf i o)) a row
-  run-reached r z k a row t e q x y =
-      let t′ = rw (ran, e) at t in
-      let u = q (reached-small p s f w i o room z (k .lines) o′ v′ t′) few in
-      let b = part-back (s .outputs) o′ n in
-      reached-advances p s f w i o room z k o′ v′ t′ (outputs-count x) (variables-count y) a row
-      (u .0 ∙ ap (λ (y : State). record { state = y; answer = Performed k }) (back z))
-      (u .1 ∙ ap (λ (y : List ℤ). take (length o) y) (b ∙ ap (λ (j : ℕ). o′ ++ drop j (s .outputs)) oc))
-
-  pub run-refused : (r : Progress) (m x : ℕ) (y : Refusal) (a : Advanced) → Stands Ran r o′ v′ → r ≡ Refused m x
-      → y ≡ operatorRefusal m x → a ≡ record { state = s; answer = NotPerformed y } → Advances (cycled p (keptOf p s) (callOf i o)) a o
-  run-refused r m x y a t e g q =
-      refused-advances p s f w i o room m x o′ v′ (rw (ran, e) at t) a (q ∙ ap (λ (z : Refusal). record { state = s; answer = NotPerformed z }) g)
+      passed-advances p s f w i o room (record { lines = k }) o′ v′ (rw ran at t) (outputs-count x) (variables-count y) a row
+      (u .0 ∙ ap (λ (z : State). record { state = z; answer = Performed (record { lines = k }) }) (back 512)) (shown (u .1))
+  run-concluded (Reached z k) a row t q x y =
+      let t′ = rw ran at t in
+      let u = q (reached-small p s f w i o room z k o′ v′ t′) few in
+      reached-advances p s f w i o room z (record { lines = k }) o′ v′ t′ (outputs-count x) (variables-count y) a row
+      (u .0 ∙ ap (λ (y : State). record { state = y; answer = Performed (record { lines = k }) }) (back z)) (shown (u .1))
+  run-concluded (Refused k z) a row t q x y =
+      let u = q (omega arith) few in
+      subst (λ (r : List ℤ). Advances (cycled p (keptOf p s) (callOf i o)) a r) (sym (u .1))
+      (refused-advances p s f w i o room k z o′ v′ (rw ran at t) a (u .0))
 
 -- CALLS
 module _ (p : Process) (s : State) (i o : List ℤ) where

@@ -10,7 +10,7 @@ ghost use Rattle.spec_semantics.specs.Rows.{rowRefusal, atFirst};
 ghost use Rattle.spec_semantics.specs.Records.{pad};
 ghost use Rattle.spec_semantics.specs.Comparison.{laid};
 ghost use Rattle.spec_semantics.specs.DirectRow.{fitsText, keptOf, cycled, directRow};
-ghost use Rattle.direct_cycle.specs.Calls.{Design, callOf, fedOf};
+ghost use Rattle.direct_cycle.specs.Calls.{Design, callOf, fedOf, placeBy, leftBy, rowBy};
 ghost use Rattle.base_ir.specs.Arrays.{NamesIn, Holds, Bounded};
 ghost use Rattle.spec_semantics.specs.Advances.{Advances};
 use crate::RowCheck;
@@ -75,6 +75,30 @@ fn performed(
     }
 }
 
+// What a cycle leaves that came to r, with its slots: passed, it is at the beginning again; refused, it hands back the state.
+fn concluded(
+    s: State,
+    r: Progress,
+    outputs: [i32; limit::OUTPUTS],
+    variables: [i32; limit::VARIABLES],
+    row: &mut [i32],
+) -> Advanced
+    ensures { λ a. ⌜ (placeBy r < 65536 → length (now (row .entry)) ≤ 16
+        → (a ≡ leftBy s r outputs variables) × (now (row .exit) ≡ rowBy r outputs (now (row .entry)))) ⌝ }
+{
+    match r {
+        Progress::Passed(n) => {
+            let counts = Counts { lines: n };
+            performed(s, limit::BEGINNING, counts, outputs, variables, row)
+        }
+        Progress::Reached(p, n) => {
+            let counts = Counts { lines: n };
+            performed(s, p, counts, outputs, variables, row)
+        }
+        Progress::Refused(q, x) => refused(s, operator_refusal(q, x)),
+    }
+}
+
 // One cycle, where row and state are right: it works on copies of the slots in use, which become the state's.
 fn run(
     codes: &[u8],
@@ -109,17 +133,7 @@ fn run(
         &mut outputs[0..output_count],
         &mut variables[0..variable_count],
     );
-    match r {
-        Progress::Passed(n) => {
-            let counts = Counts { lines: n };
-            performed(s, limit::BEGINNING, counts, outputs, variables, row)
-        }
-        Progress::Reached(p, n) => {
-            let counts = Counts { lines: n };
-            performed(s, p, counts, outputs, variables, row)
-        }
-        Progress::Refused(q, x) => refused(s, operator_refusal(q, x)),
-    }
+    concluded(s, r, outputs, variables, row)
 }
 
 // One call, where the row is right: refusal 15, or a cycle.

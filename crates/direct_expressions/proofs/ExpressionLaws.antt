@@ -9,7 +9,9 @@ use borrow.Author.Tests.{lt-ltb}
 use lib.ListN.{length}
 use lib.IntN.{ℤ, pos}
 use Rattle.spec_design.specs.Types.{Ty, std-logic, integer, ExprTy, plain, boolean}
-use Rattle.spec_design.specs.Expression.{Leaf, int, bit, input, variable, Unary, sign, invert, Binary, plus, minus, equal, unequal, less, at-most, greater, at-least, and, or, xor, times, divide, modulo, remainder, Expr, leaf, unary, binary, items, Out, fine, fault, bind, Algebra, fold, unaryType, binaryType, typeOf}
+use Rattle.spec_design.specs.Expression.{Leaf, int, bit, input, variable, Unary, sign, invert, Binary, plus, minus, equal, unequal, less, at-most, greater}
+use Rattle.spec_design.specs.Expression.{at-least, and, or, xor, times, divide, modulo, remainder, Expr, leaf, unary, binary, items, Out, fine, fault, bind}
+use Rattle.spec_design.specs.Expression.{Algebra, fold, unaryType, binaryType, typeOf}
 use Rattle.spec_design.proofs.Postfix.{stack-law}
 use Rattle.spec_semantics.specs.Evaluation.{leafValue, values, evaluate}
 use Rattle.base_ir.specs.Operations.{Op, op, leafOp, ops}

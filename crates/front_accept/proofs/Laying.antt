@@ -14,18 +14,16 @@ use Rattle.spec_grammar.specs.Limits.{groupNumbers, exprsNumbers, bodyExprs, te
 use Rattle.spec_grammar.proofs.Each.{each-split}
 use Rattle.spec_language.specs.Lists.{filter}
 use Rattle.spec_language.specs.Declarations.{Decl, declared, find, isInput, isOutput, isVariable, isData, clockOf, scopeFor, scopeOf}
-use Rattle.spec_design.specs.Process.{WellFormed}
 use Rattle.spec_language.specs.Names.{names}
-use Rattle.spec_language.specs.Clock.{clock}
 use Rattle.spec_language.specs.Elaboration.{position, elaborate}
 use Rattle.spec_language.proofs.Facts.{and-true-both}
 use Rattle.spec_language.proofs.Elaborated.{not-doubled}
-use Rattle.front_parser.specs.declared.Parsed.{Parsed}
+use Rattle.front_offences.specs.declared.Shape.{Shape}
 use Rattle.front_scope.proofs.Resolved.{named-declared}
 use Rattle.base_ir.specs.declared.Declared.{Declared}
 use Rattle.front_clock.specs.Judges.{ownerOf, Owns}
 use Rattle.base_codes.specs.Limit.{TEXT}
-use Rattle.front_elaborator.specs.Positions.{slotAt, valueAt, Resolves}
+use Rattle.front_elaborator.specs.Positions.{slotAt}
 use Rattle.front_elaborator.specs.Names.{slotsAfter, inMode, ClockIs}
 use Rattle.front_elaborator.specs.Sources.{SlotsIn}
 use Rattle.front_elaborator.proofs.NameLawsLaid.{declared-count}
@@ -34,10 +32,9 @@ use Rattle.front_elaborator.proofs.NameLawsDesign.{few, kept, begun, valued-nam
 use Rattle.front_elaborator.proofs.TreeFine.{Small}
 use Rattle.front_elaborator.proofs.Whole.{body-laid}
 use Rattle.base_ir.specs.Arrays.{BodyIn}
-use Rattle.front_offences.specs.Laid.{Laid}
-use Rattle.front_limits.specs.Words.{WordsIn}
 use Rattle.front_elaborator.proofs.ItemLoop.{elaborated}
 use Rattle.front_accept.specs.Designs.{Declares, Lays, Border}
+use Rattle.front_accept.specs.Readings.{HoldsValues}
 use Rattle.front_accept.proofs.Spelling.{names-spelled}
 use Rattle.front_layout.specs.Headings.{modeCode, headings, DeclsIn}
 
@@ -94,22 +91,29 @@ module _ (ts : List Token) (t : Text) (decls slots₀ : List ℕ) (d c : ℕ) (D
   }
 
 -- THE LAW
-pub laid-out : (text kinds starts sizes indices rows decls owners : List ℕ) (n : ℕ) (p : Parsed)
-    (args₀ : List ℤ) {c : ℕ} {codes ops lines₀ lines : List ℕ} {args₁ args₂ : List ℤ} {d : Declared}
-    → Owns rows (p .statements) owners n c → Declares text kinds starts sizes p decls c d
-    → Resolves (valueAt text starts sizes kinds owners) codes indices (p .items) args₀ args₁
-    → Lays (p .names) c decls owners rows d codes ops args₁ args₂ lines₀ lines → length codes ≡ TEXT → length args₀ ≡ TEXT → length lines₀ ≡ 3072
-    → (ts : List Token) (t : Text) → Laid ts t kinds starts n codes indices (p .items) rows (p .statements) decls (p .names) owners → WordsIn text ts sizes n
-    → WithinLimits t
-    → names t ≡ [] → clock t ≡ [] → WellFormed (elaborate t) → Border text (elaborate t) d ops args₂ lines
+pub laid-out : {text kinds starts sizes decls owners : List ℕ} {p : Shape} {args₀ : List ℤ} {c : ℕ} {codes ops lines₀ lines : List ℕ}
+    {args₁ args₂ : List ℤ} {d : Declared} {ts : List Token} {t : Text} → Owns lines₀ (p .statements) owners (p .tokens) c
+    → Declares text kinds starts sizes p decls c d → Lays (p .names) c decls owners d codes ops args₁ args₂ lines₀ lines
+    → length args₀ ≡ TEXT → HoldsValues text ts kinds starts sizes codes lines₀ decls owners args₀ args₁ p t
+    → Border text (elaborate t) d ops args₂ lines
 unfolding modeCode
-laid-out text kinds starts sizes indices rows decls owners n p args₀ {c} {codes} {ops} {lines₀} {lines} {args₁} {args₂} {d} ow de re la lc lr ll ts t L W lim
-    five eight wf =
+laid-out {text} {kinds} {starts} {sizes} {decls} {owners} {p} {args₀} {c} {codes} {ops} {lines₀} {lines} {args₁} {args₂} {d} {ts} {t} ow de la lr hv =
+    let n = p .tokens in
+    let indices = hv .indices in
+    let L = hv .tree .laid in
+    let W = hv .tree .words in
+    let lim = hv .tree .limits in
+    let five = hv .tree .named in
+    let eight = hv .tree .clocked in
+    let wf = hv .tree .formed in
+    let lc = hv .tree .room in
+    let ll = hv .tree .lines-room in
+    let re = hv .values in
     let C = clock-is ts t decls (p .names) c (L .of-decls) five (ow .clocks ts t kinds starts codes indices (p .items) decls (p .names) L) in
     let S : SlotsIn (declared t) (scopeOf t) (clockOf t) (la .slots) =
     rw (la .indexed) (slots-in ts t decls (replicate 65 0) (p .names) c (L .of-decls) C refl) in
     let el = elaborated text starts sizes kinds owners decls (p .names) (la .slots) lr re (rw (de .operations) at (la .placed)) in
-    let b = body-laid text ts t kinds starts sizes owners decls (la .slots) codes indices rows n (p .names) (p .items) (p .statements) (L .of-tokens) W
+    let b = body-laid text ts t kinds starts sizes owners decls (la .slots) codes indices lines₀ n (p .names) (p .items) (p .statements) (L .of-tokens) W
     (L .of-owners) (L .of-decls) S (L .of-items) (L .of-rows) (L .kinded .body)
     (small t lim) five eight codes ops lines₀ lines args₀ (la .bare) lc lr ll el (rw (de .statements) at (la .lines)) in
     let N = named-declared t (L .kinded) in

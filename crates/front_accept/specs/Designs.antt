@@ -12,7 +12,7 @@ use Rattle.spec_design.specs.Process.{Source, Slot, Process}
 use Rattle.spec_language.specs.Bytes.{lower}
 use Rattle.spec_semantics.specs.Twos.{unsigned32}
 use Rattle.front_token.specs.Places.{part}
-use Rattle.front_parser.specs.declared.Parsed.{Parsed}
+use Rattle.front_offences.specs.declared.Shape.{Shape}
 use Rattle.front_layout.specs.Rows.{storeRows}
 use Rattle.front_operands.specs.Told.{Tells}
 use Rattle.front_elaborator.specs.Positions.{codeOf, argOf, Places, rowsAt}
@@ -48,7 +48,7 @@ pub record Border (text : List ℕ) (p : Process) (d : Declared) (ops : List ℕ
   pub spelled : Spelled text p d
 
 -- what the design of a parsed text declares, by its declared names; the clock's number among them
-pub record Declares (text kinds starts sizes : List ℕ) (p : Parsed) (decls : List ℕ) (clock : ℕ) (d : Declared) : Type 0 where
+pub record Declares (text kinds starts sizes : List ℕ) (p : Shape) (decls : List ℕ) (clock : ℕ) (d : Declared) : Type 0 where
   pub statements : d .statements ≡ p .statements
   pub operations : d .operations ≡ p .items
   pub inputs : Heads starts sizes decls (p .names) clock IN (d .inputs)
@@ -57,10 +57,10 @@ pub record Declares (text kinds starts sizes : List ℕ) (p : Parsed) (decls : L
 
 -- the arrays of one process (₁) from those of what was read (₀): k declared names get their indices, items become operations, statements get their targets,
 -- and operators the types of their operands
-pub record Lays (k clock : ℕ) (decls owners rows : List ℕ) (d : Declared) (ops₀ ops₁ : List ℕ) (args₀ args₁ : List ℤ) (lines₀ lines₁ : List ℕ) : Type 0 where
+pub record Lays (k clock : ℕ) (decls owners : List ℕ) (d : Declared) (ops₀ ops₁ : List ℕ) (args₀ args₁ : List ℤ) (lines₀ lines₁ : List ℕ) : Type 0 where
   pub slots : List ℕ
   pub indexed : slots ≡ slotsAfter decls k clock (replicate NAMES 0)
   pub bare : List ℤ
   pub placed : Places (λ c z. codeOf decls k c (unsigned32 z)) (argOf decls k slots) (d .operations) ops₀ ops₁ args₀ bare
-  pub lines : lines₁ ≡ storeRows 0 (rowsAt owners slots rows 0 (min (d .statements) STATEMENTS)) lines₀
+  pub lines : lines₁ ≡ storeRows 0 (rowsAt owners slots lines₀ 0 (min (d .statements) STATEMENTS)) lines₀
   pub told : Tells ops₁ (d .operations) (d .inputs .types) (d .variables .types) bare args₁

@@ -1,10 +1,11 @@
 -- What the front end answers for a verdict, and what the arrays of a parsed text hold. Assumes nothing.
 use mathlib.Core.Path.{_≡_}
 use mathlib.Core.List.{List}
-use Prim.Native.Nat.{ℕ}
+use Prim.Native.Nat.{ℕ, _*_}
 use lib.ListN.{length, replicate}
 use lib.IntN.{ℤ, pos}
-use Rattle.base_codes.specs.Limit.{TEXT, VARIABLES}
+use Rattle.base_codes.specs.Limit.{TEXT, STATEMENTS, VARIABLES}
+use Rattle.base_codes.specs.Statement.{ROW}
 use Rattle.base_answers.specs.declared.Refusal.{Refusal}
 use Rattle.spec_grammar.specs.Token.{Token}
 use Rattle.spec_grammar.specs.Tree.{Text}
@@ -12,8 +13,8 @@ use Rattle.spec_grammar.specs.Limits.{WithinLimits}
 use Rattle.spec_grammar.specs.Reader.{answer}
 use Rattle.spec_language.specs.Verdict.{Verdict, onAccepted, parsed, verdict}
 use Rattle.spec_language.proofs.Modes.{Moded}
-use Rattle.front_layout.specs.Tokens as C
 use Rattle.front_parser.specs.declared.Parsed.{Parsed}
+use Rattle.front_limits.specs.Flags.{marked}
 use Rattle.front_limits.specs.Words.{WordsIn}
 use Rattle.front_scope.specs.Judges.{HeadsIn}
 use Rattle.base_ir.specs.declared.Names.{Names}
@@ -24,6 +25,7 @@ use Rattle.front_accept.specs.declared.Acceptance.the-variants.{Accepted
 use Rattle.base_answers.specs.Answers.{Told, done, refusal, refusedBy}
 use Rattle.front_accept.specs.Stages.{shapeOf}
 use Rattle.front_accept.specs.Designs.{Sized, Border}
+use Rattle.front_accept.specs.Readings.{Lexes}
 use Rattle.front_layout.specs.Tokens.{tokenAt}
 use Rattle.front_layout.specs.Entries.{bodyEntries, entryItems}
 use Rattle.front_layout.specs.Arrays.{TokensIn, ItemsIn, RowsIn}
@@ -44,6 +46,7 @@ pub record TreeIn (text : List ℕ) (ts : List Token) (t : Text) (kinds starts s
   pub moded : Moded t
   pub limits : WithinLimits t
   pub room : length codes ≡ TEXT
+  pub lines-room : length rows ≡ ROW * STATEMENTS
 
 -- nothing declared: what a refused text has in place of its declarations
 abbrev pub noNames : Names
@@ -90,9 +93,8 @@ FrontAs v text r b = (frontTold (r .answer) ≡ frontAnswer v) × LeftAs v text 
 abbrev pub TextFront : List ℕ → Front → DesignArrays → DesignArrays → Type 0
 TextFront text r a b = Sized (a .ops) (a .args) (a .lines) → FrontAs (verdict text) text r b
 
--- the same on its tokens, which the arrays hold with their flags
-abbrev pub TokensFront : List ℕ → List ℕ → List ℕ → List ℕ → ℕ → List ℕ → Front → DesignArrays → DesignArrays → Type 0
-TokensFront text kinds starts sizes n long r a b =
-    Sized (a .ops) (a .args) (a .lines) → length long ≡ TEXT → (ts : List Token) → TokensIn ts kinds starts n → WordsIn text ts sizes n
-    → C.Holds ts kinds long n
+-- the same on its tokens, which the arrays hold
+abbrev pub TokensFront : List ℕ → List ℕ → List ℕ → List ℕ → ℕ → Front → DesignArrays → DesignArrays → Type 0
+TokensFront text kinds starts sizes n r a b =
+    Sized (a .ops) (a .args) (a .lines) → (ts : List Token) → Lexes text ts kinds starts sizes n (marked text kinds starts sizes n (replicate TEXT 0))
     → FrontAs (parsed (length text) ts (answer ts)) text r b

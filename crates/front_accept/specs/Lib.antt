@@ -1,4 +1,5 @@
 pub mod Answered
 pub mod Stages
+pub mod Readings
 pub mod Designs
 pub mod Fronts

@@ -4,7 +4,7 @@ use base_codes::declaration;
 use base_codes::limit;
 use base_codes::statement;
 use base_ir::Declared;
-use front_parser::Parsed;
+use front_offences::Shape;
 
 // What the design declares; the clock's declaration is left out.
 pub(crate) fn declared(
@@ -12,7 +12,7 @@ pub(crate) fn declared(
     kinds: &[u8; limit::TEXT],
     starts: &[u16; limit::TEXT],
     sizes: &[u16; limit::TEXT],
-    p: Parsed,
+    p: Shape,
     decls: &[u16; declaration::ROWS],
     clock: usize,
 ) -> Declared
@@ -49,25 +49,25 @@ pub(crate) fn declared(
     }
 }
 
-// The arrays of one process, from what was read: items and their values, in place, and the rows of statements.
+// The arrays of one process from what was read, in place: items and their values become operations, and rows of statements get their targets.
 pub(crate) fn lay_out(
     names: usize,
     clock: usize,
     decls: &[u16; declaration::ROWS],
     owners: &[u8; limit::TEXT],
-    rows: &[u16; statement::ROWS],
     d: Declared,
     ops: &mut [u8; limit::TEXT],
     args: &mut [i32; limit::TEXT],
     lines: &mut [u16; statement::ROWS],
 )
-    ensures { λ _. ⌜ Lays names clock (now (decls .entry)) (now (owners .entry)) (now (rows .entry)) d
+    ensures { λ _. ⌜ Lays names clock (now (decls .entry)) (now (owners .entry)) d
         (now (ops .entry)) (now (ops .exit)) (now (args .entry)) (now (args .exit)) (now (lines .entry)) (now (lines .exit)) ⌝ }
 {
+    let rows = *lines;
     let mut slots = [0u8; limit::NAMES];
     front_elaborator::names::slots(decls, names, clock, &mut slots);
     front_elaborator::items::place(decls, names, &slots, d.operations, ops, args);
-    front_elaborator::rows::statements(owners, &slots, rows, d.statements, lines);
+    front_elaborator::rows::statements(owners, &slots, &rows, d.statements, lines);
     let inputs = d.inputs.types;
     let variables = d.variables.types;
     front_operands::tell(ops, d.operations, &inputs, &variables, args);

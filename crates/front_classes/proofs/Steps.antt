@@ -1,4 +1,5 @@
--- The tests of the code are those of the definitions by position; the loop over the statements of a block: the rest from here answers what the whole answers. Assumes nothing.
+-- The tests of the code are those of the definitions by position; the loop over the statements of a block: the rest from here answers what the whole answers.
+-- Assumes nothing.
 use mathlib.Core.Path.{_≡_, refl, sym, _∙_, ap}
 use mathlib.Core.Bool.{Bool}
 use mathlib.Core.List.{List}
@@ -13,7 +14,8 @@ use Rattle.front_offences.specs.declared.Shape.{Shape}
 use Rattle.front_classes.specs.declared.Summary.{Summary}
 use Rattle.front_classes.specs.Codes.{sequenceCode, ifCode, whileCode, bodyAllowed}
 use Rattle.front_classes.specs.Held.{numberOf}
-use Rattle.front_classes.specs.Positions.{summary, inSequence, ofIf, ofWhile, endIn, otherIn, statementOf, runIn, blockIn, statementIn, StatementIs, BlockIs, wholeIn, lowestIn}
+use Rattle.front_classes.specs.Positions.{summary, inSequence, ofIf, ofWhile, endIn, otherIn, statementOf, runIn, blockIn, statementIn, StatementIs}
+use Rattle.front_classes.specs.Positions.{BlockIs, wholeIn, lowestIn}
 
 if-parts : (a b a′ b′ : Summary) (c w : ℕ) → a ≡ a′ → b ≡ b′ → c ≡ ifCode (a .class) (b .class) → w ≡ lower (a .lowest) (b .lowest) → summary c w ≡ ofIf a′ b′
 if-parts a b a′ b′ c w p q u v = rw (u, v, p, q)

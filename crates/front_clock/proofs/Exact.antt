@@ -10,7 +10,9 @@ use lib.Dec.{eqb, ltb}
 use lib.ListN.{getD}
 use Rattle.spec_grammar.specs.Token.{Token}
 use Rattle.base_codes.specs.Token.{NAME}
-use Rattle.spec_grammar.specs.Tree.{Expr, number, bit, name, sign, negate, binary, parens, Stmt, output, assign, null, wait, if-then, if-else, while, Mode, input, output-port, variable-mode, Text}
+use Rattle.base_codes.specs.Item as I
+use Rattle.spec_grammar.specs.Tree.{Expr, number, bit, name, sign, negate, binary, parens, Stmt, output, assign, null, wait, if-then, if-else, while, Mode}
+use Rattle.spec_grammar.specs.Tree.{input, output-port, variable-mode, Text}
 use Rattle.spec_grammar.specs.Reader.{choose}
 use Rattle.spec_design.specs.Types.{Ty, std-logic, integer, typeByte}
 use Rattle.spec_language.specs.Lists.{unless, each, lowest}
@@ -143,13 +145,14 @@ module _ (ts : List Token) (t : Text) (kinds places : List ℕ) (n : ℕ) (codes
     read-is : (j : ℕ) → NamedItem (getD codes j 0) (tokenAt ts (getD indices j 0))
         → readAt codes indices places owners n (position (declared t) v) j ≡ lowestOf (ofItem (readRule v) (getD codes j 0) (tokenAt ts (getD indices j 0)))
     unfolding readAt readRule L.number lowest
-    read-is j h = go (eqb (getD codes j 0) 1) refl
+    read-is j h = go (eqb (getD codes j 0) I.NAME) refl
       where
-        go : (b : Bool) → eqb (getD codes j 0) 1 ≡ b
+        go : (b : Bool) → eqb (getD codes j 0) I.NAME ≡ b
             → choose b (lowestOf (unless (not (eqb (numberIn owners n (getD indices j 0)) (position (declared t) v))) (numberIn places n (getD indices j 0)))) 0
             ≡ lowestOf (choose b (unless (not (eqb (tokenAt ts (getD indices j 0) .value) v)) (tokenAt ts (getD indices j 0) .place)) [])
         go true q =
-            ap (λ (b : Bool). lowestOf (unless (not b) (numberIn places n (getD indices j 0)))) (owned (getD indices j 0) (h (eqb-true (getD codes j 0) 1 q)))
+            ap (λ (b : Bool). lowestOf (unless (not b) (numberIn places n (getD indices j 0))))
+            (owned (getD indices j 0) (h (eqb-true (getD codes j 0) I.NAME q)))
             ∙ ap (λ (p : ℕ). lowestOf (unless (not (eqb (tokenAt ts (getD indices j 0) .value) v)) p)) (place-is (laid .of-tokens) (getD indices j 0))
         go false q = refl
 

@@ -12,7 +12,8 @@ use lib.Dec.{T, eqb, ltb, leb}
 use lib.ListN.{length, getD, drop, drop-of-length-le, List·getD-eq-default}
 use lib.Seq.{drop-cons}
 use Rattle.spec_grammar.specs.Token.{Token}
-use Rattle.spec_grammar.specs.Grammar.{NonTerminal, Says, Sym, tk, nt, Fun, Production, productions, _↠_, Mark, plain, item, opens, closes, fresh, stmt, stmt-fresh, deeper, shallower, declares, ins, outs, variables}
+use Rattle.spec_grammar.specs.Grammar.{NonTerminal, Says, Sym, tk, nt, Fun, Production, productions, _↠_, Mark, plain, item, opens, closes, fresh, stmt}
+use Rattle.spec_grammar.specs.Grammar.{stmt-fresh, deeper, shallower, declares, ins, outs, variables}
 use Rattle.spec_grammar.specs.Meter.{Meter, InHeading, tick, over, zeroes}
 use Rattle.spec_grammar.specs.Derivation.{_∈_}
 use Rattle.spec_grammar.specs.Reader.{choose, elem, first, compose, take, no-rule, pick, Outcome, keep, run, after, Step, stuck, skip, to, advance}

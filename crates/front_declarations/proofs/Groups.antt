@@ -3,7 +3,7 @@ use mathlib.Core.Path.{_≡_, refl, sym, _∙_, subst}
 use mathlib.Core.Bool.{Bool, true, false}
 use mathlib.Core.Logic.{inl, inr}
 use mathlib.Core.List.{List, [], _∷_}
-use Prim.Native.Nat.{ℕ, _+_, _-_, _<_}
+use Prim.Native.Nat.{ℕ, _+_, _<_}
 use native.Mathlib.Omega.{arith}
 use borrow.Author.Tests.{eq-eqb, le-ltb}
 use lib.Dec.{eqb}
@@ -23,8 +23,8 @@ use Rattle.front_cursor.specs.Reading.{meter, refuse, step, expectAt}
 use Rattle.front_cursor.proofs.Steps.{kind-is, kind-inside, rule-at, into-at, Into, token-over, token-taken}
 use Rattle.front_declarations.specs.declared.Header.{Header}
 use Rattle.front_declarations.specs.Headers.{headingOf, headerAt, fromHeader, takeAt, variableAt, modeAt, tailAt, AsksHeader, MovesHeader}
-use Rattle.front_layout.specs.Headings.{modeCode, storeDecls, groupHeadings}
-use Rattle.front_declarations.specs.Rows.{modeOf, declaredBy, shapeAt, rowsOf}
+use Rattle.front_layout.specs.Headings.{modeCode, groupHeadings}
+use Rattle.front_declarations.specs.Rows.{modeOf, declaredBy, storeGroup}
 use Rattle.front_declarations.specs.Readers.{NamesOver, AsksGroup, PortsOver, VariableOver}
 use Rattle.front_declarations.proofs.Steps.{asks-header, moves-header, took-one, took-moves, took-plain}
 use Rattle.front_declarations.proofs.Picks.{variableRule, pick-variable}
@@ -54,8 +54,7 @@ mode-number {ts} holds at = rw (kind-is holds at) (go (eqb (tokenAt ts at .kind)
 
 pub port-read : {kinds long : List ℕ} {n : ℕ} {p a b c e : Header} {before after : List ℕ} → AsksGroup n p → NamesOver kinds long n p false a
     → b ≡ takeAt kinds long n 8 a → c ≡ modeAt (kindIn kinds n (b .cursor .at)) b → e ≡ headerAt (tailAt kinds long n (c .cursor)) c
-    → (e .cursor .fault ≡ 0 → after ≡ storeDecls (declaredBy p)
-    (rowsOf (shapeAt kinds n (p .cursor .at) (modeOf (kindIn kinds n (b .cursor .at))) (c .cursor .at)) (p .cursor .at) (declaredBy e - declaredBy p)) before)
+    → (e .cursor .fault ≡ 0 → after ≡ storeGroup kinds n p e (p .cursor .at) (modeOf (kindIn kinds n (b .cursor .at))) (c .cursor .at) before)
     → PortsOver port groupHeadings kinds long n p before e after
 unfolding compose productions
 port-read {kinds} {long} {n} {p} {a} {b} {c} {e} {before} {after} asks na eb ec ee stored = record {
@@ -189,8 +188,7 @@ variable-moves kinds long {n} {p} a e =
 pub variable-read : {kinds long : List ℕ} {n : ℕ} {p a b c d e : Header} {before after : List ℕ} → AsksHeader n p → p .cursor .fault ≡ 0
     → kindIn kinds n (p .cursor .at) ≡ 33 → a ≡ variableAt kinds long n p → NamesOver kinds long n a true b → c ≡ takeAt kinds long n 8 b
     → d ≡ headerAt (tailAt kinds long n (c .cursor)) c
-    → e ≡ takeAt kinds long n 7 d → (e .cursor .fault ≡ 0
-    → after ≡ storeDecls (declaredBy p) (rowsOf (shapeAt kinds n (a .cursor .at) 2 (c .cursor .at)) (a .cursor .at) (declaredBy e - declaredBy p)) before)
+    → e ≡ takeAt kinds long n 7 d → (e .cursor .fault ≡ 0 → after ≡ storeGroup kinds n p e (a .cursor .at) 2 (c .cursor .at) before)
     → VariableOver kinds long n p before e after
 unfolding compose productions modeCode
 variable-read {kinds} {long} {n} {p} {a} {b} {c} {d} {e} {before} {after} asks z33 k33 ea nb ec ed ee stored = record {

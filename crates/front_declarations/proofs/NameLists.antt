@@ -22,7 +22,8 @@ use Rattle.front_cursor.proofs.Steps.{kind-is, kind-inside, from-stays, rule-at
 use Rattle.front_declarations.specs.declared.Header.{Header}
 use Rattle.front_declarations.specs.Headers.{headingOf, fromHeader, nameAt, takeAt, takeName, namesFrom, AsksHeader, MovesHeader, Grown}
 use Rattle.front_declarations.specs.Readers.{NamesOver}
-use Rattle.front_declarations.proofs.Steps.{asks-header, moves-header, stay-header, took-one, took-moves, took-plain, named, Named, name-moves, grown-then, grown-none}
+use Rattle.front_declarations.proofs.Steps.{asks-header, moves-header, stay-header, took-one, took-moves, took-plain, named, Named, name-moves}
+use Rattle.front_declarations.proofs.Steps.{grown-then, grown-none}
 use Rattle.front_declarations.proofs.Picks.{Begins}
 use Rattle.front_declarations.proofs.Values.{into-token, took-kept}
 

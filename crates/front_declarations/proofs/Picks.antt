@@ -6,7 +6,8 @@ use Prim.Native.Nat.{ℕ}
 use borrow.Author.Tests.{ne-eqb}
 use Rattle.base_codes.specs.Token.{NUMBER, ZERO, ONE, SEMI, COLON, BECOMES, MINUS, IN, OUT, VARIABLE, STD-LOGIC, INTEGER}
 use Rattle.spec_grammar.specs.Tree.{integer-literal, logic-literal, minus, input, output-port, variable-mode}
-use Rattle.spec_grammar.specs.Grammar.{NonTerminal, morePorts, port, names, mode, type, init, value, vars, Says, Mark, ins, outs, variables, Sym, tk, nt, tok, Fun, Production, productions, _↠_}
+use Rattle.spec_grammar.specs.Grammar.{NonTerminal, morePorts, port, names, mode, type, init, value, vars, Says, Mark, ins, outs, variables, Sym, tk, nt, tok}
+use Rattle.spec_grammar.specs.Grammar.{Fun, Production, productions, _↠_}
 use Rattle.spec_grammar.specs.Reader.{elem, first, firsts, follow, nullable, nullables, chosen, pick, take, no-rule}
 
 abbrev pub inRule : Production mode

@@ -16,7 +16,8 @@ use Rattle.front_layout.specs.Tokens.{tokenAt, noToken, kindIn, Holds}
 use Rattle.front_cursor.proofs.Steps.{kind-is}
 use Rattle.front_declarations.specs.declared.Shape.{Shape}
 use Rattle.front_declarations.specs.Headers.{namesFrom}
-use Rattle.front_layout.specs.Headings.{modeCode, initCode, initToken, valueToken, valueIndex, namesOf, groupNames, groupHeadings, DeclRow, headingSeen, setDecl, storeDecls, WroteNames}
+use Rattle.front_layout.specs.Headings.{modeCode, initCode, initToken, valueToken, valueIndex, namesOf, groupNames, groupHeadings, DeclRow, headingSeen}
+use Rattle.front_layout.specs.Headings.{setDecl, storeDecls, WroteNames}
 use Rattle.front_declarations.specs.Rows.{rowOf, rowsOf, typeOf, initOf, valueFrom, shapeAt}
 use Rattle.front_declarations.proofs.Values.{initFrom}
 

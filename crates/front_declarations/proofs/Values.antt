@@ -20,11 +20,14 @@ use Rattle.spec_grammar.proofs.Steps.{Ok, ok-rule}
 use Rattle.spec_grammar.proofs.Tables.{inside-ok}
 use Rattle.front_cursor.specs.Reading.{meter, step, expectOne, followsAt}
 use Rattle.front_layout.specs.Tokens.{tokenAt, noToken, kindIn, Holds}
-use Rattle.front_cursor.proofs.Steps.{kind-is, kind-inside, from-stays, rule-at, left-at, refused-at, token-not, token-over, token-taken, follows-true, follows-false}
+use Rattle.front_cursor.proofs.Steps.{kind-is, kind-inside, from-stays, rule-at, left-at, refused-at, token-not, token-over, token-taken, follows-true}
+use Rattle.front_cursor.proofs.Steps.{follows-false}
 use Rattle.front_declarations.specs.declared.Header.{Header}
-use Rattle.front_declarations.specs.Headers.{headingOf, headerAt, fromHeader, refuseHeader, takeAt, inputsAt, outputsAt, modeAt, typeKind, literalKind, valueAt, initAt, tailAt, AsksHeader, MovesHeader}
+use Rattle.front_declarations.specs.Headers.{headingOf, headerAt, fromHeader, refuseHeader, takeAt, inputsAt, outputsAt, modeAt, typeKind, literalKind}
+use Rattle.front_declarations.specs.Headers.{valueAt, initAt, tailAt, AsksHeader, MovesHeader}
 use Rattle.front_declarations.proofs.Steps.{asks-header, moves-header, stay-header, took-one, took-moves, took-plain}
-use Rattle.front_declarations.proofs.Picks.{inRule, outRule, becomesRule, Begins, pick-in, pick-out, no-mode, pick-logic, pick-integer, no-type, pick-becomes, pick-number, pick-minus, pick-zero, pick-one, no-value}
+use Rattle.front_declarations.proofs.Picks.{inRule, outRule, becomesRule, Begins, pick-in, pick-out, no-mode, pick-logic, pick-integer, no-type}
+use Rattle.front_declarations.proofs.Picks.{pick-becomes, pick-number, pick-minus, pick-zero, pick-one, no-value}
 
 or-false : (b : Bool) → b || false ≡ b
 or-false true = refl

@@ -1,13 +1,13 @@
 -- The rows of a group's names: what the readers of the heading make of the kinds of its tokens. Assumes nothing.
 use mathlib.Core.List.{List, [], _∷_}
-use Prim.Native.Nat.{ℕ, zero, suc, _+_}
+use Prim.Native.Nat.{ℕ, zero, suc, _+_, _-_}
 use lib.Dec.{eqb}
 use Rattle.spec_design.specs.Types.{std-logic, integer, typeByte}
 use Rattle.base_codes.specs.Token.{NOWHERE, ZERO, ONE, BECOMES, MINUS, IN, INTEGER}
 use Rattle.base_codes.specs.Declaration as D
 use Rattle.spec_grammar.specs.Reader.{choose}
 use Rattle.front_layout.specs.Tokens.{kindIn}
-use Rattle.front_layout.specs.Headings.{DeclRow}
+use Rattle.front_layout.specs.Headings.{DeclRow, storeDecls}
 use Rattle.front_declarations.specs.declared.Header.{Header}
 use Rattle.front_declarations.specs.declared.Shape.{Shape}
 
@@ -49,3 +49,7 @@ shapeAt kinds n first mode at = record {
   value = valueFrom (kindIn kinds n (at + 1)) (at + 1);
   first = first;
 }
+
+-- the rows of such a group are stored: the names that are declared at e and not yet at p
+abbrev pub storeGroup : List ℕ → ℕ → Header → Header → ℕ → ℕ → ℕ → List ℕ → List ℕ
+storeGroup kinds n p e first mode at l = storeDecls (declaredBy p) (rowsOf (shapeAt kinds n first mode at) first (declaredBy e - declaredBy p)) l

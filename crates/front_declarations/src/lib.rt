@@ -8,7 +8,7 @@ ghost use Rattle.front_layout.specs.Tokens.{kindIn};
 ghost use Rattle.front_cursor.specs.Reading.{Asks, step};
 ghost use Rattle.front_layout.specs.Headings.{setDecl, storeDecls, groupHeadings, groupsNames};
 ghost use Rattle.front_declarations.specs.Headers.{headerAt, declareAt, takeAt, takeName, variableAt, inputsAt, outputsAt, modeAt, typeKind, literalKind, valueAt, initAt, tailAt, AsksHeader};
-ghost use Rattle.front_declarations.specs.Rows.{rowOf, rowsOf, declaredBy, modeOf, typeOf, initOf, valueFrom, shapeAt};
+ghost use Rattle.front_declarations.specs.Rows.{rowOf, rowsOf, declaredBy, modeOf, typeOf, initOf, valueFrom, shapeAt, storeGroup};
 ghost use Rattle.front_declarations.specs.Readers.{NamesOver, AsksGroup, PortsOver, VariableOver, VariablesOver};
 use base_codes::declaration;
 use base_codes::limit;
@@ -376,6 +376,24 @@ fn put_rows(decls: &mut [u16; declaration::ROWS], i: usize, j: usize, at: usize,
     }
 }
 
+// Stores the rows of the names that are declared at e and not yet at p: a group of this first name and mode, whose type word stands at an index.
+fn put_group(
+    kinds: &[u8; limit::TEXT],
+    n: usize,
+    p: Header,
+    e: Header,
+    first: usize,
+    mode: u16,
+    at: usize,
+    decls: &mut [u16; declaration::ROWS],
+)
+    requires { ⌜ AsksHeader n p × AsksHeader n e × (first ≤ n) × (at ≤ n) ⌝ }
+    ensures { λ _. ⌜ now (decls .exit) ≡ storeGroup (now (kinds .entry)) n p e first mode at (now (decls .entry)) ⌝ }
+{
+    let g = shape_at(kinds, n, first, mode, at);
+    put_rows(decls, declared_by(p), declared_by(e), first, g);
+}
+
 // A group of ports, and the rows of its names.
 fn port_group(
     kinds: &[u8; limit::TEXT],
@@ -398,11 +416,9 @@ fn port_group(
     if x.fault != 0 {
         return e;
     }
-    let first = p.cursor.at;
     let y = b.cursor;
     let m = mode_of(kind_at(kinds, n, y.at));
-    let g = shape_at(kinds, n, first, m, v.at);
-    put_rows(decls, declared_by(p), declared_by(e), first, g);
+    put_group(kinds, n, p, e, p.cursor.at, m, v.at, decls);
     e
 }
 
@@ -442,9 +458,16 @@ fn variable_group(
     if x.fault != 0 {
         return e;
     }
-    let first = a.cursor.at;
-    let g = shape_at(kinds, n, first, declaration::VARIABLE, u.at);
-    put_rows(decls, declared_by(p), declared_by(e), first, g);
+    put_group(
+        kinds,
+        n,
+        p,
+        e,
+        a.cursor.at,
+        declaration::VARIABLE,
+        u.at,
+        decls,
+    );
     e
 }
 

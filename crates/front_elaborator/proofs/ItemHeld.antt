@@ -10,6 +10,7 @@ use lib.Dec.{eqb}
 use lib.ListN.{length, getD}
 use lib.IntN.{pos}
 use borrow.Author.Tests.{lt-ltb, le-leb, ne-eqb}
+use Rattle.base_codes.specs.Item as I
 use Rattle.spec_grammar.specs.Token.{Token}
 use Rattle.base_codes.specs.Token.{oneOf, NAME, NUMBER, ZERO, ONE}
 use Rattle.spec_grammar.specs.Tree.{Mode, input, output-port, variable-mode, Text}
@@ -102,9 +103,10 @@ module _ (text : List ℕ) (ts : List Token) (kinds starts sizes owners decls sl
   few : length (declared t) ≤ 65
   few = let a = decls-count ts t decls d D in let b = D .short in omega arith
 
-  name-item : (i : ℕ) → Fine c (itemOf 1 (tokenAt ts i))
-      → op (codeAt owners decls d 1 i) (pos (within (argAt text starts sizes kinds owners decls d slots 1 i))) ≡ opOf (declared t) (scopeFor (declared t) c)
-      (itemOf 1 (tokenAt ts i))
+  name-item : (i : ℕ) → Fine c (itemOf I.NAME (tokenAt ts i))
+      → op (codeAt owners decls d I.NAME i) (pos (within (argAt text starts sizes kinds owners decls d slots I.NAME i))) ≡ opOf (declared t)
+      (scopeFor (declared t) c)
+      (itemOf I.NAME (tokenAt ts i))
   unfolding codeAt codeOf argAt opOf nameOp
   name-item i f =
       let k = f .name refl in
@@ -117,9 +119,10 @@ module _ (text : List ℕ) (ts : List Token) (kinds starts sizes owners decls sl
       rw (w, mode-found ts t decls d D (tokenAt ts i .value))
       (name-op (declared t) c slots S few (tokenAt ts i .value) (find (declared t) (tokenAt ts i .value)) refl (f .unclocked refl))
 
-  number-item : (i : ℕ) → Fine c (itemOf 2 (tokenAt ts i))
-      → op (codeAt owners decls d 2 i) (pos (within (argAt text starts sizes kinds owners decls d slots 2 i))) ≡ opOf (declared t) (scopeFor (declared t) c)
-      (itemOf 2 (tokenAt ts i))
+  number-item : (i : ℕ) → Fine c (itemOf I.NUMBER (tokenAt ts i))
+      → op (codeAt owners decls d I.NUMBER i) (pos (within (argAt text starts sizes kinds owners decls d slots I.NUMBER i))) ≡ opOf (declared t)
+      (scopeFor (declared t) c)
+      (itemOf I.NUMBER (tokenAt ts i))
   unfolding codeAt codeOf argAt opOf
   number-item i f =
       let k = f .number refl in
@@ -130,9 +133,10 @@ module _ (text : List ℕ) (ts : List Token) (kinds starts sizes owners decls sl
       sym (number-token text (tokenAt ts i) (each-at (Valued text) ts noToken (Z .valued) i (let k = T .count in omega arith)) k) in
       rw (a, b, w, within-fits (tokenAt ts i .value) (f .small refl), within-fits (tokenAt ts i .value) (f .small refl))
 
-  bit-item : (i : ℕ) → Fine c (itemOf 3 (tokenAt ts i))
-      → op (codeAt owners decls d 3 i) (pos (within (argAt text starts sizes kinds owners decls d slots 3 i))) ≡ opOf (declared t) (scopeFor (declared t) c)
-      (itemOf 3 (tokenAt ts i))
+  bit-item : (i : ℕ) → Fine c (itemOf I.BIT (tokenAt ts i))
+      → op (codeAt owners decls d I.BIT i) (pos (within (argAt text starts sizes kinds owners decls d slots I.BIT i))) ≡ opOf (declared t)
+      (scopeFor (declared t) c)
+      (itemOf I.BIT (tokenAt ts i))
   unfolding codeAt codeOf argAt opOf
   bit-item i f =
       let l : i < n = inside (f .bit refl) in
@@ -147,16 +151,16 @@ module _ (text : List ℕ) (ts : List Token) (kinds starts sizes owners decls sl
       (scopeFor (declared t) c) (itemOf k (tokenAt ts i))
   unfolding codeAt codeOf argAt opOf
   other-item k i h =
-      rw (ne-eqb k 1 (λ e. omega arith), ne-eqb k 2 (λ e. omega arith), ne-eqb k 3 (λ e. omega arith))
+      rw (ne-eqb k I.NAME (λ e. omega arith), ne-eqb k I.NUMBER (λ e. omega arith), ne-eqb k I.BIT (λ e. omega arith))
 
   item-op : (k i : ℕ) → Fine c (itemOf k (tokenAt ts i))
       → op (codeAt owners decls d k i) (pos (within (argAt text starts sizes kinds owners decls d slots k i))) ≡ opOf (declared t) (scopeFor (declared t) c)
       (itemOf k (tokenAt ts i))
   unfolding codeAt codeOf argAt opOf
   item-op zero i f = refl
-  item-op (suc zero) i f = name-item i f
-  item-op (suc (suc zero)) i f = number-item i f
-  item-op (suc (suc (suc zero))) i f = bit-item i f
+  item-op (suc zero) i f = number-item i f
+  item-op (suc (suc zero)) i f = bit-item i f
+  item-op (suc (suc (suc zero))) i f = name-item i f
   item-op (suc (suc (suc (suc k)))) i f = other-item (suc (suc (suc (suc k)))) i (omega arith)
 
   -- the operations by position are those of the items

@@ -1,9 +1,12 @@
 -- The cases of an item's operation, for its functions' proofs. Assumes nothing.
-use mathlib.Core.Path.{_≡_, sym, _∙_}
+use mathlib.Core.Path.{_≡_, sym, ap, _∙_}
 use mathlib.Core.List.{List}
 use Prim.Native.Nat.{ℕ, _≤_, _<_}
 use borrow.Author.Tests.{eq-eqb, ne-eqb, le-leb, lt-leb}
+use lib.ListN.{getD, set}
 use lib.IntN.{ℤ, pos}
+use Rattle.base_codes.specs.Item.{NAME, NUMBER, BIT}
+use Rattle.base_codes.proofs.Arrays.{set-same}
 use Rattle.spec_semantics.specs.Twos.{unsigned32}
 use Rattle.spec_language.specs.Words.{value}
 use Rattle.front_token.specs.Places.{part}
@@ -23,46 +26,36 @@ pub arg-slot : {c m s : ℕ} (decls slots : List ℕ) (d q : ℕ) → m ≡ mode
     → s ≡ nameArg (modeIn decls d q) (slotAt slots q)
 arg-slot {c} {m} {s} decls slots d q f g h k = rw (sym f, sym g, ne-eqb c 2 h) k
 
-module _ (decls : List ℕ) (d c q : ℕ) where
-  pub code-name : {r m : ℕ} → c ≡ 1 → m ≡ modeIn decls d q → r ≡ nameCode m → r ≡ codeOf decls d c q
-  unfolding codeOf
-  code-name {r} {m} e g h = rw (eq-eqb c 1 e, sym g) h
-
-  pub code-number : c ≡ 2 → 1 ≡ codeOf decls d c q
-  unfolding codeOf
-  code-number e = rw e
-
-  pub code-bit : c ≡ 3 → 2 ≡ codeOf decls d c q
-  unfolding codeOf
-  code-bit e = rw e
-
-  pub code-other : (c ≡ 1 → ⊥) → (c ≡ 2 → ⊥) → (c ≡ 3 → ⊥) → c ≡ codeOf decls d c q
-  unfolding codeOf
-  code-other a b d = rw (ne-eqb c 1 a, ne-eqb c 2 b, ne-eqb c 3 d)
-
 module _ (text starts sizes kinds owners : List ℕ) (c i : ℕ) where
-  pub value-name : {r : ℕ} → c ≡ 1 → r ≡ numberAt owners i → r ≡ valueAt text starts sizes kinds owners c i
+  pub value-name : {r : ℕ} → c ≡ NAME → r ≡ numberAt owners i → r ≡ valueAt text starts sizes kinds owners c i
   unfolding valueAt
-  value-name e f = rw (eq-eqb c 1 e) f
+  value-name e f = rw (eq-eqb c NAME e) f
 
-  pub value-number : {r : ℕ} → c ≡ 2 → r ≡ literalAt text starts sizes i → r ≡ valueAt text starts sizes kinds owners c i
+  pub value-number : {r : ℕ} → c ≡ NUMBER → r ≡ literalAt text starts sizes i → r ≡ valueAt text starts sizes kinds owners c i
   unfolding valueAt
   value-number e f = rw e f
 
-  pub value-bit : {r : ℕ} → c ≡ 3 → r ≡ bitAt kinds i → r ≡ valueAt text starts sizes kinds owners c i
+  pub value-bit : {r : ℕ} → c ≡ BIT → r ≡ bitAt kinds i → r ≡ valueAt text starts sizes kinds owners c i
   unfolding valueAt
   value-bit e f = rw e f
 
-  pub value-none : (c ≡ 1 → ⊥) → (c ≡ 2 → ⊥) → (c ≡ 3 → ⊥) → 0 ≡ valueAt text starts sizes kinds owners c i
+  pub value-none : (c ≡ NAME → ⊥) → (c ≡ NUMBER → ⊥) → (c ≡ BIT → ⊥) → 0 ≡ valueAt text starts sizes kinds owners c i
   unfolding valueAt
-  value-none a b d = rw (ne-eqb c 1 a, ne-eqb c 2 b, ne-eqb c 3 d)
+  value-none a b d = rw (ne-eqb c NAME a, ne-eqb c NUMBER b, ne-eqb c BIT d)
 
-module _ (decls : List ℕ) (d : ℕ) (slots : List ℕ) (c : ℕ) (z : ℤ) where
-  pub arg-named : {r : ℤ} {v q : ℕ} → c ≡ 1 → q ≡ unsigned32 z → v ≡ nameArg (modeIn decls d q) (slotAt slots q) → r ≡ pos (within v)
-      → r ≡ argOf decls d slots c z
-  unfolding argOf
-  arg-named {r} {v} {q} e f g h = rw (eq-eqb c 1 e, sym f, sym g) h
+-- item j and its value: what is no name stays as it is, ..
+module _ (decls : List ℕ) (d : ℕ) (slots ops : List ℕ) (args : List ℤ) (j : ℕ) where
+  abbrev Put : List ℕ → List ℤ → Type 0
+  Put o a = (o ≡ set ops j (codeOf decls d (getD ops j 0) (unsigned32 (getD args j (pos 0)))))
+      × (a ≡ set args j (argOf decls d slots (getD ops j 0) (getD args j (pos 0))))
 
-  pub arg-kept : (c ≡ 1 → ⊥) → z ≡ argOf decls d slots c z
-  unfolding argOf
-  arg-kept e = rw (ne-eqb c 1 e)
+  pub put-kept : (getD ops j 0 ≡ NAME → ⊥) → Put ops args
+  unfolding codeOf argOf
+  put-kept e = rw (ne-eqb (getD ops j 0) NAME e) (set-same ops j 0, set-same args j (pos 0))
+
+  -- .. and a name becomes what its declaration says
+  pub put-name : {q m c v : ℕ} {z : ℤ} → getD ops j 0 ≡ NAME → q ≡ unsigned32 (getD args j (pos 0)) → m ≡ modeIn decls d q → c ≡ nameCode m
+      → v ≡ nameArg (modeIn decls d q) (slotAt slots q) → z ≡ pos (within v) → Put (set ops j c) (set args j z)
+  unfolding codeOf argOf
+  put-name {q} {m} e f g h k l =
+      rw (eq-eqb (getD ops j 0) NAME e, sym f) (ap (set ops j) (h ∙ ap nameCode g), ap (set args j) (l ∙ rw k))

@@ -9,11 +9,13 @@ use lib.Dec.{eqb}
 use lib.ListN.{length, getD, drop, set, length-set}
 use lib.Seq.{sets, sets-eq, length-sets, drop-at, getD-set-same, getD-set-other}
 use lib.IntN.{ℤ, pos}
+use Rattle.base_codes.specs.Item.{NAME}
 use Rattle.spec_grammar.specs.Reader.{choose}
 use Rattle.spec_semantics.specs.Twos.{unsigned32}
 use Rattle.front_offences.specs.Positions.{modeIn}
 use Rattle.base_ir.specs.Operations.{Op}
-use Rattle.front_elaborator.specs.Positions.{numberAt, slotAt, within, nameCode, nameArg, valueAt, valuesAt, Resolves, codeOf, argOf, placedAt, Places, codeAt, argAt, opsAt, Elaborates}
+use Rattle.front_elaborator.specs.Positions.{numberAt, slotAt, within, nameCode, nameArg, valueAt, valuesAt, Resolves, codeOf, argOf, placedAt, Places}
+use Rattle.front_elaborator.specs.Positions.{codeAt, argAt, opsAt, Elaborates}
 
 -- one more stored
 sets-next : {A : Type 0} (l : List A) (j : ℕ) (x : A) (rest w xs : List A) → xs ≡ x ∷ rest → sets l j xs ≡ w → sets (set l j x) (j + 1) rest ≡ w
@@ -137,7 +139,7 @@ module _ (text starts sizes kinds owners decls : List ℕ) (d : ℕ) (slots : Li
   -- an item's code and argument from its value
   code-is : (c i : ℕ) → codeOf decls d c (unsigned32 (pos (within (valueAt text starts sizes kinds owners c i)))) ≡ codeAt owners decls d c i
   unfolding codeOf valueAt codeAt
-  code-is c i = go (eqb c 1) _ _
+  code-is c i = go (eqb c NAME) _ _
     where
       go : (b : Bool) (y r : ℕ) → choose b (nameCode (modeIn decls d (within (choose b (numberAt owners i) y)))) r ≡ choose b
           (nameCode (modeIn decls d (within (numberAt owners i)))) r
@@ -147,7 +149,7 @@ module _ (text starts sizes kinds owners decls : List ℕ) (d : ℕ) (slots : Li
   arg-is : (c i : ℕ) → argOf decls d slots c (pos (within (valueAt text starts sizes kinds owners c i))) ≡ pos
       (within (argAt text starts sizes kinds owners decls d slots c i))
   unfolding argOf valueAt argAt
-  arg-is c i = go (eqb c 1) _
+  arg-is c i = go (eqb c NAME) _
     where
       go : (b : Bool) (y : ℕ)
           → choose b (pos (within (nameArg (modeIn decls d (within (choose b (numberAt owners i) y)))

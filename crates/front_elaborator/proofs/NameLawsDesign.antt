@@ -32,7 +32,8 @@ use Rattle.base_ir.specs.declared.Declared.{Declared}
 use Rattle.base_ir.specs.Arrays.{NamesIn}
 use Rattle.front_limits.specs.Words.{WordsIn}
 use Rattle.front_elaborator.specs.Positions.{numberAt, fieldAt, literalAt, bitAt}
-use Rattle.front_elaborator.specs.Names.{ofMode, picked, typeAt, typesOf, initialAt, valuesOf, placeAt, placesOf, filledWith, Heads, Gathers, inMode, Along, ClockIs}
+use Rattle.front_elaborator.specs.Names.{ofMode, picked, typeAt, typesOf, initialAt, valuesOf, placeAt, placesOf, filledWith, Heads, Gathers, inMode}
+use Rattle.front_elaborator.specs.Names.{Along, ClockIs}
 use Rattle.front_elaborator.proofs.NameLawsLaid.{RowOf, declared-count, laid, picked-is, along-both, along-one}
 use Rattle.front_elaborator.proofs.NameLawsHeld.{tests-along}
 use Rattle.front_layout.specs.Tokens.{noToken, tokenAt}

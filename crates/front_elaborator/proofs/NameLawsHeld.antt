@@ -21,7 +21,8 @@ use Rattle.spec_language.proofs.Facts.{both-nil, unless-nil, not-true, eqb-eq}
 use Rattle.front_layout.specs.Headings.{modeCode, headings, DeclsIn}
 use Rattle.front_elaborator.specs.Positions.{slotAt}
 use Rattle.front_elaborator.specs.Names.{ofMode, countFrom, slotOf, eachFrom, slotsAfter, inMode, Along, ClockIs}
-use Rattle.front_elaborator.proofs.NameLawsLaid.{RowOf, declared-count, laid, of-input, of-output, of-variable, count-is, found-at, position-inside, along-both, along-one}
+use Rattle.front_elaborator.proofs.NameLawsLaid.{RowOf, declared-count, laid, of-input, of-output, of-variable, count-is, found-at, position-inside}
+use Rattle.front_elaborator.proofs.NameLawsLaid.{along-both, along-one}
 
 -- THE CLOCK
 

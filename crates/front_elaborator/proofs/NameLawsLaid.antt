@@ -16,7 +16,8 @@ use Rattle.spec_language.specs.Declarations.{Decl, typeNamed, declare, spread, 
 use Rattle.spec_language.specs.Elaboration.{position}
 use Rattle.spec_language.proofs.Facts.{no-some}
 use Rattle.front_layout.specs.Tokens.{noToken, tokenAt}
-use Rattle.front_layout.specs.Headings.{modeCode, initCode, initToken, valueToken, Heading, namesOf, groupNames, groupsNames, headings, DeclRow, declIn, declsFrom, valueIndex, headingSeen, DeclsIn}
+use Rattle.front_layout.specs.Headings.{modeCode, initCode, initToken, valueToken, Heading, namesOf, groupNames, groupsNames, headings, DeclRow, declIn}
+use Rattle.front_layout.specs.Headings.{declsFrom, valueIndex, headingSeen, DeclsIn}
 use Rattle.spec_design.specs.Types.{typeByte}
 use Rattle.front_elaborator.specs.Positions.{fieldAt}
 use Rattle.front_elaborator.specs.Names.{ofMode, countFrom, picked, inMode, Along}

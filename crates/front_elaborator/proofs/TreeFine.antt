@@ -6,6 +6,7 @@ use mathlib.Core.List.{List, [], _∷_, _++_}
 use Prim.Native.Nat.{ℕ, _+_, _≤_, _<_}
 use native.Mathlib.Omega.{arith}
 use lib.Dec.{eqb}
+use Rattle.base_codes.specs.Item as I
 use Rattle.spec_grammar.specs.Token.{Token}
 use Rattle.spec_grammar.specs.Tree as T
 use Rattle.spec_grammar.specs.Tree.{Body}
@@ -84,14 +85,14 @@ module _ (c : Option Token) where
   operator-fine : (k : ℕ) (x : Token) → ((c : ℕ) → 0 < c → c ≤ 3 → k ≡ c → ⊥) → Fine c (itemOf k x)
   operator-fine k x h =
       record {
-        name = λ e. absurd (h 1 (omega arith) (omega arith) e);
-        unclocked = λ e. absurd (h 1 (omega arith) (omega arith) e);
-        number = λ e. absurd (h 2 (omega arith) (omega arith) e);
-        small = λ e. absurd (h 2 (omega arith) (omega arith) e);
-        bit = λ e. absurd (h 3 (omega arith) (omega arith) e);
+        name = λ e. absurd (h I.NAME (omega arith) (omega arith) e);
+        unclocked = λ e. absurd (h I.NAME (omega arith) (omega arith) e);
+        number = λ e. absurd (h I.NUMBER (omega arith) (omega arith) e);
+        small = λ e. absurd (h I.NUMBER (omega arith) (omega arith) e);
+        bit = λ e. absurd (h I.BIT (omega arith) (omega arith) e);
       }
 
-  number-fine : (x : Token) → KindedExpr (T.number x) → x .value ≤ 2147483647 → Fine c (itemOf 2 x)
+  number-fine : (x : Token) → KindedExpr (T.number x) → x .value ≤ 2147483647 → Fine c (itemOf I.NUMBER x)
   number-fine x k s = record {
     name = λ e. absurd (omega arith);
     unclocked = λ e. absurd (omega arith);
@@ -101,7 +102,7 @@ module _ (c : Option Token) where
         (omega arith);
   }
 
-  bit-fine : (x : Token) → KindedExpr (T.bit x) → Fine c (itemOf 3 x)
+  bit-fine : (x : Token) → KindedExpr (T.bit x) → Fine c (itemOf I.BIT x)
   bit-fine x k = record {
     name = λ e. absurd (omega arith);
     unclocked = λ e. absurd (omega arith);
@@ -111,7 +112,7 @@ module _ (c : Option Token) where
     bit = λ e. k;
   }
 
-  name-fine : (x : Token) → KindedExpr (T.name x) → Unread c (T.name x) → Fine c (itemOf 1 x)
+  name-fine : (x : Token) → KindedExpr (T.name x) → Unread c (T.name x) → Fine c (itemOf I.NAME x)
   name-fine x k u =
       record {
         name = λ e. k;

@@ -6,6 +6,7 @@ use Prim.Native.Nat.{ℕ, suc, _+_}
 use native.Mathlib.Omega.{arith}
 use lib.ListN.{length, length-append}
 use lib.IntN.{ℤ}
+use Rattle.base_codes.specs.Item as I
 use Rattle.spec_grammar.specs.Token.{Token}
 use Rattle.spec_grammar.specs.Tree as T
 use Rattle.spec_grammar.specs.Tree.{Body, Mode}
@@ -55,10 +56,10 @@ binary-op Δ Γ x z h =
     binary-with 0 (orPlus (operatorOf (x .kind))) z
     ∙ rw (
       operator-code (x .kind) h,
-      operation-apart (x .kind) 1 (omega arith) (omega arith),
-      operation-apart (x .kind) 2 (omega arith)
+      operation-apart (x .kind) I.NAME (omega arith) (omega arith),
+      operation-apart (x .kind) I.NUMBER (omega arith)
           (omega arith),
-      operation-apart (x .kind) 3 (omega arith) (omega arith),
+      operation-apart (x .kind) I.BIT (omega arith) (omega arith),
     )
 
 -- one operation more behind an operand, and behind two
@@ -81,10 +82,10 @@ mapped-steps : (Δ : List Decl) (Γ : Scope) (q : List Op)
 unfolding ops code opOf withType operandsOf countOr
 mapped-steps Δ Γ q =
     record {
-      number = λ x w k f c. sym (append-assoc w (opOf Δ Γ (itemOf 2 x) ∷ []) (map (opOf Δ Γ) k)) ∙ c;
-      bit = λ x w k f c. sym (append-assoc w (opOf Δ Γ (itemOf 3 x) ∷ []) (map (opOf Δ Γ) k)) ∙ c;
+      number = λ x w k f c. sym (append-assoc w (opOf Δ Γ (itemOf I.NUMBER x) ∷ []) (map (opOf Δ Γ) k)) ∙ c;
+      bit = λ x w k f c. sym (append-assoc w (opOf Δ Γ (itemOf I.BIT x) ∷ []) (map (opOf Δ Γ) k)) ∙ c;
       name = λ x w k f c.
-          sym (append-assoc w (opOf Δ Γ (itemOf 1 x) ∷ []) (map (opOf Δ Γ) k))
+          sym (append-assoc w (opOf Δ Γ (itemOf I.NAME x) ∷ []) (map (opOf Δ Γ) k))
           ∙ (ap (λ (l : List Op). (w ++ l) ++ map (opOf Δ Γ) k) (sym (named-op Γ (x .value) (find Δ (x .value)))) ∙ c);
       sign = λ x a w k f. (f .1, λ c. behind w (ops (code Δ Γ a)) _ (opOf Δ Γ (itemOf SIGN x)) (map (opOf Δ Γ) k) refl ∙ c);
       negate = λ x a w k f. (f .1, λ c. behind w (ops (code Δ Γ a)) _ (opOf Δ Γ (itemOf NOT x)) (map (opOf Δ Γ) k) refl ∙ c);

@@ -1,4 +1,5 @@
--- THE LAW of the elaborator: for an accepted tree, the operations and rows that are stored lay out the body of its design, but for the types of operands. Assumes nothing.
+-- THE LAW of the elaborator: for an accepted tree, the operations and rows that are stored lay out the body of its design, but for the types of operands.
+-- Assumes nothing.
 use mathlib.Core.Path.{_≡_, refl, sym, _∙_, ap}
 use mathlib.Core.Option.{Option, none, some}
 use mathlib.Core.List.{List, [], _∷_, map, map-append}

@@ -65,9 +65,9 @@ valuesAt v codes indices m (suc n) = pos (within (v (getD codes m 0) (getD indic
 abbrev pub Resolves : (ℕ → ℕ → ℕ) → List ℕ → List ℕ → ℕ → List ℤ → List ℤ → Type 0
 Resolves v codes indices k args₀ args₁ = args₁ ≡ sets args₀ 0 (valuesAt v codes indices 0 (min k TEXT))
 
--- the code of an item's operation, where a name stands for declaration q; an operator keeps its code
+-- the code of an item's operation, where a name stands for declaration q; a literal and an operator have it already
 unfoldable pub codeOf : List ℕ → ℕ → ℕ → ℕ → ℕ
-codeOf decls d c q = choose (eqb c NAME) (nameCode (modeIn decls d q)) (choose (eqb c NUMBER) INTEGER (choose (eqb c BIT) STD-LOGIC c))
+codeOf decls d c q = choose (eqb c NAME) (nameCode (modeIn decls d q)) c
 
 -- its argument, from its value; an operator's operands' type is not told yet
 unfoldable pub argOf : List ℕ → ℕ → List ℕ → ℕ → ℤ → ℤ

@@ -29,18 +29,6 @@ fn name_code(mode: u16) -> u8
     operation::STD_LOGIC
 }
 
-// The code of an item's operation, where q is the number of the declaration that a name stands for; an operator keeps its own.
-fn code_of(decls: &[u16; declaration::ROWS], d: usize, c: u8, q: usize) -> u8
-    ensures { λ r. ⌜ r ≡ codeOf (now (decls .entry)) d c q ⌝ }
-{
-    match c {
-        item::NAME => name_code(mode_at(decls, d, q)),
-        item::NUMBER => operation::INTEGER,
-        item::BIT => operation::STD_LOGIC,
-        _ => c,
-    }
-}
-
 // The value of a number.
 fn literal_at(text: &[u8], starts: &[u16; limit::TEXT], sizes: &[u16; limit::TEXT], i: usize) -> u32
     ensures { λ r. ⌜ r ≡ literalAt (now (text .entry)) (now (starts .entry)) (now (sizes .entry)) i ⌝ }
@@ -156,23 +144,8 @@ fn number_of(a: i32) -> usize
     base_signed::to_bits(a) as usize
 }
 
-// The argument of an item's operation, from its value; the type of an operator's operands is told later, by the crate front_operands.
-fn arg_of(
-    decls: &[u16; declaration::ROWS],
-    d: usize,
-    slots: &[u8; limit::NAMES],
-    c: u8,
-    a: i32,
-) -> i32
-    ensures { λ r. ⌜ r ≡ argOf (now (decls .entry)) d (now (slots .entry)) c a ⌝ }
-{
-    if c == item::NAME {
-        return whole(name_arg(decls, d, slots, number_of(a)));
-    }
-    a
-}
-
-// Item j becomes its operation.
+// Item j becomes its operation: a name gets its code and its index; a literal and an operator have theirs already. The type of an operator's operands is told
+// later, by the crate front_operands.
 fn put(
     decls: &[u16; declaration::ROWS],
     d: usize,
@@ -185,11 +158,12 @@ fn put(
     ensures { λ _. ⌜ now (ops .exit) ≡ set (now (ops .entry)) j (codeOf (now (decls .entry)) d (getD (now (ops .entry)) j 0) (unsigned32 (getD (now (args .entry)) j (pos 0)))) ⌝ }
     ensures { λ _. ⌜ now (args .exit) ≡ set (now (args .entry)) j (argOf (now (decls .entry)) d (now (slots .entry)) (getD (now (ops .entry)) j 0) (getD (now (args .entry)) j (pos 0))) ⌝ }
 {
-    let c = ops[j];
-    let a = args[j];
-    let arg = arg_of(decls, d, slots, c, a);
-    ops[j] = code_of(decls, d, c, number_of(a));
-    args[j] = arg;
+    if ops[j] != item::NAME {
+        return;
+    }
+    let q = number_of(args[j]);
+    ops[j] = name_code(mode_at(decls, d, q));
+    args[j] = whole(name_arg(decls, d, slots, q));
 }
 
 // All items, in place.

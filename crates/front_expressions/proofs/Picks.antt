@@ -9,7 +9,8 @@ use borrow.Author.Tests.{ne-eqb}
 use lib.Dec.{eqb}
 use Rattle.spec_grammar.specs.Token.{Token}
 use Rattle.spec_grammar.specs.Tree.{Expr, number, bit, name, sign, negate, binary, parens}
-use Rattle.spec_grammar.specs.Grammar.{NonTerminal, expression, chain, ands, ors, xors, relation, compared, simple, terms, term, factors, factor, primary, tk, nt, item, opens, closes, Production, productions, _↠_}
+use Rattle.spec_grammar.specs.Grammar.{NonTerminal, expression, chain, ands, ors, xors, relation, compared, simple, terms, term, factors, factor, primary, tk}
+use Rattle.spec_grammar.specs.Grammar.{nt, item, opens, closes, Production, productions, _↠_}
 use Rattle.spec_grammar.specs.Reader.{choose, elem, first, firsts, follow, nullable, nullables, chosen, Pick, take, no-rule, pick}
 use Rattle.front_cursor.proofs.Steps.{Into}
 use Rattle.base_codes.specs.Token.{oneOf, operands, adding, multiplying, relational, NAME, NUMBER, ZERO, ONE, LP, RP, MINUS, AND, OR, XOR, NOT}

@@ -22,7 +22,8 @@ use Rattle.front_cursor.specs.declared.Cursor.{Cursor}
 use Rattle.front_layout.specs.Tokens.{tokenAt, noToken, alone, kindIn, flagIn, Holds}
 use Rattle.front_cursor.specs.Reading.{meter, from, Fine, Asks, Moves, refuse, itemAt, expectAt}
 use Rattle.front_cursor.proofs.Measures.{or-true}
-use Rattle.front_cursor.proofs.Steps.{settle, kind-is, kind-inside, from-stays, from-same, rule-at, refused-at, token-over, token-taken, item-at, expect-at, expect-moves, expect-written}
+use Rattle.front_cursor.proofs.Steps.{settle, kind-is, kind-inside, from-stays, from-same, rule-at, refused-at, token-over, token-taken, item-at, expect-at}
+use Rattle.front_cursor.proofs.Steps.{expect-moves, expect-written}
 use Rattle.front_layout.specs.Postfix.{Item, itemOf, postfix}
 use Rattle.front_layout.specs.Items.{Arrays, Wrote}
 use Rattle.front_expressions.specs.Put.{Put}

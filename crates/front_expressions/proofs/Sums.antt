@@ -11,7 +11,8 @@ use Rattle.base_codes.specs.Operation as O
 use Rattle.base_codes.specs.Operation.{operationOf}
 use Rattle.spec_grammar.specs.Token.{Token}
 use Rattle.spec_grammar.specs.Tree.{Expr, sign, negate, binary}
-use Rattle.spec_grammar.specs.Grammar.{NonTerminal, expression, chain, ands, ors, xors, relation, compared, simple, terms, term, factors, factor, primary, Says, Sym, tk, nt, Fun, item, Production, productions, _↠_}
+use Rattle.spec_grammar.specs.Grammar.{NonTerminal, expression, chain, ands, ors, xors, relation, compared, simple, terms, term, factors, factor, primary, Says}
+use Rattle.spec_grammar.specs.Grammar.{Sym, tk, nt, Fun, item, Production, productions, _↠_}
 use Rattle.spec_grammar.specs.Meter.{InHeading}
 use Rattle.spec_grammar.specs.Derivation.{here}
 use Rattle.spec_grammar.specs.Reader.{choose, compose, elem, first, pick, take}
@@ -27,11 +28,13 @@ use Rattle.front_layout.specs.Items.{Arrays, Wrote}
 use Rattle.front_expressions.specs.Tests.{moreTerms, moreFactors}
 use Rattle.base_codes.specs.Token.{oneOf, operands, adding, multiplying, relational, logical, MINUS, AND, OR, XOR, NOT}
 use Rattle.base_codes.proofs.TokenLaws.{each, some-kind, not-one}
-use Rattle.front_expressions.specs.Readers.{ReadsOver, Tail, sum, product, and-chain, or-chain, xor-chain, tailOf, wholeOf, ofTail, ofWhole, operatorOf, PartlyOver, TurnOver, OneTurn}
+use Rattle.front_expressions.specs.Readers.{ReadsOver, Tail, sum, product, and-chain, or-chain, xor-chain, tailOf, wholeOf, ofTail, ofWhole, operatorOf}
+use Rattle.front_expressions.specs.Readers.{PartlyOver, TurnOver, OneTurn}
 use Rattle.front_layout.proofs.ItemLists.{wrote-none, wrote-then}
 use Rattle.front_expressions.proofs.Behind.{BehindOver}
 use Rattle.front_expressions.proofs.Primaries.{ok-of, stay-moves}
-use Rattle.front_expressions.proofs.Picks.{andRule, orRule, xorRule, pick-not, pick-sign, pick-term, pick-factor, pick-and, pick-or, pick-xor, chain-and, chain-or, chain-xor, pick-compared, into-relation, into-simple, into-term, into-factor, into-primary}
+use Rattle.front_expressions.proofs.Picks.{andRule, orRule, xorRule, pick-not, pick-sign, pick-term, pick-factor, pick-and, pick-or, pick-xor, chain-and}
+use Rattle.front_expressions.proofs.Picks.{chain-or, chain-xor, pick-compared, into-relation, into-simple, into-term, into-factor, into-primary}
 
 pub moves-then : {n : ℕ} {q a r : Cursor} → Moves n q a → Moves n a r → Moves n q r
 moves-then u v = record { on = omega arith; inside = omega arith; room = omega arith; few = omega arith; began = λ z. u .began (v .began z) }

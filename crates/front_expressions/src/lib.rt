@@ -3,8 +3,8 @@
 ghost use mathlib.Core.Path.{_≡_};
 ghost use Prim.Native.Nat.{ℕ, _+_, _<_, _≤_};
 ghost use Rattle.spec_grammar.specs.Grammar.{primary as primaryPart, factor as factorPart, term as termPart, simple as simplePart, relation as relationPart, expression as expressionPart};
-ghost use mathlib.Core.Bool.{true};
-ghost use Rattle.base_codes.specs.Token.{oneOf, operands, adding, multiplying, logical, LP};
+ghost use mathlib.Core.Bool.{true, false};
+ghost use Rattle.base_codes.specs.Token.{oneOf, operands, adding, multiplying, logical};
 ghost use Rattle.front_cursor.specs.Reading.{Asks};
 ghost use Rattle.front_layout.specs.Tokens.{kindIn};
 ghost use Rattle.front_layout.specs.Postfix.{postfix};
@@ -60,7 +60,7 @@ fn leaf_code(kind: u8) -> u8
     }
 }
 
-// The expression in parentheses that begins at this token.
+// An expression in parentheses, where neither a literal nor a name stands: no other primary is left.
 fn parenthesised(
     kinds: &[u8; limit::TEXT],
     long: &[u8; limit::TEXT],
@@ -70,9 +70,15 @@ fn parenthesised(
     codes: &mut [u8; limit::TEXT],
     tokens: &mut [u16; limit::TEXT],
 ) -> Cursor
-    requires { ⌜ (parens ≤ 16) × Asks n q × (q .fault ≡ 0) × (kindIn (now kinds) n (q .at) ≡ LP) ⌝ }
+    requires { ⌜ (parens ≤ 16) × Asks n q × (oneOf (kindIn (now kinds) n (q .at)) operands ≡ false) ⌝ }
     ensures { λ r. ⌜ ReadsOver primaryPart postfix (now (kinds .entry)) (now (long .entry)) n q parens (arrays (now (codes .entry)) (now (tokens .entry))) r (arrays (now (codes .exit)) (now (tokens .exit))) ⌝ }
 {
+    if q.fault != 0 {
+        return q;
+    }
+    if kind_at(kinds, n, q.at) != token::LP {
+        return refused(q, refusal::NO_SENTENCE);
+    }
     if parens >= limit::PARENTHESES {
         return refused(q, refusal::LIMIT_PASSED);
     }
@@ -120,18 +126,10 @@ fn primary(
     requires { ⌜ (parens ≤ 16) × Asks n q ⌝ }
     ensures { λ r. ⌜ ReadsOver primaryPart postfix (now (kinds .entry)) (now (long .entry)) n q parens (arrays (now (codes .entry)) (now (tokens .entry))) r (arrays (now (codes .exit)) (now (tokens .exit))) ⌝ }
 {
-    if q.fault != 0 {
-        return q;
-    }
-    let at = q.at;
-    let kind = kind_at(kinds, n, at);
-    if kind == token::LP {
-        return parenthesised(kinds, long, n, q, parens, codes, tokens);
-    }
-    if token::is_operand(kind) {
+    if token::is_operand(kind_at(kinds, n, q.at)) {
         return leaf(kinds, long, n, q, codes, tokens);
     }
-    refused(q, refusal::NO_SENTENCE)
+    parenthesised(kinds, long, n, again(q), parens, codes, tokens)
 }
 
 // A primary, perhaps behind `not`. Most are leaves, which are read at once.
@@ -153,7 +151,7 @@ fn factor(
         return leaf(kinds, long, n, q, codes, tokens);
     }
     if kind != token::NOT {
-        return primary(kinds, long, n, again(q), parens, codes, tokens);
+        return parenthesised(kinds, long, n, again(q), parens, codes, tokens);
     }
     let a = item(long, q);
     let b = primary(kinds, long, n, a, parens, codes, tokens);

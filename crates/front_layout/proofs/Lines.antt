@@ -1,4 +1,5 @@
--- What is written, put together: nothing, one list of statements behind another, and a statement's row before those inside it, though it is stored last. Assumes nothing.
+-- What is written, put together: nothing, one list of statements behind another, and a statement's row before those inside it, though it is stored last.
+-- Assumes nothing.
 use mathlib.Core.Path.{_≡_, refl, sym, _∙_, ap, subst}
 use mathlib.Core.List.{List, [], _∷_, _++_, map, append-assoc}
 use Prim.Native.Nat.{ℕ, zero, suc, _+_, _*_, _<_}

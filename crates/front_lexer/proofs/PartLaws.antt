@@ -1,13 +1,13 @@
 -- A number's value and the comparison of names, one byte more. Assumes nothing.
 use mathlib.Core.Path.{_≡_, refl, sym, _∙_, ap}
-use mathlib.Core.Bool.{Bool, true, false}
+use mathlib.Core.Bool.{Bool, true, false, not}
 use mathlib.Core.List.{List, [], map}
 use Prim.Native.Nat.{ℕ, _+_, _*_, _-_, min, _≤_, _<_}
 use native.Mathlib.Omega.{arith}
 use native.Mathlib.Numerals.{add-one}
+use lib.Dec.{eqb}
 use lib.ListN.{length, getD, drop, drop-of-length-le, length-drop, length-map}
 use lib.Seq.{drop-cons, take-all, take-nil}
-use borrow.Author.Tests.{eq-eqb, ne-eqb}
 use Rattle.spec_language.specs.Bytes.{lower}
 use Rattle.spec_language.specs.Words.{value}
 use Rattle.spec_language.specs.Lexing.{equal}
@@ -36,14 +36,15 @@ module _ (digits : List ℕ) (i v : ℕ) where
   value-end h = rw (drop-of-length-le digits h)
 
 module _ (a b : List ℕ) (i : ℕ) where
-  pub same-again : i < length a → i < length b → lower (getD a i 0) ≡ lower (getD b i 0)
+  pub same-again : i < length a → i < length b → eqb (lower (getD a i 0)) (lower (getD b i 0)) ≡ true
       → equal (map lower (drop (i + 1) a)) (map lower (drop (i + 1) b)) ≡ equal (map lower (drop i a)) (map lower (drop i b))
   unfolding equal
-  same-again h k e = rw (drop-cons a i 0 h, drop-cons b i 0 k, add-one i, e, eq-eqb (lower (getD b i 0)) (lower (getD b i 0)) refl)
+  same-again h k e = rw (drop-cons a i 0 h, drop-cons b i 0 k, add-one i, e)
 
-  pub same-differs : i < length a → i < length b → (lower (getD a i 0) ≡ lower (getD b i 0) → ⊥) → equal (map lower (drop i a)) (map lower (drop i b)) ≡ false
+  pub same-differs : i < length a → i < length b → eqb (lower (getD a i 0)) (lower (getD b i 0)) ≡ false → equal (map lower (drop i a)) (map lower (drop i b))
+      ≡ false
   unfolding equal
-  same-differs h k e = rw (drop-cons a i 0 h, drop-cons b i 0 k, ne-eqb (lower (getD a i 0)) (lower (getD b i 0)) e)
+  same-differs h k e = rw (drop-cons a i 0 h, drop-cons b i 0 k, e)
 
   pub same-end : length a ≤ i → length b ≤ i → equal (map lower (drop i a)) (map lower (drop i b)) ≡ true
   unfolding equal
@@ -55,3 +56,8 @@ same-lengths a b h = go (equal (map lower a) (map lower b)) refl
     go : (q : Bool) → equal (map lower a) (map lower b) ≡ q → q ≡ false
     go false e = refl
     go true e = absurd (h (sym (length-map a lower) ∙ (ap length (equal-is (map lower a) (map lower b) e) ∙ length-map b lower)))
+
+-- a test that was not denied
+pub not-false : (b : Bool) → not b ≡ false → b ≡ true
+not-false true e = refl
+not-false false e = sym e

@@ -12,7 +12,8 @@ use borrow.Author.Tests.{eqb-true, eq-eqb, ne-eqb}
 use Rattle.spec_grammar.specs.Token.{Token}
 use Rattle.base_codes.specs.Token.{oneOf, NAME, NUMBER, ONE}
 use Rattle.spec_grammar.specs.Limits.{Each}
-use Rattle.spec_language.specs.Bytes.{bytes, ByteKind, letter, digit, underscore, blank, quote, mark, none, byteKind, is, isDigit, inWord, notLF, lower, Fixed, fixed}
+use Rattle.spec_language.specs.Bytes.{bytes, ByteKind, letter, digit, underscore, blank, quote, mark, none, byteKind, is, isDigit, inWord, notLF, lower, Fixed}
+use Rattle.spec_language.specs.Bytes.{fixed}
 use Rattle.spec_language.specs.Words.{wellMade, folded, value, Word, reserved, wordKind, isDashes}
 use Rattle.spec_language.specs.Lexing.{Meaning, nothing, all, equal, alone, wordMeaning, fixedMeaning, meaningFrom, meaning, Piece, Lexes}
 use Rattle.spec_language.specs.Lexing as S

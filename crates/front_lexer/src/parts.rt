@@ -1,6 +1,7 @@
 // Parts of a text, and what later stages ask of them: a number's value, and whether two names are the same.
 ghost use mathlib.Core.Path.{_≡_};
 ghost use mathlib.Core.List.{map};
+ghost use lib.Dec.{eqb};
 ghost use Prim.Native.Nat.{_+_, _-_, _*_, min, _≤_, _<_};
 ghost use Rattle.spec_language.specs.Bytes.{lower};
 ghost use Rattle.spec_language.specs.Words.{value};
@@ -69,6 +70,16 @@ pub fn number_value(text: &[u8], start: usize, size: usize) -> u64
     digits_value(part_of(text, start, size))
 }
 
+// Two bytes are the same without regard to case. Most of those that are the same are so as they stand.
+fn same_byte(a: u8, b: u8) -> bool
+    ensures { λ r. ⌜ r ≡ eqb (lower a) (lower b) ⌝ }
+{
+    if a == b {
+        return true;
+    }
+    bytes::lower_case(a) == bytes::lower_case(b)
+}
+
 fn same_folded(a: &[u8], b: &[u8]) -> bool
     ensures { λ r. ⌜ r ≡ equal (map lower (now (a .entry))) (map lower (now (b .entry))) ⌝ }
 {
@@ -77,7 +88,7 @@ fn same_folded(a: &[u8], b: &[u8]) -> bool
     }
     let mut i = 0;
     while i < a.len() {
-        if bytes::lower_case(a[i]) != bytes::lower_case(b[i]) {
+        if !same_byte(a[i], b[i]) {
             return false;
         }
         i += 1;

@@ -8,8 +8,10 @@ use lib.Dec.{eqb}
 use lib.ListN.{length, getD}
 use Rattle.spec_grammar.specs.Token.{Token}
 use Rattle.base_codes.specs.Token.{NAME}
+use Rattle.base_codes.specs.Item as I
 use Rattle.spec_grammar.specs.Reader.{choose}
-use Rattle.spec_grammar.specs.Tree.{Expr, number, bit, name, sign, negate, binary, parens, Stmt, output, assign, null, wait, if-then, if-else, while, Body, only, andThen}
+use Rattle.spec_grammar.specs.Tree.{Expr, number, bit, name, sign, negate, binary, parens, Stmt, output, assign, null, wait, if-then, if-else, while, Body}
+use Rattle.spec_grammar.specs.Tree.{only, andThen}
 use Rattle.spec_grammar.specs.Limits.{Each}
 use Rattle.spec_grammar.proofs.Each.{each-join}
 use Rattle.spec_language.specs.Lists.{each}
@@ -146,7 +148,7 @@ ofReads r (while w e a) = ofNames r e
 
 -- the same of an item
 abbrev pub ofItem : (Token → List ℕ) → ℕ → Token → List ℕ
-ofItem r c x = choose (eqb c 1) (r x) []
+ofItem r c x = choose (eqb c I.NAME) (r x) []
 
 itemRule : (Token → List ℕ) → Item → List ℕ
 itemRule r i = ofItem r (i .code) (i .token)
@@ -165,7 +167,7 @@ names-steps r q =
       binary = λ x a b w k f. (
         tt,
         tt,
-        λ c. rw (operation-apart (x .kind) 1 (omega arith) (omega arith))
+        λ c. rw (operation-apart (x .kind) I.NAME (omega arith) (omega arith))
             (ap (λ (l : List ℕ). l ++ each (itemRule r) k) (append-assoc w (ofNames r a) (ofNames r b)) ∙ c),
       );
       parens = λ a w k f. (tt, λ c. c);

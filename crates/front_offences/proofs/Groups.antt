@@ -11,7 +11,8 @@ use Rattle.spec_language.specs.Lists.{each, lowest}
 use Rattle.spec_language.specs.Declarations.{typeNamed, groups}
 use Rattle.spec_language.proofs.Facts.{each-append}
 use Rattle.front_offences.specs.Lowest.{number, lowestOf, lower, lowestFrom}
-use Rattle.front_layout.specs.Headings.{modeCode, initCode, initToken, valueToken, Heading, namesOf, groupNames, groupsNames, headings, declIn, declsFrom, headingSeen, DeclsIn}
+use Rattle.front_layout.specs.Headings.{modeCode, initCode, initToken, valueToken, Heading, namesOf, groupNames, groupsNames, headings, declIn, declsFrom}
+use Rattle.front_layout.specs.Headings.{headingSeen, DeclsIn}
 use Rattle.front_offences.proofs.Lowest.{lower-none, lowest-append}
 
 lower-self : (a : ℕ) → lower a a ≡ a

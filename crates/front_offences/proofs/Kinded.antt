@@ -9,7 +9,8 @@ use lib.ListN.{length}
 use Rattle.base_codes.specs.Token.{oneOf, NAME, IF}
 use Rattle.spec_grammar.specs.Token.{Token}
 use Rattle.spec_grammar.specs.Tree.{Expr, binary, Stmt, Body, Text}
-use Rattle.spec_grammar.specs.Grammar.{NonTerminal, text, ports, morePorts, port, names, moreNames, mode, type, init, value, vars, body, more, statement, target, else-part, expression, chain, ands, ors, xors, relation, compared, simple, terms, term, factors, factor, primary}
+use Rattle.spec_grammar.specs.Grammar.{NonTerminal, text, ports, morePorts, port, names, moreNames, mode, type, init, value, vars, body, more, statement}
+use Rattle.spec_grammar.specs.Grammar.{target, else-part, expression, chain, ands, ors, xors, relation, compared, simple, terms, term, factors, factor, primary}
 use Rattle.spec_grammar.specs.Grammar.{Says, Mark, productions, textProduction}
 use Rattle.spec_grammar.specs.Derivation.{span, Reads}
 use Rattle.spec_grammar.specs.Limits.{Each}

@@ -5,6 +5,7 @@ use Prim.Native.Nat.{ℕ}
 use native.Mathlib.Omega.{arith}
 use Rattle.spec_grammar.specs.Token.{Token}
 use Rattle.base_codes.specs.Token.{NAME}
+use Rattle.base_codes.specs.Item as I
 use Rattle.spec_grammar.specs.Tree.{Expr}
 use Rattle.spec_grammar.specs.Limits.{Each}
 use Rattle.front_layout.specs.Postfix.{Item, postfix}
@@ -14,7 +15,7 @@ use Rattle.front_offences.specs.Kinded.{KindedExpr}
 
 -- an item by its code and token, and by itself
 abbrev pub NamedItem : ℕ → Token → Type 0
-NamedItem c x = c ≡ 1 → x .kind ≡ NAME
+NamedItem c x = c ≡ I.NAME → x .kind ≡ NAME
 
 abbrev pub IsNamed : Item → Type 0
 IsNamed i = NamedItem (i .code) (i .token)

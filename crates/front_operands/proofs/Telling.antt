@@ -10,7 +10,8 @@ use lib.ListN.{length, getD, take}
 use lib.IntN.{pos}
 use borrow.Author.Tests.{lt-ltb}
 use Rattle.spec_design.specs.Types.{Ty, integer, ExprTy, plain, boolean, inRange, typeByte}
-use Rattle.spec_design.specs.Expression.{Leaf, int, bit, input, variable, Unary, Binary, Expr, leaf, unary, binary, nth, plainly, leafType, unaryType, binaryType, typeOf}
+use Rattle.spec_design.specs.Expression.{Leaf, int, bit, input, variable, Unary, Binary, Expr, leaf, unary, binary, nth, plainly, leafType, unaryType}
+use Rattle.spec_design.specs.Expression.{binaryType, typeOf}
 use Rattle.spec_design.specs.Statement as S
 use Rattle.spec_design.specs.Statement.{Stmt, act, wait, if-then, if-else, while, seq}
 use Rattle.spec_design.specs.Process.{fits, typedAct, typed}

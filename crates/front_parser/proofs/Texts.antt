@@ -3,14 +3,16 @@ use mathlib.Core.Path.{_≡_, refl, sym, _∙_, ap, subst}
 use mathlib.Core.List.{List, [], _∷_, _++_, append-assoc}
 use Prim.Native.Nat.{ℕ, _+_, _-_, _≤_, _<_}
 use native.Mathlib.Omega.{arith}
-use borrow.Author.Tests.{ne-eqb}
+use mathlib.Core.Bool.{Bool, true, false}
+use lib.Dec.{eqb, ltb}
+use borrow.Author.Tests.{ne-eqb, eqb-true, eqb-false, ltb-true, ltb-false}
 use lib.ListN.{length, length-drop}
 use Rattle.spec_grammar.specs.Token.{Token}
 use Rattle.spec_grammar.specs.Tree.{Group, Body, Text}
 use Rattle.spec_grammar.specs.Grammar.{text, ports, vars, body, Sym, nt, tok, textProduction}
 use Rattle.spec_grammar.specs.Meter.{InHeading}
 use Rattle.spec_grammar.specs.Acceptance.{Answer, accepted, no-sentence, past-limit}
-use Rattle.spec_grammar.specs.Reader.{elem, first, firsts, follow, nullable, nullables, placed, answer}
+use Rattle.spec_grammar.specs.Reader.{choose, elem, first, firsts, follow, nullable, nullables, placed, answer}
 use Rattle.spec_grammar.proofs.Sets.{subset}
 use Rattle.spec_grammar.proofs.Steps.{Ok, okSyms, tested}
 use Rattle.spec_language.specs.Declarations.{groups}
@@ -25,12 +27,12 @@ use Rattle.front_layout.proofs.NameRows.{names-wrote-then}
 use Rattle.front_parser.specs.declared.EntityUnit.{EntityUnit}
 use Rattle.front_parser.specs.declared.ArchitectureUnit.{ArchitectureUnit}
 use Rattle.front_parser.specs.declared.ProcessUnit.{ProcessUnit}
-use Rattle.front_parser.specs.declared.Parsed.{Parsed}
 use Rattle.front_parser.specs.declared.Parsing.{Parsing}
 use Rattle.front_parser.specs.declared.Parsing.the-variants.{Tree, NotParsed}
 use Rattle.front_parser.specs.Runs.{toks}
-use Rattle.front_parser.specs.Parts.{entityEndKinds, architectureKinds, endKinds, EntityRead, EntityOver, ArchitectureRead, ArchitectureOver, ProcessRead, ProcessOver}
-use Rattle.front_parser.specs.Answers.{lent, numbersOf, ReadAs, parsesAs, Parses}
+use Rattle.front_parser.specs.Parts.{entityEndKinds, architectureKinds, endKinds, EntityRead, EntityOver, ArchitectureRead, ArchitectureOver, ProcessRead}
+use Rattle.front_parser.specs.Parts.{ProcessOver}
+use Rattle.front_parser.specs.Answers.{lent, numbersOf, parsingOf, ReadAs, parsesAs, Parses}
 
 -- what comes after the entity, and after the declarations
 abbrev afterDeclarations : List Sym
@@ -119,25 +121,24 @@ module _ {kinds long : List ℕ} {n : ℕ} {p : EntityUnit} {q : ArchitectureUni
       → parsesAs ts (lent o0 d0) (lent o1 d2) k s → Parses ts (lent o0 d0) (lent o1 d2) s
   answered k s w v = record { is = subst (λ (j : Answer). parsesAs ts (lent o0 d0) (lent o1 d2) j s) (sym (comes-to ∙ w)) v }
 
-  pub parse-refused : r .listing .cursor .fault ≡ 3 → Parses ts (lent o0 d0) (lent o1 d2) (NotParsed 3 (r .listing .cursor .at))
+  parse-refused : r .listing .cursor .fault ≡ 3 → Parses ts (lent o0 d0) (lent o1 d2) (NotParsed 3 (r .listing .cursor .at))
   parse-refused f = answered (no-sentence (r .listing .cursor .at)) (NotParsed 3 (r .listing .cursor .at))
       (text-refused ts tree (r .listing .statements) 1 heading (r .listing .cursor) 0 inside f) refl
 
-  pub parse-limited : (r .listing .cursor .fault ≡ 3 → ⊥) → (r .listing .cursor .fault ≡ 0 → ⊥)
+  parse-limited : (r .listing .cursor .fault ≡ 3 → ⊥) → (r .listing .cursor .fault ≡ 0 → ⊥)
       → Parses ts (lent o0 d0) (lent o1 d2) (NotParsed 4 (r .listing .cursor .at))
   parse-limited g f = answered (past-limit (r .listing .cursor .at)) (NotParsed 4 (r .listing .cursor .at))
       (limited-at ts tree (r .listing .statements) 1 heading (r .listing .cursor) 0 inside f g) refl
 
-  pub parse-longer : r .listing .cursor .fault ≡ 0 → r .listing .cursor .at < n → Parses ts (lent o0 d0) (lent o1 d2) (NotParsed 3 (r .listing .cursor .at))
+  parse-longer : r .listing .cursor .fault ≡ 0 → r .listing .cursor .at < n → Parses ts (lent o0 d0) (lent o1 d2) (NotParsed 3 (r .listing .cursor .at))
   parse-longer f l = answered (no-sentence (r .listing .cursor .at)) (NotParsed 3 (r .listing .cursor .at))
       (text-goes-on ts tree (r .listing .statements) 1 heading (r .listing .cursor) 0 inside f (let c = holds .count in omega arith)) refl
 
-  pub parse-whole : {s : Parsed} → r .listing .cursor .fault ≡ 0 → n ≤ r .listing .cursor .at → s ≡ numbersOf p q r
-      → Parses ts (lent o0 d0) (lent o1 d2) (Tree s)
+  parse-whole : r .listing .cursor .fault ≡ 0 → n ≤ r .listing .cursor .at → Parses ts (lent o0 d0) (lent o1 d2) (Tree (numbersOf p q r))
   unfolding headings groups
-  parse-whole {s} f l g = answered (accepted tree) (Tree s)
+  parse-whole f l = answered (accepted tree) (Tree (numbersOf p q r))
       (text-accepted ts tree (r .listing .statements) 1 heading (r .listing .cursor) 0 inside f (let c = holds .count in let i = inside in omega arith))
-      (s, refl, subst (λ (v : Parsed). ReadAs ts tree (lent o0 d0) (lent o1 d2) v) (sym g) known)
+      (numbersOf p q r, refl, known)
     where
       x : EntityRead ts p d0 d1
       x = e .reads ts holds
@@ -172,3 +173,16 @@ module _ {kinds long : List ℕ} {n : ℕ} {p : EntityUnit} {q : ArchitectureUni
         process = at (q .process) (p .header .cursor .at + 1 + 1 + 1 + 1 + 1 + 1) (let w = a .named fq .2 in omega arith);
         arch-end = at (r .end) (z .at + 1 + 1 + 1 + 1) (let w = z .named f in omega arith);
       }
+
+  -- each answer is the grammar's
+  pub parse-answered : {s : Parsing} → s ≡ parsingOf n p q r → Parses ts (lent o0 d0) (lent o1 d2) s
+  parse-answered g = rw g (go (eqb (r .listing .cursor .fault) 3) refl (eqb (r .listing .cursor .fault) 0) refl (ltb (r .listing .cursor .at) n) refl)
+    where
+      go : (u : Bool) → eqb (r .listing .cursor .fault) 3 ≡ u → (v : Bool) → eqb (r .listing .cursor .fault) 0 ≡ v → (w : Bool)
+          → ltb (r .listing .cursor .at) n ≡ w
+          → Parses ts (lent o0 d0) (lent o1 d2) (choose u (NotParsed 3 (r .listing .cursor .at))
+          (choose v (choose w (NotParsed 3 (r .listing .cursor .at)) (Tree (numbersOf p q r))) (NotParsed 4 (r .listing .cursor .at))))
+      go true a v b w c = parse-refused (eqb-true _ _ a)
+      go false a false b w c = parse-limited (eqb-false _ _ a) (eqb-false _ _ b)
+      go false a true b true c = parse-longer (eqb-true _ _ b) (ltb-true _ _ c)
+      go false a true b false c = parse-whole (eqb-true _ _ b) (ltb-false _ _ c)

@@ -2,10 +2,12 @@
 use mathlib.Core.Path.{_≡_}
 use mathlib.Core.List.{List}
 use Prim.Native.Nat.{ℕ, _≤_, _<_}
+use lib.Dec.{eqb, ltb}
+use Rattle.base_codes.specs.Refusal.{NO-SENTENCE, LIMIT-PASSED}
 use Rattle.spec_grammar.specs.Token.{Token}
 use Rattle.spec_grammar.specs.Tree.{Text}
 use Rattle.spec_grammar.specs.Acceptance.{Answer, accepted, no-sentence, past-limit}
-use Rattle.spec_grammar.specs.Reader.{answer}
+use Rattle.spec_grammar.specs.Reader.{choose, answer}
 use Rattle.front_layout.specs.Tokens.{tokenAt, Holds}
 use Rattle.front_layout.specs.Entries.{bodyEntries}
 use Rattle.front_layout.specs.Rows.{Output, WroteLines}
@@ -40,6 +42,13 @@ numbersOf p q r = record {
   process = q .process;
   «arch_end» = r .end;
 }
+
+-- the answer on a text of n tokens whose three parts have come to an end: the fault that stopped them; 3 at a token behind the end; or its numbers
+abbrev pub parsingOf : ℕ → EntityUnit → ArchitectureUnit → ProcessUnit → Parsing
+parsingOf n p q r =
+    let last = r .listing .cursor in
+    choose (eqb (last .fault) NO-SENTENCE) (NotParsed NO-SENTENCE (last .at))
+    (choose (eqb (last .fault) 0) (choose (ltb (last .at) n) (NotParsed NO-SENTENCE (last .at)) (Tree (numbersOf p q r))) (NotParsed LIMIT-PASSED (last .at)))
 
 -- a text was read as the tree t
 pub record ReadAs (ts : List Token) (t : Text) (before after : Lent) (q : Parsed) : Type 0 where

@@ -8,7 +8,7 @@ ghost use Rattle.front_layout.specs.Rows.{output};
 ghost use Rattle.front_declarations.specs.Headers.{AsksHeader};
 ghost use Rattle.front_parser.specs.Runs.{start, headingAt, expectAll};
 ghost use Rattle.front_parser.specs.Parts.{EntityOver, ArchitectureOver, ProcessOver};
-ghost use Rattle.front_parser.specs.Answers.{lent, numbersOf, ParsesOver};
+ghost use Rattle.front_parser.specs.Answers.{lent, numbersOf, parsingOf, ParsesOver};
 use base_codes::declaration;
 use base_codes::limit;
 use base_codes::refusal;
@@ -228,6 +228,25 @@ fn numbers(p: EntityUnit, q: ArchitectureUnit, r: ProcessUnit) -> Parsed
     }
 }
 
+// The answer on a text of n tokens whose parts were read: the refusal that stopped them, one at a token behind the end, or the numbers of the text.
+fn answered(n: usize, p: EntityUnit, q: ArchitectureUnit, r: ProcessUnit) -> Parsing
+    requires { ⌜ (q .header .inputs ≤ 17) × (q .header .outputs ≤ 16) × (q .header .vars ≤ 32) ⌝ }
+    ensures { λ s. ⌜ s ≡ parsingOf n p q r ⌝ }
+{
+    let listing = r.listing;
+    let last = listing.cursor;
+    if last.fault == refusal::NO_SENTENCE {
+        return Parsing::NotParsed(refusal::NO_SENTENCE, last.at);
+    }
+    if last.fault != 0 {
+        return Parsing::NotParsed(refusal::LIMIT_PASSED, last.at);
+    }
+    if last.at < n {
+        return Parsing::NotParsed(refusal::NO_SENTENCE, last.at);
+    }
+    Parsing::Tree(numbers(p, q, r))
+}
+
 // Reads a text of n tokens: kinds has their kinds, long a 1 where a name or a number passes its limit.
 // Items go to codes and tokens, statements to rows, declared names to decls. No text has more than 16384 tokens.
 pub fn parse(
@@ -249,16 +268,5 @@ pub fn parse(
     let q = architecture(kinds, long, n, declared, decls);
     let heading = q.header;
     let r = process(kinds, long, n, heading, codes, tokens, rows);
-    let listing = r.listing;
-    let last = listing.cursor;
-    if last.fault == refusal::NO_SENTENCE {
-        return Parsing::NotParsed(refusal::NO_SENTENCE, last.at);
-    }
-    if last.fault != 0 {
-        return Parsing::NotParsed(refusal::LIMIT_PASSED, last.at);
-    }
-    if last.at < n {
-        return Parsing::NotParsed(refusal::NO_SENTENCE, last.at);
-    }
-    Parsing::Tree(numbers(p, q, r))
+    answered(n, p, q, r)
 }

@@ -10,7 +10,9 @@ use lib.Dec.{eqb, eqb·suc-suc}
 use lib.ListN.{getD}
 use Rattle.spec_grammar.specs.Token.{Token}
 use Rattle.base_codes.specs.Token.{NAME}
-use Rattle.spec_grammar.specs.Tree.{Expr, number, bit, name, sign, negate, binary, parens, Stmt, output, assign, null, wait, if-then, if-else, while, Mode, input, output-port, variable-mode, Text}
+use Rattle.base_codes.specs.Item as I
+use Rattle.spec_grammar.specs.Tree.{Expr, number, bit, name, sign, negate, binary, parens, Stmt, output, assign, null, wait, if-then, if-else, while, Mode}
+use Rattle.spec_grammar.specs.Tree.{input, output-port, variable-mode, Text}
 use Rattle.spec_grammar.specs.Reader.{choose}
 use Rattle.spec_grammar.specs.Limits.{Each}
 use Rattle.spec_language.specs.Lists.{unless, each, lowest}
@@ -205,14 +207,14 @@ module _ (text sizes : List ℕ) (ts : List Token) (t : Text) (kinds starts : Li
   read-is : (j : ℕ) → NamedItem (getD codes j 0) (tokenAt ts (getD indices j 0))
       → readAt codes indices starts owners n decls d j ≡ lowestOf (ofItem (readRule (declared t)) (getD codes j 0) (tokenAt ts (getD indices j 0)))
   unfolding readAt readRule L.number lowest
-  read-is j h = go (eqb (getD codes j 0) 1) refl
+  read-is j h = go (eqb (getD codes j 0) I.NAME) refl
     where
-      go : (b : Bool) → eqb (getD codes j 0) 1 ≡ b
+      go : (b : Bool) → eqb (getD codes j 0) I.NAME ≡ b
           → choose b (lowestOf (unless (readableIn (modeIn decls d (numberIn owners n (getD indices j 0)))) (numberIn starts n (getD indices j 0)))) 0
           ≡ lowestOf (choose b (unless (isA readable (find (declared t) (tokenAt ts (getD indices j 0) .value))) (tokenAt ts (getD indices j 0) .place)) [])
       go true q =
           ap (λ (b : Bool). lowestOf (unless b (numberIn starts n (getD indices j 0))))
-          (ap readableIn (mode-at (getD indices j 0) (h (eqb-true (getD codes j 0) 1 q)))
+          (ap readableIn (mode-at (getD indices j 0) (h (eqb-true (getD codes j 0) I.NAME q)))
           ∙ readable-code (find (declared t) (tokenAt ts (getD indices j 0) .value)))
           ∙ ap (λ (p : ℕ). lowestOf (unless (isA readable (find (declared t) (tokenAt ts (getD indices j 0) .value))) p))
           (place-is (laid .of-tokens) (getD indices j 0))

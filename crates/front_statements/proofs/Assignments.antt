@@ -27,9 +27,11 @@ use Rattle.front_statements.specs.declared.Listing.{Listing}
 use Rattle.front_layout.specs.Entries.{entry, stmtEntries}
 use Rattle.front_layout.specs.Rows as R
 use Rattle.front_layout.specs.Rows.{row}
-use Rattle.front_statements.specs.Listings.{listing, renew, freshAt, isAssigning, rowKind, fromListing, beginAt, finishAt, FineHeading, AsksListing, MovesListing}
+use Rattle.front_statements.specs.Listings.{listing, renew, freshAt, isAssigning, rowKind, fromListing, beginAt, finishAt, FineHeading, AsksListing}
+use Rattle.front_statements.specs.Listings.{MovesListing}
 use Rattle.front_statements.specs.Readers.{StatementOver}
-use Rattle.front_statements.proofs.Steps.{fine, Took, Begun, asks-listing, moves-listing, stepped-asks, took-steps, took-plain, begin-steps, begun-stmt, expression-at}
+use Rattle.front_statements.proofs.Steps.{fine, Took, Begun, asks-listing, moves-listing, stepped-asks, took-steps, took-plain, begin-steps, begun-stmt}
+use Rattle.front_statements.proofs.Steps.{expression-at}
 use Rattle.front_statements.proofs.Picks.{assignmentRule, outputRule, variableRule, pick-assignment, pick-output, pick-variable, no-target}
 use Rattle.front_statements.proofs.Simple.{wrote-simple}
 

@@ -8,7 +8,8 @@ use borrow.Author.Tests.{ne-eqb, eqb-true}
 use lib.Dec.{eqb}
 use Rattle.base_codes.specs.Token.{NAME, ONE, SEMI, BECOMES, EQ, LE, END, NULL, WAIT, UNTIL, IF, THEN, ELSE, WHILE, LOOP}
 use Rattle.spec_grammar.specs.Tree.{null, wait, if-else, while, output, assign, andThen}
-use Rattle.spec_grammar.specs.Grammar.{statement, target, expression, body, more, else-part, tk, nt, tok, stmt, stmt-fresh, fresh, deeper, shallower, Production, productions, _↠_}
+use Rattle.spec_grammar.specs.Grammar.{statement, target, expression, body, more, else-part, tk, nt, tok, stmt, stmt-fresh, fresh, deeper, shallower}
+use Rattle.spec_grammar.specs.Grammar.{Production, productions, _↠_}
 use Rattle.front_cursor.proofs.Steps.{Into}
 use Rattle.front_expressions.proofs.Picks.{tests, or-left, or-right}
 use Rattle.front_statements.specs.Listings.{isStart}

@@ -10,7 +10,7 @@ ghost use Rattle.front_layout.specs.Items.{Arrays, arrays};
 ghost use Rattle.front_layout.specs.Entries.{bodyEntries};
 ghost use Rattle.front_layout.specs.Rows.{row, output};
 ghost use Rattle.front_statements.specs.Listings.{refuseListing, beginAt, renew, freshAt, isAssigning, rowKind, isStart, moreStatements, Small, finishAt, AsksListing};
-ghost use Rattle.front_statements.specs.Readers.{ReadsLinesOver, StatementOver, ElseOver};
+ghost use Rattle.front_statements.specs.Readers.{firstOf, OpeningOver, ReadsLinesOver, StatementOver, ElseOver};
 use base_codes::limit;
 use base_codes::refusal;
 use base_codes::statement;
@@ -25,6 +25,12 @@ use front_expressions::expression;
 pub struct Listing {
     pub cursor: Cursor,
     pub statements: usize,
+}
+
+// The head of a nested statement, read: where the reader stands behind it, and where the items of its condition end.
+pub struct Head {
+    pub listing: Listing,
+    pub to: usize,
 }
 
 // The same statements, where the cursor is refused by a number.
@@ -263,6 +269,40 @@ fn renewed(q: Cursor) -> Cursor
     }
 }
 
+// `if e then` or `while e loop`, where word is the last: one statement more, and its condition.
+fn opening(
+    kinds: &[u8; limit::TEXT],
+    long: &[u8; limit::TEXT],
+    n: usize,
+    p: Listing,
+    depth: usize,
+    word: u8,
+    codes: &mut [u8; limit::TEXT],
+    tokens: &mut [u16; limit::TEXT],
+) -> Head
+    requires { ⌜ AsksListing n p × (p .cursor .at < n) × (0 < word) × (kindIn (now kinds) n (p .cursor .at) ≡ firstOf word) ⌝ }
+    ensures { λ r. ⌜ OpeningOver (now (kinds .entry)) (now (long .entry)) n p depth word (arrays (now (codes .entry)) (now (tokens .entry))) r (arrays (now (codes .exit)) (now (tokens .exit))) ⌝ }
+{
+    let a = begin(long, p, depth, 0);
+    let w = a.cursor;
+    if w.fault != 0 {
+        return Head {
+            listing: a,
+            to: w.written,
+        };
+    }
+    let e = expression(kinds, long, n, w, 0, codes, tokens);
+    let t = expect(kinds, long, n, e, word);
+    let listing = Listing {
+        cursor: t,
+        statements: a.statements,
+    };
+    Head {
+        listing,
+        to: e.written,
+    }
+}
+
 // `if e then S else S end if ;`, the else part being optional.
 fn if_statement(
     kinds: &[u8; limit::TEXT],
@@ -277,30 +317,21 @@ fn if_statement(
     requires { ⌜ (depth ≤ 17) × AsksListing n p × (p .cursor .fault ≡ 0) × (kindIn (now kinds) n (p .cursor .at) ≡ IF) ⌝ }
     ensures { λ r. ⌜ StatementOver (now (kinds .entry)) (now (long .entry)) n p depth (output (arrays (now (codes .entry)) (now (tokens .entry))) (now (rows .entry))) r (output (arrays (now (codes .exit)) (now (tokens .exit))) (now (rows .exit))) ⌝ }
 {
-    let q = p.cursor;
-    let a = begin(long, p, depth, 0);
-    let w = a.cursor;
-    if w.fault != 0 {
-        return a;
+    let o = opening(kinds, long, n, p, depth, token::THEN, codes, tokens);
+    if o.listing.cursor.fault != 0 {
+        return o.listing;
     }
-    let e = expression(kinds, long, n, w, 0, codes, tokens);
-    let t = expect(kinds, long, n, e, token::THEN);
-    let b = Listing {
-        cursor: t,
-        statements: a.statements,
-    };
-    let c = body(kinds, long, n, b, depth + 1, codes, tokens, rows);
+    let c = body(kinds, long, n, o.listing, depth + 1, codes, tokens, rows);
     let d = else_part(kinds, long, n, c, depth + 1, codes, tokens, rows);
-    let x = d.cursor;
-    let i = end_of(kinds, long, n, x, token::IF);
+    let i = end_of(kinds, long, n, d.cursor, token::IF);
     finish(
         rows,
         i,
         p.statements,
         statement::IF,
-        q.at,
-        q.written,
-        e.written,
+        p.cursor.at,
+        p.cursor.written,
+        o.to,
         c.statements,
         d.statements,
     );
@@ -324,29 +355,20 @@ fn while_statement(
     requires { ⌜ (depth ≤ 17) × AsksListing n p × (p .cursor .fault ≡ 0) × (kindIn (now kinds) n (p .cursor .at) ≡ WHILE) ⌝ }
     ensures { λ r. ⌜ StatementOver (now (kinds .entry)) (now (long .entry)) n p depth (output (arrays (now (codes .entry)) (now (tokens .entry))) (now (rows .entry))) r (output (arrays (now (codes .exit)) (now (tokens .exit))) (now (rows .exit))) ⌝ }
 {
-    let q = p.cursor;
-    let a = begin(long, p, depth, 0);
-    let w = a.cursor;
-    if w.fault != 0 {
-        return a;
+    let o = opening(kinds, long, n, p, depth, token::LOOP, codes, tokens);
+    if o.listing.cursor.fault != 0 {
+        return o.listing;
     }
-    let e = expression(kinds, long, n, w, 0, codes, tokens);
-    let t = expect(kinds, long, n, e, token::LOOP);
-    let b = Listing {
-        cursor: t,
-        statements: a.statements,
-    };
-    let c = body(kinds, long, n, b, depth + 1, codes, tokens, rows);
-    let x = c.cursor;
-    let i = end_of(kinds, long, n, x, token::LOOP);
+    let c = body(kinds, long, n, o.listing, depth + 1, codes, tokens, rows);
+    let i = end_of(kinds, long, n, c.cursor, token::LOOP);
     finish(
         rows,
         i,
         p.statements,
         statement::WHILE,
-        q.at,
-        q.written,
-        e.written,
+        p.cursor.at,
+        p.cursor.written,
+        o.to,
         c.statements,
         c.statements,
     );

@@ -11,7 +11,8 @@ use lib.ListN.{length, getD, take, drop, drop-of-length-le}
 use lib.Seq.{drop-cons, getD-drop, take-at}
 use borrow.Author.Tests.{eq-eqb, ne-eqb}
 use Rattle.base_codes.specs.Token.{NUMBER}
-use Rattle.spec_language.specs.Bytes.{bytes, between, elem, bytesOf, ByteKind, letter, digit, underscore, blank, quote, mark, none, byteKind, kindCode, is, isDigit, inWord, notLF, lower, fixed}
+use Rattle.spec_language.specs.Bytes.{bytes, between, elem, bytesOf, ByteKind, letter, digit, underscore, blank, quote, mark, none, byteKind, kindCode, is}
+use Rattle.spec_language.specs.Bytes.{isDigit, inWord, notLF, lower, fixed}
 use Rattle.spec_language.specs.Words.{wellMade, folded, reserved, wordKind, peek, isDashes}
 use Rattle.spec_language.specs.Lexer.{run, fixedStart, wordStart, numberStart, startFrom, startOf}
 use Rattle.spec_language.proofs.Lexing.{run-is}

@@ -7,6 +7,7 @@ use native.Mathlib.Omega.{arith}
 use native.Mathlib.Decide.{ℕ-discrete}
 use borrow.Author.Tests.{ne-eqb, le-leb}
 use lib.ListN.{length, getD, length-append, length-map}
+use Rattle.base_codes.specs.Item as I
 use Rattle.spec_grammar.specs.Token.{Token}
 use Rattle.base_codes.specs.Token.{NAME}
 use Rattle.spec_grammar.specs.Tree.{Expr, Stmt, output, assign, null, wait, if-then, if-else, while, Body, only, andThen, Text}
@@ -80,9 +81,9 @@ named-as : {x y : Item} → x ≡ y → IsNamed y → IsNamed x
 named-as e h = rw e h
 
 -- the type that is read for a name does not matter for another item
-step-other : (c u v p : ℕ) (w : Work) → (c ≡ 1 → ⊥) → stepWork c u p w ≡ stepWork c v p w
+step-other : (c u v p : ℕ) (w : Work) → (c ≡ I.NAME → ⊥) → stepWork c u p w ≡ stepWork c v p w
 unfolding stepWork
-step-other c u v p w f = rw (ne-eqb c 1 f)
+step-other c u v p w f = rw (ne-eqb c I.NAME f)
 
 -- an expression where a type is wanted
 wanted-law : (Δ : List Decl) (a : Option ExprTy) (e : Expr) (p : ℕ) → KindedExpr e → itemCount e ≤ 64
@@ -98,9 +99,9 @@ module _ (ts : List Token) (kinds : List ℕ) (t : Text) (A : Sources) (ht : Tok
   item-law : (c i : ℕ) (w : Work) → IsNamed (itemOf c (tokenAt ts i)) → stepWork c (nameAt A i) (placeAt A i) w
       ≡ itemStep (declared t) (itemOf c (tokenAt ts i)) w
   unfolding itemStep
-  item-law c i w h = ap (λ (p : ℕ). stepWork c (nameAt A i) p w) (place-is ht i) ∙ go (ℕ-discrete c 1)
+  item-law c i w h = ap (λ (p : ℕ). stepWork c (nameAt A i) p w) (place-is ht i) ∙ go (ℕ-discrete c I.NAME)
     where
-      go : Dec (c ≡ 1) → stepWork c (nameAt A i) (tokenAt ts i .place) w
+      go : Dec (c ≡ I.NAME) → stepWork c (nameAt A i) (tokenAt ts i .place) w
           ≡ stepWork c (tagOr (typeIn (find (declared t) (tokenAt ts i .value)))) (tokenAt ts i .place) w
       go (yes e) = ap (λ (u : ℕ). stepWork c u (tokenAt ts i .place) w) (name-law ts kinds (A .places) (A .owners) (A .decls) (A .n) (A .d) i t ht ho hd (h e))
       go (no f) = step-other c (nameAt A i) (tagOr (typeIn (find (declared t) (tokenAt ts i .value)))) (tokenAt ts i .place) w f

@@ -14,7 +14,8 @@ use Rattle.base_codes.specs.Limit.{ITEMS}
 use Rattle.front_typing.specs.Operators.{binaryCode, rightOne, rightTwo}
 use Rattle.base_codes.specs.Stack.{stackOf}
 use Rattle.base_codes.proofs.StackLaws.{stack-length, stack-above, stack-push}
-use Rattle.front_typing.specs.Expressions.{Sources, Work, work, operandCode, pushed, unaryOn, binaryOn, stepWork, itemWork, itemsWork, exprWork, topOf, Room, Says}
+use Rattle.front_typing.specs.Expressions.{Sources, Work, work, operandCode, pushed, unaryOn, binaryOn, stepWork, itemWork, itemsWork, exprWork, topOf}
+use Rattle.front_typing.specs.Expressions.{Room, Says}
 use Rattle.front_typing.specs.declared.Progress.{Progress}
 
 -- a type pushed

@@ -15,7 +15,8 @@ use Rattle.spec_format.specs.Signature.{Signature, signatureBytes, signatureOf}
 use Rattle.spec_format.specs.Lines.{Line, line}
 use Rattle.spec_format.specs.Image.{Table, RawLine, raw, rawsBytes, rawsOf, linesCode, Sections, sectionsFor, encodeTable}
 use Rattle.spec_format.specs.Good.{GoodTable}
-use Rattle.spec_format.specs.Opening.{rawAt, raws, rawReaches, openLine, Lined, lined, bad-at, with, goOn, openLines, opened, tabled, openTable, openSections, sectionsOf, unless11, openOf}
+use Rattle.spec_format.specs.Opening.{rawAt, raws, rawReaches, openLine, Lined, lined, bad-at, with, goOn, openLines, opened, tabled, openTable, openSections}
+use Rattle.spec_format.specs.Opening.{sectionsOf, unless11, openOf}
 use Rattle.spec_format.proofs.Sections.{whole-lines, form1-read}
 use Rattle.spec_format.proofs.Lines.{raws-bytes-length, raws-length}
 use Rattle.spec_format.proofs.Opens.{table-opens, unless11-opened, unless12-opened}

@@ -9,7 +9,7 @@ use Rattle.base_answers.specs.Answers.{compileTold}
 use Rattle.spec_language.specs.Verdict.{Verdict, verdict}
 use Rattle.spec_format.specs.Encode.{encode}
 use Rattle.spec_format.specs.Writing.{writtenInto}
-use Rattle.spec_promises.specs.Compile.{onVerdict, compileOf}
+use Rattle.spec_interface.specs.Compile.{onVerdict, compileOf}
 use Rattle.front_accept.specs.declared.Front.{Front}
 use Rattle.front_accept.specs.declared.Acceptance.the-variants.{Refused}
 use Rattle.base_ir.specs.declared.Declared.{Declared}

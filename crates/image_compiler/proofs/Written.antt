@@ -26,10 +26,11 @@ use Rattle.spec_format.specs.Opening.{openOf}
 use Rattle.spec_format.specs.Encode.{tableOf, encode}
 use Rattle.spec_format.proofs.Sections.{form1-length}
 use Rattle.spec_simulation.proofs.Processes.{process-good, encode-opens, encode-bytes}
-use Rattle.spec_promises.specs.Compile.{written, compileOf}
+use Rattle.spec_interface.specs.Compile.{written, compileOf}
 use Rattle.spec_behaviour.specs.Direct.{directFresh, freshText}
 use Rattle.spec_promises.proofs.Size.{valid-fits}
-use Rattle.spec_promises.proofs.Demand3.{wrote, demand3}
+use Rattle.spec_interface.proofs.Compile.{wrote}
+use Rattle.spec_promises.proofs.Demand3.{demand3}
 use Rattle.image_compiler.specs.Written.{TwoBytes, AllTwoBytes, Fits, OpensAs}
 
 -- FIELDS

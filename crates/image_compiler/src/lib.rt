@@ -4,7 +4,7 @@ ghost use Rattle.base_answers.specs.Answers.{compileTold};
 ghost use Rattle.spec_design.specs.Process.{Process, WellFormed};
 ghost use Rattle.spec_format.specs.Encode.{encode};
 ghost use Rattle.spec_format.specs.Writing.{writtenInto};
-ghost use Rattle.spec_promises.specs.Compile.{compileOf};
+ghost use Rattle.spec_interface.specs.Compile.{compileOf};
 ghost use Rattle.base_ir.specs.Arrays.{Holds};
 use base_answers::Compiled;
 use base_answers::Refusal;

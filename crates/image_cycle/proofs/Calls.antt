@@ -28,7 +28,7 @@ use Rattle.spec_simulation.proofs.States.{state-exactly, memory-back}
 use Rattle.spec_semantics.proofs.Slots.{pad-length, pad-first}
 use Rattle.spec_simulation.proofs.Outcomes.{row-outcome}
 use Rattle.image_walk.specs.declared.Followed.the-variants.{Reached, Stopped, Spent}
-use Rattle.image_walk.specs.Follow.{Went}
+use Rattle.image_walk.specs.Follow.{Went, went}
 use Rattle.image_walk.proofs.Walks.{Shows}
 use Rattle.image_checks.specs.declared.RowCheck.{RowCheck}
 use Rattle.image_checks.specs.declared.RowCheck.the-variants.{Right, WrongAt}
@@ -36,7 +36,7 @@ use Rattle.image_checks.specs.Answers.{checkOf}
 use Rattle.base_answers.specs.declared.Advanced.{Advanced}
 use Rattle.base_answers.specs.Answers.{done, refusal, refusedBy, cycleTold, operatorRefusal}
 use Rattle.base_answers.proofs.Refusals.{operator-told}
-use Rattle.image_cycle.specs.Ran.{Checked, went, ranFor}
+use Rattle.image_cycle.specs.Ran.{Checked, ranFor}
 use Rattle.image_cycle.specs.Moves.{rowAfter, Moves}
 use Rattle.spec_semantics.specs.Advances.{Advances, cycleAnswer}
 use Rattle.image_cycle.proofs.Runs.{cycle-ran}

@@ -10,7 +10,7 @@ use lib.ListN.{length, take, drop}
 use lib.Seq.{take-at}
 use lib.IntN.{ℤ}
 use Rattle.spec_format.specs.Words.{word2At}
-use Rattle.spec_format.specs.Signature.{types, typeBytes}
+use Rattle.spec_format.specs.Signature.{Signature, types, typeBytes}
 use Rattle.spec_format.specs.Lines.{line, reach}
 use Rattle.spec_semantics.specs.Equations.{Memory}
 use Rattle.spec_semantics.specs.Values.{Values}
@@ -27,7 +27,7 @@ use Rattle.spec_simulation.specs.Outcome.{Typed}
 use Rattle.image_evaluator.proofs.Evaluation.{types-of-bytes}
 use Rattle.image_walk.proofs.Walks.{Shows, follow-walk}
 use Rattle.image_checks.proofs.Positions.{type-bytes-length}
-use Rattle.image_walk.specs.declared.Followed.{Followed}
+use Rattle.image_walk.specs.Fields.{reachAt}
 use Rattle.image_walk.specs.Follow.{Went, followAt}
 use Rattle.image_walk.proofs.Fields.{begins, line-fields}
 use Rattle.image_cycle.specs.Ran.{Checked, ranFor}
@@ -35,6 +35,20 @@ use Rattle.image_cycle.specs.Ran.{Checked, ranFor}
 -- the first n bytes of a part
 pub part-first : (s : List ℕ) (n : ℕ) → take (n - 0) (drop 0 s) ≡ take n s
 part-first s n = let z : n - 0 ≡ n = omega arith in rw z refl
+
+types-first : (σ : Signature) (k kinds : List ℕ) (n : ℕ)
+    → (n ≡ length (σ .variables)) × (k ≡ typeBytes (types (σ .variables)) ++ drop (length (σ .variables)) kinds) → take n k ≡ typeBytes (types (σ .variables))
+types-first σ k kinds n e =
+    rw (e .1) (take-at (typeBytes (types (σ .variables))) (drop (length (σ .variables)) kinds) n
+    (type-bytes-length (types (σ .variables)) ∙ types-length (σ .variables) ∙ sym (e .0)))
+
+-- the type bytes and the limit as they are read
+pub line-read : (σ : Signature) (l c : List ℕ) (i o v : List ℤ) (x limit n : ℕ) (is k kinds vs : List ℕ) (w : Went)
+    → limit ≡ suc (reachAt l x) → is ≡ typeBytes (σ .inputs)
+    → (n ≡ length (σ .variables)) × (k ≡ typeBytes (types (σ .variables)) ++ drop (length (σ .variables)) kinds)
+    → vs ≡ take n k → w ≡ followAt l c is vs i limit x 0 o v
+    → w ≡ followAt l c (typeBytes (σ .inputs)) (typeBytes (types (σ .variables))) i (suc (reachAt l x)) x 0 o v
+line-read σ l c i o v x limit n is k kinds vs w a b d e f = rw (a, b, e ∙ types-first σ k kinds n d) at f
 
 module _ (s l c : List ℕ) (t : Table) (h : Checked s l c t) (p : ℕ) (ok : placeOk (t .lines) p ≡ true) (i : List ℤ) where
   pub from-line : from (t .lines) p < length (t .lines)
@@ -51,27 +65,15 @@ module _ (s l c : List ℕ) (t : Table) (h : Checked s l c t) (p : ℕ) (ok : pl
       ap (λ (w : RawLine). w .reach) (line-fields l c t (h .held) r (from (t .lines) p) from-line)
       ∙ raw-place (begins l c t (h .held) r (from (t .lines) p) from-line) (line (t .lines) (from (t .lines) p)) (reach (t .reaches) (from (t .lines) p)) .2
 
-  types-first : (k kinds : List ℕ) (n : ℕ)
-      → (n ≡ length (t .signature .variables)) × (k ≡ typeBytes (types (t .signature .variables)) ++ drop (length (t .signature .variables)) kinds)
-      → take n k ≡ typeBytes (types (t .signature .variables))
-  types-first k kinds n e =
-      rw (e .1) (take-at (typeBytes (types (t .signature .variables))) (drop (length (t .signature .variables)) kinds) n
-      (type-bytes-length (types (t .signature .variables)) ∙ types-length (t .signature .variables) ∙ sym (e .0)))
-
-  pub run-read : (x limit n : ℕ) (o v : List ℤ) (is k kinds vs : List ℕ) (r : Followed) (o′ v′ : List ℤ)
-      → x ≡ from (t .lines) p → limit ≡ word2At l (x * 12 + 10) + 1 → is ≡ typeBytes (t .signature .inputs)
-      → (n ≡ length (t .signature .variables)) × (k ≡ typeBytes (types (t .signature .variables)) ++ drop (length (t .signature .variables)) kinds)
-      → vs ≡ take n k
-      → (r ≡ followAt l c is vs i limit x 0 o v .answer)
-      × ((o′ ≡ followAt l c is vs i limit x 0 o v .outputs) × (v′ ≡ followAt l c is vs i limit x 0 o v .variables))
-      → _≡_ {A = Went} (record { answer = r; outputs = o′; variables = v′ }) (ranFor t l c p i o v)
+  -- from the line of a place on
+  pub place-read : (x : ℕ) (o v : List ℤ) (w : Went) → x ≡ from (t .lines) p
+      → w ≡ followAt l c (typeBytes (t .signature .inputs)) (typeBytes (types (t .signature .variables))) i (suc (reachAt l x)) x 0 o v
+      → w ≡ ranFor t l c p i o v
   unfolding ranFor
-  run-read x limit n o v is k kinds vs r o′ v′ ex el ei ek ev f =
-      let z : limit ≡ suc (reach (t .reaches) (from (t .lines) p)) = el ∙ ap (λ y. word2At l (y * 12 + 10) + 1) ex ∙ ap (λ y. y + 1) reach-read ∙ omega arith in
-      let w : vs ≡ typeBytes (types (t .signature .variables)) = ev ∙ types-first k kinds n ek in
-      rw (f .0, f .1 .0, f .1 .1, ex, z, ei, w) refl
+  place-read x o v w e f = rw (e, reach-read) at f
 
-  -- What the code leaves is the table's cycle: the wait reached, the length of the way, outputs and variables with 0 behind them; or an operator's number and its line.
+  -- What the code leaves is the table's cycle: the wait reached, the length of the way, outputs and variables with 0 behind them; or an operator's number
+  -- and its line.
   pub cycle-ran : Values (t .signature .inputs) i → (m : Memory) → Typed (t .signature) m
       → Shows (tableCycle (t .lines) (t .reaches) p i (record { way = []; memory = m })) (ranFor t l c p i (pad 16 (m .outputs)) (pad 32 (m .variables)))
   unfolding ranFor tableCycle

@@ -7,7 +7,6 @@ use Rattle.spec_format.specs.Signature.{types, typeBytes}
 use Rattle.spec_format.specs.Lines.{reach}
 use Rattle.spec_format.specs.Walk.{from}
 use Rattle.spec_format.specs.Image.{Table}
-use Rattle.image_walk.specs.declared.Followed.{Followed}
 use Rattle.image_walk.specs.Follow.{Went, followAt}
 use Rattle.image_walk.specs.Held.{Held}
 use Rattle.image_checks.specs.Places.{Opens}
@@ -22,7 +21,3 @@ unfoldable pub ranFor : Table → List ℕ → List ℕ → ℕ → List ℤ →
 ranFor t l c p i o v =
     followAt l c (typeBytes (t .signature .inputs)) (typeBytes (types (t .signature .variables))) i (suc (reach (t .reaches) (from (t .lines) p)))
     (from (t .lines) p) 0 o v
-
--- where the lines lead, and the slots as they are left
-abbrev pub went : Followed → List ℤ → List ℤ → Went
-went r o v = record { answer = r; outputs = o; variables = v }

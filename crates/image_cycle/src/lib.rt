@@ -1,11 +1,14 @@
 // A cycle on the sections of an opened image.
 ghost use mathlib.Core.Path.{_≡_};
 ghost use mathlib.Core.List.{List};
-ghost use Prim.Native.Nat.{_<_};
-ghost use mathlib.Core.Option.{none};
+ghost use Prim.Native.Nat.{suc, _<_};
+ghost use mathlib.Core.Option.{none, some};
 ghost use lib.ListN.{length, take};
 ghost use lib.IntN.{ℤ};
 ghost use Rattle.spec_format.specs.Image.{Table};
+ghost use Rattle.spec_format.specs.Signature.{Signature, types, typeBytes, signatureOf};
+ghost use Rattle.image_walk.specs.Fields.{reachAt};
+ghost use Rattle.image_walk.specs.Follow.{went, followAt};
 ghost use mathlib.Core.Bool.{true};
 ghost use Rattle.spec_format.specs.State.{placeOk};
 ghost use Rattle.base_answers.specs.declared.Cycled.the-variants.{Performed};
@@ -14,7 +17,7 @@ ghost use Rattle.spec_format.specs.Cycle.{rowPlace, rowOf};
 ghost use Rattle.spec_format.specs.State.{stateOk};
 ghost use Rattle.image_cycle.specs.Moves.{rowAfter, Moves};
 ghost use Rattle.spec_semantics.specs.Advances.{cycleAnswer};
-ghost use Rattle.image_cycle.specs.Ran.{Checked, went, ranFor};
+ghost use Rattle.image_cycle.specs.Ran.{Checked, ranFor};
 use base_answers::Advanced;
 use base_answers::Counts;
 use base_answers::Cycled;
@@ -40,6 +43,36 @@ fn first<'a>(s: &'a [u8], n: usize) -> &'a [u8]
     &s[0..n]
 }
 
+// Follows the lines from line x on, as many as its reach allows, over the signature's type bytes.
+fn follow_line(
+    signature: &[u8],
+    lines: &[u8],
+    code: &[u8],
+    x: u32,
+    inputs: &[i32],
+    outputs: &mut [i32],
+    variables: &mut [i32],
+) -> Followed
+    ensures { λ r. ⌜ ((σ : Signature) → signatureOf (now (signature .entry)) ≡ some σ
+        → went r (now (outputs .exit)) (now (variables .exit)) ≡ followAt (now (lines .entry)) (now (code .entry)) (typeBytes (σ .inputs)) (typeBytes (types (σ .variables)))
+        (now (inputs .entry)) (suc (reachAt (now (lines .entry)) x)) x 0 (now (outputs .entry)) (now (variables .entry))) ⌝ }
+{
+    let most = image_walk::most(lines, x);
+    let mut kinds = [0u8; limit::VARIABLES];
+    let n = image_checks::types::variable_types(signature, &mut kinds);
+    image_walk::follow(
+        lines,
+        code,
+        x,
+        most,
+        inputs,
+        image_checks::types::input_types(signature),
+        first(&kinds, n),
+        outputs,
+        variables,
+    )
+}
+
 // Follows the lines from a place on.
 pub fn follow_from(
     signature: &[u8],
@@ -54,20 +87,7 @@ pub fn follow_from(
         → went r (now (outputs .exit)) (now (variables .exit)) ≡ ranFor t (now (lines .entry)) (now (code .entry)) place (now (inputs .entry)) (now (outputs .entry)) (now (variables .entry))) ⌝ }
 {
     let x = image_checks::lines::first_line(lines, place) as u32;
-    let limit = image_walk::field(lines, x, image_walk::REACH) + 1;
-    let mut kinds = [0u8; limit::VARIABLES];
-    let n = image_checks::types::variable_types(signature, &mut kinds);
-    image_walk::follow(
-        lines,
-        code,
-        x,
-        limit,
-        inputs,
-        image_checks::types::input_types(signature),
-        first(&kinds, n),
-        outputs,
-        variables,
-    )
+    follow_line(signature, lines, code, x, inputs, outputs, variables)
 }
 
 // A performed cycle: the wait reached, what was counted, and the slots. No line of an opened image is that high.

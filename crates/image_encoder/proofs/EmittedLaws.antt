@@ -10,11 +10,12 @@ use lib.Seq.{sets}
 use lib.Dec.{eqb}
 use lib.IntN.{ℤ, pos}
 use Rattle.spec_design.specs.Types.{Ty, ExprTy}
-use Rattle.spec_design.specs.Expression.{Leaf, int, bit, input, variable, Unary, sign, invert, Binary, plus, minus, equal, unequal, less, at-most, greater, at-least, and, or, xor, times, divide, modulo, remainder, Expr, leaf, unary, binary, leafType, unaryType, binaryType, typeOf}
+use Rattle.spec_design.specs.Expression.{Leaf, int, bit, input, variable, Unary, sign, invert, Binary, plus, minus, equal, unequal, less, at-most, greater}
+use Rattle.spec_design.specs.Expression.{at-least, and, or, xor, times, divide, modulo, remainder, Expr, leaf, unary, binary, leafType, unaryType, binaryType}
+use Rattle.spec_design.specs.Expression.{typeOf}
 use Rattle.spec_design.proofs.Postfix.{Steps, lay-whole}
 use Rattle.spec_semantics.specs.Twos.{unsigned32}
 use Rattle.spec_format.specs.Words as Words
-use Rattle.spec_format.specs.Image.{raw, rawBytes}
 use Rattle.spec_format.specs.Code.{Operation, push, apply1, apply2, post, operationBytes, code}
 use Rattle.spec_design.specs.Process.{fits}
 use Rattle.spec_format.proofs.Encoded.{operation-append}
@@ -155,23 +156,6 @@ pub put-two : (l : List ℕ) (at : ℕ) {m k : List ℕ} {b₀ b₁ v₀ v₁ : 
 put-two l at {m} {k} {b₀} {b₁} {v₀} {v₁} e g p q =
     put-after l at (v₀ ∷ []) (v₁ ∷ []) (p ∙ ap (λ (w : ℕ). set l at w) e) (q ∙ ap (λ (w : ℕ). set m (at + 1) w) g)
 
-pub put-four : (l : List ℕ) (at : ℕ) {m n o k : List ℕ} {b₀ b₁ b₂ b₃ v₀ v₁ v₂ v₃ : ℕ} → b₀ ≡ v₀ → b₁ ≡ v₁ → b₂ ≡ v₂ → b₃ ≡ v₃
-    → m ≡ set l at b₀ → n ≡ set m (at + 1) b₁ → o ≡ set n (at + 2) b₂ → k ≡ set o (at + 3) b₃ → k ≡ sets l at (v₀ ∷ v₁ ∷ v₂ ∷ v₃ ∷ [])
-put-four l at {m} {n} {o} {k} {b₀} {b₁} {b₂} {b₃} {v₀} {v₁} {v₂} {v₃} e₀ e₁ e₂ e₃ p₀ p₁ p₂ p₃ =
-    let z : at + 3 ≡ at + 2 + 1 = omega arith in
-    put-after l at (v₀ ∷ v₁ ∷ []) (v₂ ∷ v₃ ∷ []) (put-two l at e₀ e₁ p₀ p₁) (put-two n (at + 2) e₂ e₃ p₂ (p₃ ∙ ap (λ (i : ℕ). set o i b₃) z))
-
 pub put-cell : (l : List ℕ) (at kind : ℕ) {m k : List ℕ} {w v : ℕ} → m ≡ set l at kind → k ≡ sets m (at + 1) (Words.bytes4 w) → w ≡ v
     → k ≡ sets l at (kind ∷ Words.bytes4 v)
 put-cell l at kind {m} {k} {w} {v} p q e = put-after l at (kind ∷ []) (Words.bytes4 v) p (q ∙ ap (λ (i : ℕ). sets m (at + 1) (Words.bytes4 i)) e)
-
-pub put-line : (l : List ℕ) (at kind target offset size next other reach : ℕ) {m n o p q r s : List ℕ} → m ≡ set l at kind → n ≡ set m (at + 1) target
-    → o ≡ sets n (at + 2) (Words.bytes2 offset) → p ≡ sets o (at + 4) (Words.bytes2 size) → q ≡ sets p (at + 6) (Words.bytes2 next)
-    → r ≡ sets q (at + 8) (Words.bytes2 other) → s ≡ sets r (at + 10) (Words.bytes2 reach)
-    → s ≡ sets l at (rawBytes (raw kind target offset size next other reach))
-put-line l at kind target offset size next other reach a b c d e f g =
-    put-after l at (kind ∷ target ∷ (Words.bytes2 offset ++ (Words.bytes2 size ++ (Words.bytes2 next ++ Words.bytes2 other)))) (Words.bytes2 reach)
-    (put-after l at (kind ∷ target ∷ (Words.bytes2 offset ++ (Words.bytes2 size ++ Words.bytes2 next))) (Words.bytes2 other)
-    (put-after l at (kind ∷ target ∷ (Words.bytes2 offset ++ Words.bytes2 size)) (Words.bytes2 next)
-    (put-after l at (kind ∷ target ∷ Words.bytes2 offset) (Words.bytes2 size)
-    (put-after l at (kind ∷ target ∷ []) (Words.bytes2 offset) (put-two l at refl refl a b) c) d) e) f) g

@@ -8,11 +8,13 @@ use lib.Seq.{sets}
 use lib.IntN.{ℤ, pos}
 use Rattle.spec_format.specs.Words.{bytes2, bytes4}
 use Rattle.spec_semantics.specs.Twos.{unsigned32}
-use Rattle.spec_format.specs.Image.{raw, rawBytes, rawsBytes}
-use Rattle.base_ir.specs.Arrays.{rowIn}
+use Rattle.spec_format.specs.Image.{rawBytes, rawsBytes}
+use Rattle.base_ir.specs.declared.Declared.{Declared}
+use Rattle.base_ir.specs.Arrays.{Row, rowIn}
 use Rattle.image_flow.specs.Followers.{links}
 use Rattle.base_codes.specs.Operation.{widthOf}
-use Rattle.image_encoder.specs.Emitted.{opBytes, codeFrom, widthFrom, runWidth, kindByte, lineAt, linesFrom, typesFrom, cellsFrom, signatureWith, headerOf}
+use Rattle.image_encoder.specs.Emitted.{opBytes, codeFrom, widthFrom, runWidth, kindByte, lineAt, linesFrom, typesFrom, cellsFrom, slotsFrom}
+use Rattle.image_encoder.specs.Emitted.{signatureFrom, signatureSize, linesSize, sectionsOf, headerOf}
 use Rattle.image_flow.proofs.Sets.{sets-append}
 use Rattle.image_encoder.proofs.EmittedLaws.{put-after, width-op}
 
@@ -105,31 +107,20 @@ width-done codes i n f a h e =
 
 -- n lines
 
-pub lines-again : (codes rows next other r l : List ℕ) {m : List ℕ} (at j n p : ℕ) {w a b q f g : ℕ} → j < n → a ≡ getD rows (6 * j + 2) 0
-    → b ≡ getD rows (6 * j + 3) 0 → w ≡ runWidth codes a b
+-- the bytes of a statement's code
+pub run-held : (codes : List ℕ) {a b i j w : ℕ} → a ≡ i → b ≡ j → w ≡ runWidth codes a b → w ≡ runWidth codes i j
+run-held codes p q e = rw (← p, ← q) e
+
+pub lines-again : (codes rows next other r l : List ℕ) {m : List ℕ} (at j n p : ℕ) {w f g q : ℕ} → j < n
+    → w ≡ runWidth codes (rowIn rows j .from) (rowIn rows j .to)
     → f ≡ getD next j 0 → g ≡ getD other j 0 → q ≡ getD r j 0 → m ≡ sets l (at + 12 * j) (rawBytes (lineAt (rowIn rows j) p w f g q))
     → sets m (at + 12 * (j + 1)) (rawsBytes (linesFrom codes rows (links next other) r (j + 1) (n - (j + 1)) (p + w))) ≡ sets l (at + 12 * j)
     (rawsBytes (linesFrom codes rows (links next other) r j (n - j) p))
 unfolding linesFrom rawsBytes
-lines-again codes rows next other r l {m} at j n p {w} {a} {b} {q} {f} {g} h ea eb ew ef eg eq e =
+lines-again codes rows next other r l {m} at j n p {w} {f} {g} {q} h ew ef eg eq e =
     let z : n - j ≡ suc (n - (j + 1)) = omega arith in
-    let w′ : w ≡ runWidth codes (getD rows (6 * j + 2) 0) (getD rows (6 * j + 3) 0) = ew ∙ both ea eb in
-    rw z (ap (λ (i : ℕ). sets m (at + 12 * (j + 1)) (rawsBytes (linesFrom codes rows (links next other) r (j + 1) (n - (j + 1)) (p + i)))) w′
-    ∙ again l m (at + 12 * j) (at + 12 * (j + 1))
-    (rawBytes (lineAt (rowIn rows j) p (runWidth codes (getD rows (6 * j + 2) 0) (getD rows (6 * j + 3) 0)) (getD next j 0) (getD other j 0) (getD r j 0)))
-    (rawsBytes (linesFrom codes rows (links next other) r (j + 1) (n - (j + 1)) (p + runWidth codes (getD rows (6 * j + 2) 0) (getD rows (6 * j + 3) 0))))
-    (e ∙ same w′ ef eg eq) (omega arith))
-  where
-    both : {a a′ b b′ : ℕ} → a ≡ a′ → b ≡ b′ → runWidth codes a b ≡ runWidth codes a′ b′
-    both {a} {a′} {b} {b′} u v = ap (λ (i : ℕ). runWidth codes i b) u ∙ ap (λ (i : ℕ). runWidth codes a′ i) v
-
-    same : {w w′ f f′ g g′ q q′ : ℕ} → w ≡ w′ → f ≡ f′ → g ≡ g′ → q ≡ q′
-        → sets l (at + 12 * j) (rawBytes (lineAt (rowIn rows j) p w f g q)) ≡ sets l (at + 12 * j) (rawBytes (lineAt (rowIn rows j) p w′ f′ g′ q′))
-    same {w} {w′} {f} {f′} {g} {g′} {q} {q′} s t u v =
-        ap (λ (i : ℕ). sets l (at + 12 * j) (rawBytes (lineAt (rowIn rows j) p i f g q))) s
-        ∙ ap (λ (i : ℕ). sets l (at + 12 * j) (rawBytes (lineAt (rowIn rows j) p w′ i g q))) t
-        ∙ ap (λ (i : ℕ). sets l (at + 12 * j) (rawBytes (lineAt (rowIn rows j) p w′ f′ i q))) u
-        ∙ ap (λ (i : ℕ). sets l (at + 12 * j) (rawBytes (lineAt (rowIn rows j) p w′ f′ g′ i))) v
+    rw (z, ← ew, ← ef, ← eg, ← eq) (again l m (at + 12 * j) (at + 12 * (j + 1)) (rawBytes (lineAt (rowIn rows j) p w f g q))
+    (rawsBytes (linesFrom codes rows (links next other) r (j + 1) (n - (j + 1)) (p + w))) e (omega arith))
 
 pub lines-done : (codes rows next other r l l₀ : List ℕ) (at j n p : ℕ) → n ≤ j
     → sets l (at + 12 * j) (rawsBytes (linesFrom codes rows (links next other) r j (n - j) p)) ≡ sets l₀ (at + 12 * 0)
@@ -142,27 +133,26 @@ lines-done codes rows next other r l l₀ at j n p h e =
     let x : at + 12 * 0 ≡ at = omega arith in
     rw (z, y, x) at e
 
--- the header's numbers
+-- the places of the sections
 
-pub header-made : (l : List ℕ) (s k c : ℕ) {m₁ m₂ m₃ m₄ m₅ m₆ m₇ m₈ : List ℕ} → m₁ ≡ sets l 0 (bytes2 1) → m₂ ≡ sets m₁ 2 (bytes2 3)
-    → m₃ ≡ sets m₂ 4 (bytes4 28) → m₄ ≡ sets m₃ 8 (bytes4 s)
-    → m₅ ≡ sets m₄ 12 (bytes4 (28 + s)) → m₆ ≡ sets m₅ 16 (bytes4 k) → m₇ ≡ sets m₆ 20 (bytes4 (28 + s + k)) → m₈ ≡ sets m₇ 24 (bytes4 c)
-    → m₈ ≡ sets l 0 (headerOf s k c)
-header-made l s k c e₁ e₂ e₃ e₄ e₅ e₆ e₇ e₈ =
-    put-after l 0 (bytes2 1 ++ (bytes2 3 ++ (bytes4 28 ++ (bytes4 s ++ (bytes4 (28 + s) ++ (bytes4 k ++ bytes4 (28 + s + k))))))) (bytes4 c)
-    (put-after l 0 (bytes2 1 ++ (bytes2 3 ++ (bytes4 28 ++ (bytes4 s ++ (bytes4 (28 + s) ++ bytes4 k))))) (bytes4 (28 + s + k))
-    (put-after l 0 (bytes2 1 ++ (bytes2 3 ++ (bytes4 28 ++ (bytes4 s ++ bytes4 (28 + s))))) (bytes4 k)
-    (put-after l 0 (bytes2 1 ++ (bytes2 3 ++ (bytes4 28 ++ bytes4 s))) (bytes4 (28 + s))
-    (put-after l 0 (bytes2 1 ++ (bytes2 3 ++ bytes4 28)) (bytes4 s)
-    (put-after l 0 (bytes2 1 ++ bytes2 3) (bytes4 28)
-    (put-after l 0 (bytes2 1) (bytes2 3) e₁ e₂) e₃) e₄) e₅) e₆) e₇) e₈
+pub sections-made : (l : List ℕ) (s k c : ℕ) {m₁ m₂ m₃ : List ℕ} → m₁ ≡ sets l 4 (bytes4 28 ++ bytes4 s) → m₂ ≡ sets m₁ 12 (bytes4 (28 + s) ++ bytes4 k)
+    → m₃ ≡ sets m₂ 20 (bytes4 (28 + s + k) ++ bytes4 c) → m₃ ≡ sets l 4 (sectionsOf s k c)
+sections-made l s k c e₁ e₂ e₃ =
+    put-after l 4 (bytes4 28 ++ (bytes4 s ++ (bytes4 (28 + s) ++ bytes4 k))) (bytes4 (28 + s + k) ++ bytes4 c)
+    (put-after l 4 (bytes4 28 ++ bytes4 s) (bytes4 (28 + s) ++ bytes4 k) e₁ e₂) e₃
 
--- the line of a statement, from what the code reads
-pub row-made : (rows l : List ℕ) {m : List ℕ} (at j p s f g q : ℕ) {k b t : ℕ} → k ≡ getD rows (6 * j) 0 → b ≡ kindByte k → t ≡ getD rows (6 * j + 1) 0
-    → m ≡ sets l at (rawBytes (raw b (t % 256) p s f g q)) → m ≡ sets l at (rawBytes (lineAt (rowIn rows j) p s f g q))
-row-made rows l {m} at j p s f g q {k} {b} {t} ek eb et e =
-    e ∙ ap (λ (i : ℕ). sets l at (rawBytes (raw i (t % 256) p s f g q))) (eb ∙ ap (λ (i : ℕ). kindByte i) ek)
-    ∙ ap (λ (i : ℕ). sets l at (rawBytes (raw (kindByte (getD rows (6 * j) 0)) (i % 256) p s f g q))) et
+-- a line's followers and its reach
+pub followers-made : (l : List ℕ) (at f g q : ℕ) {m₁ m₂ : List ℕ} → m₁ ≡ sets l (at + 6) (bytes2 f ++ bytes2 g) → m₂ ≡ sets m₁ (at + 10) (bytes2 q)
+    → m₂ ≡ sets l (at + 6) (bytes2 f ++ (bytes2 g ++ bytes2 q))
+followers-made l at f g q {m₁} e₁ e₂ = e₂ ∙ again l m₁ (at + 6) (at + 10) (bytes2 f ++ bytes2 g) (bytes2 q) e₁ (omega arith)
+
+-- the line of a statement, from its parts
+pub row-made : (l : List ℕ) (r : Row) (at p s f g q : ℕ) {m₁ m₂ m₃ : List ℕ} → m₁ ≡ sets l at (kindByte (r .kind) ∷ r .target % 256 ∷ [])
+    → m₂ ≡ sets m₁ (at + 2) (bytes2 p ++ bytes2 s) → m₃ ≡ sets m₂ (at + 6) (bytes2 f ++ (bytes2 g ++ bytes2 q))
+    → m₃ ≡ sets l at (rawBytes (lineAt r p s f g q))
+row-made l r at p s f g q e₁ e₂ e₃ =
+    put-after l at (kindByte (r .kind) ∷ r .target % 256 ∷ (bytes2 p ++ bytes2 s)) (bytes2 f ++ (bytes2 g ++ bytes2 q))
+    (put-after l at (kindByte (r .kind) ∷ r .target % 256 ∷ []) (bytes2 p ++ bytes2 s) e₁ e₂) e₃
 
 -- the signature's parts
 
@@ -176,17 +166,26 @@ unfolding cellsFrom
 cells-length l v k zero = refl
 cells-length l v k (suc c) = let h = cells-length l v (k + 1) c in omega arith
 
-pub signature-made : (l is os vs : List ℕ) (ao av : List ℤ) (i o v : ℕ) {m₁ m₂ m₃ m₄ m₅ m₆ : List ℕ} → m₁ ≡ set l 28 i → m₂ ≡ set m₁ 29 o → m₃ ≡ set m₂ 30 v
-    → m₄ ≡ sets m₃ 31 (typesFrom is 0 i) → m₅ ≡ sets m₄ (31 + i) (cellsFrom os ao 0 o) → m₆ ≡ sets m₅ (31 + i + 5 * o) (cellsFrom vs av 0 v)
-    → m₆ ≡ sets l 28 (signatureWith is os vs ao av i o v)
-signature-made l is os vs ao av i o v {m₁} {m₂} {m₃} {m₄} {m₅} {m₆} e₁ e₂ e₃ e₄ e₅ e₆ =
-    let t = types-length is 0 i in
-    let c = cells-length os ao 0 o in
-    let n = length-append (typesFrom is 0 i) (cellsFrom os ao 0 o) in
-    let x : 31 + i ≡ 28 + length (i ∷ o ∷ v ∷ typesFrom is 0 i) = omega arith in
-    let y : 31 + i + 5 * o ≡ 28 + length (i ∷ o ∷ v ∷ (typesFrom is 0 i ++ cellsFrom os ao 0 o)) = omega arith in
-    put-after l 28 (i ∷ o ∷ v ∷ (typesFrom is 0 i ++ cellsFrom os ao 0 o)) (cellsFrom vs av 0 v)
-    (put-after l 28 (i ∷ o ∷ v ∷ typesFrom is 0 i) (cellsFrom os ao 0 o)
-    (put-after l 28 (i ∷ o ∷ v ∷ []) (typesFrom is 0 i) (put-after l 28 (i ∷ o ∷ []) (v ∷ []) (put-after l 28 (i ∷ []) (o ∷ []) e₁ e₂) e₃) e₄)
-    (e₅ ∙ ap (λ (k : ℕ). sets m₄ k (cellsFrom os ao 0 o)) x)) (e₆ ∙ ap (λ (k : ℕ). sets m₅ k (cellsFrom vs av 0 v)) y)
-    ∙ ap (λ (w : List ℕ). sets l 28 (i ∷ o ∷ v ∷ w)) (append-assoc (typesFrom is 0 i) (cellsFrom os ao 0 o) (cellsFrom vs av 0 v))
+module _ (l : List ℕ) (d : Declared) {m₁ m₂ : List ℕ} where
+  -- the variables behind the outputs
+  pub slots-made : (at : ℕ) → m₁ ≡ sets l at (cellsFrom (d .outputs .types) (d .outputs .values) 0 (d .outputs .count))
+      → m₂ ≡ sets m₁ (at + 5 * d .outputs .count) (cellsFrom (d .variables .types) (d .variables .values) 0 (d .variables .count))
+      → m₂ ≡ sets l at (slotsFrom d)
+  slots-made at e₁ e₂ = e₂ ∙ again l m₁ at (at + 5 * d .outputs .count) (cellsFrom (d .outputs .types) (d .outputs .values) 0 (d .outputs .count))
+      (cellsFrom (d .variables .types) (d .variables .values) 0 (d .variables .count)) e₁
+      (ap (λ (k : ℕ). at + k) (sym (cells-length (d .outputs .types) (d .outputs .values) 0 (d .outputs .count))))
+
+  -- the counts, the types of the inputs, and those
+  pub signature-made : {m₃ : List ℕ} → m₁ ≡ sets l 28 (d .inputs .count ∷ d .outputs .count ∷ d .variables .count ∷ [])
+      → m₂ ≡ sets m₁ 31 (typesFrom (d .inputs .types) 0 (d .inputs .count)) → m₃ ≡ sets m₂ (31 + d .inputs .count) (slotsFrom d)
+      → m₃ ≡ sets l 28 (signatureFrom d)
+  signature-made e₁ e₂ e₃ =
+      put-after l 28 (d .inputs .count ∷ d .outputs .count ∷ d .variables .count ∷ []) (typesFrom (d .inputs .types) 0 (d .inputs .count) ++ slotsFrom d) e₁
+      (e₃ ∙ again m₁ m₂ 31 (31 + d .inputs .count) (typesFrom (d .inputs .types) 0 (d .inputs .count)) (slotsFrom d) e₂
+      (ap (λ (k : ℕ). 31 + k) (sym (types-length (d .inputs .types) 0 (d .inputs .count)))))
+
+  -- the signature behind the header
+  pub front-made : (c : ℕ) {s : ℕ} → s ≡ signatureSize d → m₁ ≡ sets l 0 (headerOf s (linesSize d) c) → m₂ ≡ sets m₁ 28 (signatureFrom d)
+      → m₂ ≡ sets l 0 (headerOf (signatureSize d) (linesSize d) c ++ signatureFrom d)
+  front-made c e e₁ e₂ =
+      put-after l 0 (headerOf (signatureSize d) (linesSize d) c) (signatureFrom d) (e₁ ∙ ap (λ (k : ℕ). sets l 0 (headerOf k (linesSize d) c)) e) e₂

@@ -27,8 +27,9 @@ use Rattle.base_ir.proofs.Held.{entries-size, at-whole}
 use Rattle.image_encoder.specs.declared.Encoded.the-variants.{Written, TooShort}
 use Rattle.image_flow.specs.Followers.{Links, stored, Followed}
 use Rattle.image_flow.specs.Reaches.{Reached}
-use Rattle.image_encoder.specs.Emitted.{codeFrom, widthFrom, runWidth, linesFrom, typesFrom, cellsFrom, signatureWith, signatureFrom, signatureSize, linesSize, headerOf}
-use Rattle.image_encoder.specs.Outcome.{encodedTold, LinesStored, Encodes}
+use Rattle.image_encoder.specs.Emitted.{codeFrom, widthFrom, runWidth, linesFrom, typesFrom, cellsFrom, slotsFrom, signatureFrom, signatureSize}
+use Rattle.image_encoder.specs.Emitted.{linesSize, headerOf}
+use Rattle.image_encoder.specs.Outcome.{encodedTold, linesBytes, LinesStored, BodyStored, Encodes}
 use Rattle.image_flow.proofs.Sets.{getD-sets-in}
 use Rattle.image_flow.proofs.ReachesLaws.{link-next-is, link-other-is}
 use Rattle.image_encoder.proofs.EmittedLaws.{put-after, code-flat, width-code, flatBytes}
@@ -83,35 +84,27 @@ cells-count [] = refl
 cells-count (s ∷ l) = ap suc (cells-count l)
 
 -- the signature of the declarations
-signature-of : (p : Process) (is os vs : List ℕ) (ao av : List ℤ) (i o v : ℕ) → TypesIn (sourceTypes (p .inputs)) is i → TypesIn (slotTypes (p .outputs)) os o
-    → TypesIn (slotTypes (p .variables)) vs v
-    → ValuesIn (initials (p .outputs)) ao o → ValuesIn (initials (p .variables)) av v → signatureWith is os vs ao av i o v ≡ signatureBytes (signatureFor p)
-unfolding signatureBytes signatureFor
-signature-of p is os vs ao av i o v hi ho hv fo fv =
-    let ei : length (sourceTypes (p .inputs)) ≡ i = hi .0 in
-    let eo : length (p .outputs) ≡ o = sym (length-map (p .outputs) (λ (s : Slot). s .type)) ∙ ho .0 in
-    let ev : length (p .variables) ≡ v = sym (length-map (p .variables) (λ (s : Slot). s .type)) ∙ hv .0 in
-    let t : typesFrom is 0 i ≡ typeBytes (sourceTypes (p .inputs)) = by-types (sourceTypes (p .inputs)) is i ei (hi .1) in
-    let c : cellsFrom os ao 0 o ≡ cellBytes (cells (p .outputs)) = by-cells (p .outputs) os ao o eo (ho .1) (fo .1) in
-    let d : cellsFrom vs av 0 v ≡ cellBytes (cells (p .variables)) = by-cells (p .variables) vs av v ev (hv .1) (fv .1) in
-    cons-both (sym ei) (cons-both (sym eo ∙ sym (cells-count (p .outputs))) (cons-both (sym ev ∙ sym (cells-count (p .variables)))
-    (ap (λ (w : List ℕ). w ++ (cellsFrom os ao 0 o ++ cellsFrom vs av 0 v)) t
-    ∙ ap (λ (w : List ℕ). typeBytes (sourceTypes (p .inputs)) ++ (w ++ cellsFrom vs av 0 v)) c
-    ∙ ap (λ (w : List ℕ). typeBytes (sourceTypes (p .inputs)) ++ (cellBytes (cells (p .outputs)) ++ w)) d)))
-  where
-    by-types : (ts : List Ty) (l : List ℕ) (n : ℕ) → length ts ≡ n → take n l ≡ map typeByte ts → typesFrom l 0 n ≡ typeBytes ts
-    by-types ts l n e g = ap (λ (k : ℕ). typesFrom l 0 k) (sym e) ∙ types-held ts l 0 (ap (λ (k : ℕ). take k l) e ∙ g)
-
-    by-cells : (ss : List Slot) (l : List ℕ) (z : List ℤ) (n : ℕ) → length ss ≡ n → take n l ≡ map typeByte (slotTypes ss) → take n z ≡ initials ss
-        → cellsFrom l z 0 n ≡ cellBytes (cells ss)
-    by-cells ss l z n e g f =
-        ap (λ (k : ℕ). cellsFrom l z 0 k) (sym e) ∙ cells-held ss l z 0 (ap (λ (k : ℕ). take k l) e ∙ g) (ap (λ (k : ℕ). take k z) e ∙ f)
-
 signature-held : {p : Process} {d : Declared} → NamesIn p d → signatureFrom d ≡ signatureBytes (signatureFor p)
+unfolding signatureBytes signatureFor
 signature-held {p} {d} h =
-    signature-of p (d .inputs .types) (d .outputs .types) (d .variables .types) (d .outputs .values) (d .variables .values) (d .inputs .count)
-    (d .outputs .count) (d .variables .count)
-    (h .inputs) (h .outputs) (h .variables) (h .first-outputs) (h .first-variables)
+    let ei : length (sourceTypes (p .inputs)) ≡ d .inputs .count = h .inputs .0 in
+    let eo : length (p .outputs) ≡ d .outputs .count = sym (length-map (p .outputs) (λ (s : Slot). s .type)) ∙ h .outputs .0 in
+    let ev : length (p .variables) ≡ d .variables .count = sym (length-map (p .variables) (λ (s : Slot). s .type)) ∙ h .variables .0 in
+    cons-both (sym ei) (cons-both (sym eo ∙ sym (cells-count (p .outputs))) (cons-both (sym ev ∙ sym (cells-count (p .variables)))
+    (append-both (by-types (sourceTypes (p .inputs)) (d .inputs .types) ei (h .inputs .1))
+    (append-both (by-cells (p .outputs) (d .outputs .types) (d .outputs .values) eo (h .outputs .1) (h .first-outputs .1))
+    (by-cells (p .variables) (d .variables .types) (d .variables .values) ev (h .variables .1) (h .first-variables .1))))))
+  where
+    append-both : {a b c e : List ℕ} → a ≡ b → c ≡ e → a ++ c ≡ b ++ e
+    append-both f g = cc
+
+    by-types : (ts : List Ty) (l : List ℕ) {n : ℕ} → length ts ≡ n → take n l ≡ map typeByte ts → typesFrom l 0 n ≡ typeBytes ts
+    by-types ts l e g = ap (λ (k : ℕ). typesFrom l 0 k) (sym e) ∙ types-held ts l 0 (ap (λ (k : ℕ). take k l) e ∙ g)
+
+    by-cells : (ss : List Slot) (l : List ℕ) (z : List ℤ) {n : ℕ} → length ss ≡ n → take n l ≡ map typeByte (slotTypes ss) → take n z ≡ initials ss
+        → cellsFrom l z 0 n ≡ cellBytes (cells ss)
+    by-cells ss l z e g f =
+        ap (λ (k : ℕ). cellsFrom l z 0 k) (sym e) ∙ cells-held ss l z 0 (ap (λ (k : ℕ). take k l) e ∙ g) (ap (λ (k : ℕ). take k z) e ∙ f)
 
 -- THE BODY
 
@@ -171,75 +164,72 @@ code-held {p} {codes} {args} {rows} {k} {n} b w =
 -- THE WHOLE
 
 -- an image from its three sections
-encode-is : (p : Process) → encode p ≡ headerOf (length (signatureBytes (signatureFor p)))
-    (length (rawsBytes (rawsOf 0 (linesOf (p .body)) (reachesOf (p .body))))) (length (linesCode (linesOf (p .body))))
-    ++ (signatureBytes (signatureFor p) ++ (rawsBytes (rawsOf 0 (linesOf (p .body)) (reachesOf (p .body))) ++ linesCode (linesOf (p .body))))
+encode-is : (p : Process) → encode p ≡ headerOf (length (signatureBytes (signatureFor p))) (length (linesBytes p)) (length (linesCode (linesOf (p .body))))
+    ++ (signatureBytes (signatureFor p) ++ (linesBytes p ++ linesCode (linesOf (p .body))))
 unfolding encode encodeTable form1 sectionsFor tableOf image pairs joined
-encode-is p = ap (λ (w : List ℕ). headerOf (length (signatureBytes (signatureFor p))) (length (rawsBytes (rawsOf 0 (linesOf (p .body)) (reachesOf (p .body)))))
-    (length (linesCode (linesOf (p .body))))
-    ++ (signatureBytes (signatureFor p) ++ (rawsBytes (rawsOf 0 (linesOf (p .body)) (reachesOf (p .body))) ++ w))) (append-nil (linesCode (linesOf (p .body))))
+encode-is p =
+    ap (λ (w : List ℕ). headerOf (length (signatureBytes (signatureFor p))) (length (linesBytes p)) (length (linesCode (linesOf (p .body))))
+    ++ (signatureBytes (signatureFor p) ++ (linesBytes p ++ w))) (append-nil (linesCode (linesOf (p .body))))
 
 -- how long the sections are
-with-length : (is os vs : List ℕ) (ao av : List ℤ) (i o v : ℕ) → length (signatureWith is os vs ao av i o v) ≡ 3 + i + 5 * o + 5 * v
-with-length is os vs ao av i o v =
-    let a = types-length is 0 i in
-    let b = cells-length os ao 0 o in
-    let c = cells-length vs av 0 v in
-    let d = length-append (typesFrom is 0 i) (cellsFrom os ao 0 o ++ cellsFrom vs av 0 v) in
-    let e = length-append (cellsFrom os ao 0 o) (cellsFrom vs av 0 v) in
+signature-length : (d : Declared) → length (signatureFrom d) ≡ signatureSize d
+signature-length d =
+    let a = types-length (d .inputs .types) 0 (d .inputs .count) in
+    let b = cells-length (d .outputs .types) (d .outputs .values) 0 (d .outputs .count) in
+    let c = cells-length (d .variables .types) (d .variables .values) 0 (d .variables .count) in
+    let x = length-append (typesFrom (d .inputs .types) 0 (d .inputs .count)) (slotsFrom d) in
+    let y = length-append (cellsFrom (d .outputs .types) (d .outputs .values) 0 (d .outputs .count))
+    (cellsFrom (d .variables .types) (d .variables .values) 0 (d .variables .count)) in
     omega arith
 
-signature-length : (d : Declared) → length (signatureFrom d) ≡ signatureSize d
-signature-length d = with-length (d .inputs .types) (d .outputs .types) (d .variables .types) (d .outputs .values) (d .variables .values) (d .inputs .count)
-    (d .outputs .count) (d .variables .count)
-
 lines-length : {p : Process} {codes : List ℕ} {args : List ℤ} {rows : List ℕ} {k n : ℕ} → BodyIn p codes args rows k n
-    → length (rawsBytes (rawsOf 0 (linesOf (p .body)) (reachesOf (p .body)))) ≡ 12 * n
+    → length (linesBytes p) ≡ 12 * n
 lines-length {p} b =
     let l = linesOf-length (p .body) in
     let c = body-count b in
     let h = raws-length 0 (linesOf (p .body)) (reachesOf (p .body)) (reachesOf-length (p .body) ∙ sym l) in
     omega arith
 
-code-length : (codes : List ℕ) (args : List ℤ) (k c : ℕ) → k ≤ 16384 → c ≡ runWidth codes 0 k → length (codeFrom codes args 0 k) ≡ c
-code-length codes args k c h e =
-    let z : min k 16384 - 0 ≡ k = omega arith in sym (width-code codes args 0 k) ∙ ap (λ (n : ℕ). widthFrom codes 0 n) (sym z) ∙ sym e
+code-length : {p : Process} {codes : List ℕ} {args : List ℤ} {rows : List ℕ} {k n c : ℕ} → BodyIn p codes args rows k n → WellFormed p
+    → c ≡ runWidth codes 0 k → length (linesCode (linesOf (p .body))) ≡ c
+code-length {p} {codes} {args} {rows} {k} b w e =
+    let h = b .code .short in
+    let z : min k 16384 - 0 ≡ k = omega arith in
+    ap length (sym (code-held b w)) ∙ (sym (width-code codes args 0 k) ∙ ap (λ (n : ℕ). widthFrom codes 0 n) (sym z) ∙ sym e)
+
+-- the lines and the code one behind another
+pub body-stored : (codes : List ℕ) (args : List ℤ) (rows : List ℕ) (k n at : ℕ) (b : List ℕ) {m₁ m₂ : List ℕ} → LinesStored codes rows n at b m₁
+    → m₂ ≡ sets m₁ (at + 12 * n) (codeFrom codes args 0 k) → BodyStored codes args rows k n at b m₂
+body-stored codes args rows k n at b {m₁} e₁ e₂ p held w =
+    put-after b at (linesBytes p) (linesCode (linesOf (p .body))) (e₁ p args k held w)
+    (e₂ ∙ ap (λ (i : ℕ). sets m₁ (at + i) (codeFrom codes args 0 k)) (sym (lines-length held))
+    ∙ ap (λ (l : List ℕ). sets m₁ (at + length (linesBytes p)) l) (code-held held w))
+
+-- header and signature of a design whose code has c bytes
+abbrev front : Declared → ℕ → List ℕ
+front d c = headerOf (signatureSize d) (linesSize d) c ++ signatureFrom d
 
 -- the image, with its sections as they are held
-image-held : {p : Process} {codes : List ℕ} {args : List ℤ} {rows : List ℕ} {d : Declared} (c : ℕ) → Holds p d codes args rows → WellFormed p
-    → c ≡ runWidth codes 0 (d .operations)
-    → encode p ≡ headerOf (signatureSize d) (linesSize d) c
-    ++ (signatureFrom d ++ (rawsBytes (rawsOf 0 (linesOf (p .body)) (reachesOf (p .body))) ++ codeFrom codes args 0 (d .operations)))
-image-held {p} {codes} {args} {rows} {d} c h w e =
-    encode-is p ∙ same (sym (signature-held (h .declared))) (sym (code-held (h .body) w)) (signature-length d) (lines-length (h .body))
-    (code-length codes args (d .operations) c (h .body .code .short) e)
+image-held : {p : Process} {codes : List ℕ} {args : List ℤ} {rows : List ℕ} {d : Declared} {c : ℕ} → Holds p d codes args rows → WellFormed p
+    → c ≡ runWidth codes 0 (d .operations) → encode p ≡ front d c ++ (linesBytes p ++ linesCode (linesOf (p .body)))
+image-held {p} {codes} {args} {rows} {d} {c} h w e =
+    encode-is p ∙ same (linesBytes p ++ linesCode (linesOf (p .body))) (signature-held (h .declared)) (signature-length d) (lines-length (h .body))
+    (code-length (h .body) w e)
   where
-    same : {s s′ d d′ : List ℕ} {a l c : ℕ} → s ≡ s′ → d ≡ d′ → length s′ ≡ a → length (rawsBytes (rawsOf 0 (linesOf (p .body)) (reachesOf (p .body)))) ≡ l
-        → length d′ ≡ c
-        → headerOf (length s) (length (rawsBytes (rawsOf 0 (linesOf (p .body)) (reachesOf (p .body)))))
-        (length d) ++ (s ++ (rawsBytes (rawsOf 0 (linesOf (p .body)) (reachesOf (p .body))) ++ d))
-        ≡ headerOf a l c ++ (s′ ++ (rawsBytes (rawsOf 0 (linesOf (p .body)) (reachesOf (p .body))) ++ d′))
-    same {s} {s′} {d} {d′} {a} {l} {c} e₁ e₂ e₃ e₄ e₅ = rw (e₁, e₂, e₃, e₄, e₅)
+    same : (r : List ℕ) {s s′ : List ℕ} {a k l n c : ℕ} → s′ ≡ s → length s′ ≡ a → k ≡ l → n ≡ c
+        → headerOf (length s) k n ++ (s ++ r) ≡ headerOf a l c ++ (s′ ++ r)
+    same r e₁ e₂ e₃ e₄ = rw (← e₁, e₂, e₃, e₄)
 
 -- how long the image is
-image-length : (a l c : ℕ) (s r d : List ℕ) → length s ≡ a → length r ≡ l → length d ≡ c → length (headerOf a l c ++ (s ++ (r ++ d))) ≡ 28 + a + l + c
-image-length a l c s r d e f g =
-    let x = length-append s (r ++ d) in
-    let y = length-append r d in
-    omega arith
-
--- the bytes one behind another
-image-stored : (b : List ℕ) {m₁ m₂ m₃ m₄ : List ℕ} (a l c : ℕ) (s r d : List ℕ) → length s ≡ a → length r ≡ l → m₁ ≡ sets b 0 (headerOf a l c)
-    → m₂ ≡ sets m₁ 28 s → m₃ ≡ sets m₂ (28 + a) r
-    → m₄ ≡ sets m₃ (28 + a + l) d → m₄ ≡ sets b 0 (headerOf a l c ++ (s ++ (r ++ d)))
-image-stored b {m₁} {m₂} {m₃} {m₄} a l c s r d es er e₁ e₂ e₃ e₄ =
-    let x = length-append s r in
-    let y : 28 + a ≡ 0 + length (headerOf a l c ++ s) = omega arith in
-    let z : 28 + a + l ≡ 0 + length (headerOf a l c ++ (s ++ r)) = omega arith in
-    put-after b 0 (headerOf a l c ++ (s ++ r)) d
-    (put-after b 0 (headerOf a l c ++ s) r (put-after b 0 (headerOf a l c) s e₁ e₂) (e₃ ∙ ap (λ (k : ℕ). sets m₂ k r) y))
-    (e₄ ∙ ap (λ (k : ℕ). sets m₃ k d) z)
-    ∙ ap (λ (w : List ℕ). sets b 0 (headerOf a l c ++ w)) (append-assoc s r d)
+image-length : {p : Process} {codes : List ℕ} {args : List ℤ} {rows : List ℕ} {d : Declared} {c : ℕ} → Holds p d codes args rows → WellFormed p
+    → c ≡ runWidth codes 0 (d .operations) → length (encode p) ≡ 28 + signatureSize d + linesSize d + c
+image-length {p} {codes} {args} {rows} {d} {c} h w e =
+    let a = signature-length d in
+    let b = lines-length (h .body) in
+    let f = code-length (h .body) w e in
+    let x = length-append (signatureFrom d) (linesBytes p ++ linesCode (linesOf (p .body))) in
+    let y = length-append (linesBytes p) (linesCode (linesOf (p .body))) in
+    ap length (image-held h w e) ∙ omega arith
 
 -- the answer, where there is room and where there is not
 written : (i b a : List ℕ) (n : ℕ) → length i ≡ n → n ≤ length b → a ≡ sets b 0 i
@@ -253,29 +243,18 @@ short i b n e h = rw (short-written i b (omega arith)) (ap (refusal 10) (sym e),
 
 module _ (codes : List ℕ) (args : List ℤ) (rows : List ℕ) (d : Declared) where
   -- The buffer is too short.
-  pub write-short : (b : List ℕ) {s : ℕ} (c : ℕ) → s ≡ signatureSize d → c ≡ runWidth codes 0 (d .operations) → length b < 28 + s + linesSize d + c
+  pub write-short : (b : List ℕ) {s c : ℕ} → s ≡ signatureSize d → c ≡ runWidth codes 0 (d .operations) → length b < 28 + s + linesSize d + c
       → Encodes codes args rows d b b (TooShort (28 + s + linesSize d + c))
-  write-short b {s} c q e h p held w =
-      let l = image-length (signatureSize d) (linesSize d) c (signatureFrom d) (rawsBytes (rawsOf 0 (linesOf (p .body)) (reachesOf (p .body))))
-      (codeFrom codes args 0 (d .operations)) (signature-length d) (lines-length (held .body))
-      (code-length codes args (d .operations) c (held .body .code .short) e) in
-      short (encode p) b (28 + s + linesSize d + c) (ap length (image-held c held w e) ∙ (l ∙ ap (λ (k : ℕ). 28 + k + linesSize d + c) (sym q))) h
+  write-short b {s} {c} q e h p held w =
+      short (encode p) b (28 + s + linesSize d + c) (image-length held w e ∙ ap (λ (k : ℕ). 28 + k + linesSize d + c) (sym q)) h
 
   -- The image is stored.
-  pub write-done : (b : List ℕ) {m₁ m₂ m₃ m₄ : List ℕ} {s : ℕ} (c : ℕ) → s ≡ signatureSize d → c ≡ runWidth codes 0 (d .operations)
-      → 28 + s + linesSize d + c ≤ length b
-      → m₁ ≡ sets b 0 (headerOf s (linesSize d) c) → m₂ ≡ sets m₁ 28 (signatureFrom d) → LinesStored codes rows (d .statements) (28 + s) m₂ m₃
-      → m₄ ≡ sets m₃ (28 + s + linesSize d) (codeFrom codes args 0 (d .operations)) → Encodes codes args rows d b m₄ (Written (28 + s + linesSize d + c))
-  write-done b {m₁} {m₂} {m₃} {m₄} {s} c q e h e₁ e₂ e₃ e₄ p held w =
-      let f : length (signatureFrom d) ≡ s = signature-length d ∙ sym q in
-      let r = lines-length (held .body) in
-      let l = image-length s (linesSize d) c (signatureFrom d) (rawsBytes (rawsOf 0 (linesOf (p .body)) (reachesOf (p .body))))
-      (codeFrom codes args 0 (d .operations)) f r
-      (code-length codes args (d .operations) c (held .body .code .short) e) in
-      let is = image-held c held w e ∙ ap (λ (k : ℕ). headerOf k
-      (linesSize d) c ++ (signatureFrom d ++ (rawsBytes (rawsOf 0 (linesOf (p .body)) (reachesOf (p .body))) ++ codeFrom codes args 0 (d .operations))))
-      (sym q) in
-      written (encode p) b m₄ (28 + s + linesSize d + c) (ap length is ∙ l) h
-      (image-stored b s (linesSize d) c (signatureFrom d) (rawsBytes (rawsOf 0 (linesOf (p .body)) (reachesOf (p .body))))
-      (codeFrom codes args 0 (d .operations)) f r e₁ e₂
-      (e₃ p args (d .operations) (held .body) w) e₄ ∙ ap (λ (k : List ℕ). sets b 0 k) (sym is))
+  pub write-done : (b : List ℕ) {m₁ m₂ : List ℕ} {s c : ℕ} → s ≡ signatureSize d → c ≡ runWidth codes 0 (d .operations)
+      → 28 + s + linesSize d + c ≤ length b → m₁ ≡ sets b 0 (headerOf (signatureSize d) (linesSize d) c ++ signatureFrom d)
+      → BodyStored codes args rows (d .operations) (d .statements) (28 + s) m₁ m₂ → Encodes codes args rows d b m₂ (Written (28 + s + linesSize d + c))
+  write-done b {m₁} {m₂} {s} {c} q e h e₁ e₂ p held w =
+      let f = signature-length d in
+      let z : 28 + s ≡ 0 + length (front d c) = omega arith in
+      let r = linesBytes p ++ linesCode (linesOf (p .body)) in
+      written (encode p) b m₂ (28 + s + linesSize d + c) (image-length held w e ∙ ap (λ (k : ℕ). 28 + k + linesSize d + c) (sym q)) h
+      (put-after b 0 (front d c) r e₁ (e₂ p (held .body) w ∙ ap (λ (k : ℕ). sets m₁ k r) z) ∙ ap (λ (k : List ℕ). sets b 0 k) (sym (image-held held w e)))

@@ -59,15 +59,15 @@ unfoldable pub cellsFrom : List ℕ → List ℤ → ℕ → ℕ → List ℕ
 cellsFrom types values k zero = []
 cellsFrom types values k (suc c) = getD types k 0 ∷ (bytes4 (unsigned32 (getD values k (pos 0))) ++ cellsFrom types values (k + 1) c)
 
--- "bytes for the counts of data inputs .., outputs, variables ..; a type byte per input ..; for each output, then variable, type and .. initial value"
-abbrev pub signatureWith : List ℕ → List ℕ → List ℕ → List ℤ → List ℤ → ℕ → ℕ → ℕ → List ℕ
-signatureWith is os vs atOutputs atVariables i o v =
-    i ∷ o ∷ v ∷ (typesFrom is 0 i ++ (cellsFrom os atOutputs 0 o ++ cellsFrom vs atVariables 0 v))
+-- "for each output, then variable, type and .. initial value"
+abbrev pub slotsFrom : Declared → List ℕ
+slotsFrom d = cellsFrom (d .outputs .types) (d .outputs .values) 0 (d .outputs .count)
+    ++ cellsFrom (d .variables .types) (d .variables .values) 0 (d .variables .count)
 
+-- "bytes for the counts of data inputs .., outputs, variables ..; a type byte per input ..", and those
 abbrev pub signatureFrom : Declared → List ℕ
 signatureFrom d =
-    signatureWith (d .inputs .types) (d .outputs .types) (d .variables .types) (d .outputs .values) (d .variables .values) (d .inputs .count)
-    (d .outputs .count) (d .variables .count)
+    d .inputs .count ∷ d .outputs .count ∷ d .variables .count ∷ (typesFrom (d .inputs .types) 0 (d .inputs .count) ++ slotsFrom d)
 
 -- how many bytes these are, and those of the lines
 abbrev pub signatureSize : Declared → ℕ
@@ -76,7 +76,11 @@ signatureSize d = M.COUNTS + d .inputs .count + M.SLOT * d .outputs .count + M.S
 abbrev pub linesSize : Declared → ℕ
 linesSize d = M.LINE * d .statements
 
--- "Two-byte form 1, two-byte count 3, then pairs of four-byte offset and length", of sections of these lengths; "the first starts at byte 28, no gaps"
+-- "pairs of four-byte offset and length", of sections of these lengths; "the first starts at byte 28, no gaps"
+abbrev pub sectionsOf : ℕ → ℕ → ℕ → List ℕ
+sectionsOf s l c =
+    bytes4 M.HEADER ++ (bytes4 s ++ (bytes4 (M.HEADER + s) ++ (bytes4 l ++ (bytes4 (M.HEADER + s + l) ++ bytes4 c))))
+
+-- "Two-byte form 1, two-byte count 3, then pairs"
 abbrev pub headerOf : ℕ → ℕ → ℕ → List ℕ
-headerOf s l c = bytes2 M.FORM-1 ++ (bytes2 M.THREE
-    ++ (bytes4 M.HEADER ++ (bytes4 s ++ (bytes4 (M.HEADER + s) ++ (bytes4 l ++ (bytes4 (M.HEADER + s + l) ++ bytes4 c))))))
+headerOf s l c = bytes2 M.FORM-1 ++ (bytes2 M.THREE ++ sectionsOf s l c)

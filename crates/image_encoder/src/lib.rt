@@ -4,7 +4,7 @@ ghost use mathlib.Core.Bool.{false};
 ghost use Prim.Native.Nat.{_<_, _≤_};
 ghost use Rattle.base_ir.specs.Arrays.{Bounded};
 ghost use Rattle.image_encoder.specs.declared.Encoded.the-variants.{TooShort};
-ghost use Rattle.image_encoder.specs.Outcome.{LinesStored, Encodes, countsOk};
+ghost use Rattle.image_encoder.specs.Outcome.{LinesStored, BodyStored, Encodes, countsOk};
 use base_codes::image;
 use base_codes::limit;
 use base_codes::statement;
@@ -37,6 +37,23 @@ fn put_body(
     sections::put_lines(image, at, codes, rows, n, &next, &other, &reach);
 }
 
+// The lines section of n statements and, behind it, the code section of their k operations.
+fn put_statements(
+    image: &mut [u8],
+    at: usize,
+    codes: &[u8; limit::TEXT],
+    args: &[i32; limit::TEXT],
+    rows: &[u16; statement::ROWS],
+    k: usize,
+    n: usize,
+)
+    requires { ⌜ (at < 1000) × (k ≤ 16384) × (n ≤ 512) ⌝ }
+    ensures { λ _. ⌜ BodyStored (now (codes .entry)) (now (args .entry)) (now (rows .entry)) k n at (now (image .entry)) (now (image .exit)) ⌝ }
+{
+    put_body(image, at, codes, rows, n);
+    sections::put_code(image, at + image::LINE * n, codes, args, k);
+}
+
 // Encodes a design whose counts are within the limits.
 fn write_counted(
     codes: &[u8; limit::TEXT],
@@ -49,16 +66,21 @@ fn write_counted(
     ensures { λ r. ⌜ Encodes (now (codes .entry)) (now (args .entry)) (now (rows .entry)) d (now (image .entry)) (now (image .exit)) r ⌝ }
 {
     let s = sections::signature_size(d);
-    let l = image::LINE * d.statements;
     let c = sections::run_width(codes, 0, d.operations);
-    let size = image::HEADER + s + l + c;
+    let size = image::HEADER + s + image::LINE * d.statements + c;
     if image.len() < size {
         return Encoded::TooShort(size);
     }
-    sections::put_header(image, s, l, c);
-    sections::put_signature(image, d);
-    put_body(image, image::HEADER + s, codes, rows, d.statements);
-    sections::put_code(image, image::HEADER + s + l, codes, args, d.operations);
+    sections::put_front(image, d, c);
+    put_statements(
+        image,
+        image::HEADER + s,
+        codes,
+        args,
+        rows,
+        d.operations,
+        d.statements,
+    );
     Encoded::Written(size)
 }
 

@@ -1,18 +1,20 @@
 // The sections of an image stored into a buffer, each at its place: header, signature, lines, code.
 ghost use mathlib.Core.Path.{_≡_};
-ghost use Prim.Native.Nat.{_<_, _≤_, min};
+ghost use mathlib.Core.List.{[], _∷_, _++_};
+ghost use Prim.Native.Nat.{_+_, _%_, _<_, _≤_, min};
 ghost use lib.IntN.{pos};
 ghost use lib.ListN.{getD};
 ghost use lib.Seq.{sets};
-ghost use Rattle.base_codes.specs.Image.{HEADER};
+ghost use Rattle.base_codes.specs.Image.{HEADER, SIGNATURE, LINE-NEXT};
 ghost use Rattle.base_ir.specs.Arrays.{rowIn, Bounded};
+ghost use Rattle.spec_format.specs.Words.{bytes2, bytes4};
 ghost use Rattle.spec_format.specs.Image.{rawBytes, rawsBytes};
 ghost use Rattle.image_flow.specs.Followers.{links};
-ghost use Rattle.image_encoder.specs.Emitted.{codeFrom, runWidth, kindByte, lineAt, linesFrom, typesFrom, cellsFrom, signatureFrom, signatureSize, headerOf};
+ghost use Rattle.image_encoder.specs.Emitted.{codeFrom, runWidth, kindByte, lineAt, linesFrom, typesFrom, cellsFrom, slotsFrom, signatureFrom, signatureSize, linesSize, sectionsOf, headerOf};
 use crate::bytes::put;
 use crate::bytes::put_cell;
-use crate::bytes::put_line;
 use crate::bytes::put_op;
+use crate::bytes::put_words;
 use crate::bytes::put2;
 use crate::bytes::put4;
 use base_codes::image;
@@ -30,19 +32,35 @@ fn value(s: &[i32], i: usize) -> i32
     if i < s.len() { s[i] } else { 0 }
 }
 
+// How many bytes of the header a section's start has; its length stands behind it.
+const START_SIZE: usize = image::SIGNATURE_SIZE - image::SIGNATURE;
+
+// Where a section starts, and its length.
+fn put_section(image: &mut [u8], at: usize, start: u32, size: usize)
+    requires { ⌜ (at < 1000) × (size < 1000000) ⌝ }
+    ensures { λ _. ⌜ now (image .exit) ≡ sets (now (image .entry)) at (bytes4 start ++ bytes4 size) ⌝ }
+{
+    put4(image, at, start);
+    put4(image, at + START_SIZE, size as u32);
+}
+
+// The places of three sections of these lengths, one behind another.
+fn put_sections(image: &mut [u8], s: usize, l: usize, c: usize)
+    requires { ⌜ (s < 1000000) × (l < 1000000) × (c < 1000000) ⌝ }
+    ensures { λ _. ⌜ now (image .exit) ≡ sets (now (image .entry)) SIGNATURE (sectionsOf s l c) ⌝ }
+{
+    put_section(image, image::SIGNATURE, image::FIRST, s);
+    put_section(image, image::LINES, (image::HEADER + s) as u32, l);
+    put_section(image, image::CODE, (image::HEADER + s + l) as u32, c);
+}
+
 // The header of an image whose sections have these lengths.
-pub(crate) fn put_header(image: &mut [u8], s: usize, l: usize, c: usize)
+fn put_header(image: &mut [u8], s: usize, l: usize, c: usize)
     requires { ⌜ (s < 1000000) × (l < 1000000) × (c < 1000000) ⌝ }
     ensures { λ _. ⌜ now (image .exit) ≡ sets (now (image .entry)) 0 (headerOf s l c) ⌝ }
 {
-    put2(image, image::FORM, image::FORM_1);
-    put2(image, image::SECTIONS, image::THREE);
-    put4(image, image::SIGNATURE, image::FIRST);
-    put4(image, image::SIGNATURE_SIZE, s as u32);
-    put4(image, image::LINES, (image::HEADER + s) as u32);
-    put4(image, image::LINES_SIZE, l as u32);
-    put4(image, image::CODE, (image::HEADER + s + l) as u32);
-    put4(image, image::CODE_SIZE, c as u32);
+    put_words(image, image::FORM, image::FORM_1, image::THREE);
+    put_sections(image, s, l, c);
 }
 
 // n type bytes.
@@ -101,24 +119,45 @@ pub(crate) fn signature_size(d: Declared) -> usize
     image::COUNTS + d.inputs.count + image::SLOT * d.outputs.count + image::SLOT * d.variables.count
 }
 
+// The counts of inputs, outputs and variables.
+fn put_counts(image: &mut [u8], inputs: usize, outputs: usize, variables: usize)
+    requires { ⌜ (inputs ≤ 16) × (outputs ≤ 16) × (variables ≤ 32) ⌝ }
+    ensures { λ _. ⌜ now (image .exit) ≡ sets (now (image .entry)) HEADER (inputs ∷ outputs ∷ variables ∷ []) ⌝ }
+{
+    put(image, image::INPUT_COUNT, inputs as u8);
+    put(image, image::OUTPUT_COUNT, outputs as u8);
+    put(image, image::VARIABLE_COUNT, variables as u8);
+}
+
+// The outputs and, behind them, the variables.
+fn put_slots(image: &mut [u8], at: usize, d: Declared)
+    requires { ⌜ (at < 100) × Bounded d ⌝ }
+    ensures { λ _. ⌜ now (image .exit) ≡ sets (now (image .entry)) at (slotsFrom d) ⌝ }
+{
+    let outputs = d.outputs;
+    let variables = d.variables;
+    put_valued(image, at, outputs);
+    put_valued(image, at + image::SLOT * outputs.count, variables);
+}
+
 // The signature section.
-pub(crate) fn put_signature(image: &mut [u8], d: Declared)
+fn put_signature(image: &mut [u8], d: Declared)
     requires { ⌜ Bounded d ⌝ }
     ensures { λ _. ⌜ now (image .exit) ≡ sets (now (image .entry)) HEADER (signatureFrom d) ⌝ }
 {
     let inputs = d.inputs;
-    let outputs = d.outputs;
-    let variables = d.variables;
-    put(image, image::INPUT_COUNT, inputs.count as u8);
-    put(image, image::OUTPUT_COUNT, outputs.count as u8);
-    put(image, image::VARIABLE_COUNT, variables.count as u8);
+    put_counts(image, inputs.count, d.outputs.count, d.variables.count);
     put_typed(image, image::INPUT_TYPES, inputs);
-    put_valued(image, image::INPUT_TYPES + inputs.count, outputs);
-    put_valued(
-        image,
-        image::INPUT_TYPES + inputs.count + image::SLOT * outputs.count,
-        variables,
-    );
+    put_slots(image, image::INPUT_TYPES + inputs.count, d);
+}
+
+// Header and signature section of a design whose code has c bytes.
+pub(crate) fn put_front(image: &mut [u8], d: Declared, c: usize)
+    requires { ⌜ Bounded d × (c < 1000000) ⌝ }
+    ensures { λ _. ⌜ now (image .exit) ≡ sets (now (image .entry)) 0 (headerOf (signatureSize d) (linesSize d) c ++ signatureFrom d) ⌝ }
+{
+    put_header(image, signature_size(d), image::LINE * d.statements, c);
+    put_signature(image, d);
 }
 
 // The lower of a number and 16384.
@@ -156,6 +195,26 @@ fn kind_byte(kind: u16) -> u8
     (kind % BYTES) as u8
 }
 
+// Kind and target of statement j.
+fn put_act(image: &mut [u8], at: usize, rows: &[u16; statement::ROWS], j: usize)
+    requires { ⌜ (at < 900000) × (j < 512) ⌝ }
+    ensures { λ _. ⌜ now (image .exit) ≡ sets (now (image .entry)) at (kindByte (rowIn (now (rows .entry)) j .kind) ∷ rowIn (now (rows .entry)) j .target % 256 ∷ []) ⌝ }
+{
+    let kind = kind_byte(number(rows, statement::ROW * j));
+    let target = number(rows, statement::ROW * j + statement::TARGET);
+    put(image, at, kind);
+    put(image, at + image::LINE_TARGET, (target % BYTES) as u8);
+}
+
+// The followers and the reach of the line at a place.
+fn put_followers(image: &mut [u8], at: usize, next: u16, other: u16, reach: u16)
+    requires { ⌜ at < 900000 ⌝ }
+    ensures { λ _. ⌜ now (image .exit) ≡ sets (now (image .entry)) (at + LINE-NEXT) (bytes2 next ++ (bytes2 other ++ bytes2 reach)) ⌝ }
+{
+    put_words(image, at + image::LINE_NEXT, next as u32, other as u32);
+    put2(image, at + image::LINE_REACH, reach as u32);
+}
+
 // The line of statement j.
 fn put_row(
     image: &mut [u8],
@@ -171,19 +230,20 @@ fn put_row(
     requires { ⌜ (at < 900000) × (j < 512) × (offset < 50000000) × (size < 100000) ⌝ }
     ensures { λ _. ⌜ now (image .exit) ≡ sets (now (image .entry)) at (rawBytes (lineAt (rowIn (now (rows .entry)) j) offset size next other reach)) ⌝ }
 {
-    let kind = kind_byte(number(rows, statement::ROW * j));
-    let target = (number(rows, statement::ROW * j + statement::TARGET) % BYTES) as u8;
-    put_line(
-        image,
-        at,
-        kind,
-        target,
-        offset as u32,
-        size as u32,
-        next,
-        other,
-        reach,
-    );
+    put_act(image, at, rows, j);
+    put_words(image, at + image::LINE_CODE, offset as u32, size as u32);
+    put_followers(image, at, next, other, reach);
+}
+
+// How many bytes the code of statement j has.
+fn code_size(codes: &[u8; limit::TEXT], rows: &[u16; statement::ROWS], j: usize) -> usize
+    requires { ⌜ j < 512 ⌝ }
+    ensures { λ r. ⌜ r ≡ runWidth (now (codes .entry)) (rowIn (now (rows .entry)) j .from) (rowIn (now (rows .entry)) j .to) ⌝ }
+    ensures { λ r. ⌜ r ≤ 81920 ⌝ }
+{
+    let from = number(rows, statement::ROW * j + statement::FROM);
+    let to = number(rows, statement::ROW * j + statement::TO);
+    run_width(codes, from as usize, to as usize)
 }
 
 // The lines of n statements with these followers and reaches.
@@ -193,9 +253,9 @@ pub(crate) fn put_lines(
     codes: &[u8; limit::TEXT],
     rows: &[u16; statement::ROWS],
     n: usize,
-    next: &[u16],
-    other: &[u16],
-    reaches: &[u16],
+    next: &[u16; limit::STATEMENTS],
+    other: &[u16; limit::STATEMENTS],
+    reaches: &[u16; limit::STATEMENTS],
 )
     requires { ⌜ (at < 1000) × (n ≤ 512) ⌝ }
     ensures { λ _. ⌜ now (image .exit) ≡ sets (now (image .entry)) at (rawsBytes (linesFrom (now (codes .entry)) (now (rows .entry)) (links (now (next .entry)) (now (other .entry))) (now (reaches .entry)) 0 n 0)) ⌝ }
@@ -203,11 +263,7 @@ pub(crate) fn put_lines(
     let mut j = 0;
     let mut p = 0;
     while j < n {
-        let size = run_width(
-            codes,
-            number(rows, statement::ROW * j + statement::FROM) as usize,
-            number(rows, statement::ROW * j + statement::TO) as usize,
-        );
+        let size = code_size(codes, rows, j);
         put_row(
             image,
             at + image::LINE * j,
@@ -238,9 +294,7 @@ pub(crate) fn put_code(
     let mut i = 0;
     let mut p = at;
     while i < k {
-        let code = codes[i];
-        put_op(image, p, code, args[i]);
-        p += width(code);
+        p += put_op(image, p, codes[i], args[i]);
         i += 1;
     }
 }

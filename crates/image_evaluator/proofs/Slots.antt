@@ -10,7 +10,8 @@ use lib.ListN.{length, take}
 use lib.Seq.{getD-take}
 use lib.IntN.{ℤ, pos}
 use Rattle.spec_design.specs.Types.{Ty, ExprTy, sameType}
-use Rattle.spec_design.specs.Expression.{Leaf, int, bit, input, variable, Expr, leaf, unary, binary, nth, plainly, leafType, unaryType, binaryType, given, given2, typeOf}
+use Rattle.spec_design.specs.Expression.{Leaf, int, bit, input, variable, Expr, leaf, unary, binary, nth, plainly, leafType, unaryType, binaryType, given}
+use Rattle.spec_design.specs.Expression.{given2, typeOf}
 use Rattle.spec_semantics.specs.Evaluation.{evaluate}
 use Rattle.spec_semantics.specs.Names.{leafReadsVariable, readsVariable}
 use Rattle.spec_semantics.proofs.Basic.{false-true, none-some, eqb-true}

@@ -18,7 +18,8 @@ use Rattle.base_ir.specs.Operations.{Op, ops}
 use Rattle.base_ir.specs.Entries.{Single, single-act, single-wait, single-if, single-else, single-while, Block, only, andThen}
 use Rattle.base_ir.specs.Arrays.{Row, rowIn, At}
 use Rattle.base_ir.proofs.Held.{Own, at-first, at-rest, at-output, at-variable, at-null, at-wait, at-if, at-while, at-else}
-use Rattle.image_flow.specs.Followers.{Links, links, link, followerOf, rested, ifLinks, whileLinks, opened, stepAt, followed, otherOf, stored, Followed}
+use Rattle.image_flow.specs.Followers.{Links, links, link, followerOf, rested, Announced, branched, ifLinks, opened, stepAt, followed, otherOf, stored}
+use Rattle.image_flow.specs.Followers.{Followed}
 use Rattle.image_flow.proofs.Sets.{getD-sets-behind, sets-set-first, sets-rest, sets-inside, sets-two}
 
 map-append : {A B : Type 0} (g : A → B) (xs ys : List A) → map g (xs ++ ys) ≡ map g xs ++ map g ys
@@ -32,15 +33,15 @@ module _ (r : Row) (j f : ℕ) (x : Links) where
   unfolding opened
   opened-plain k e a b = rw (e, a, b)
 
-  opened-then : r .kind ≡ 3 → r .other ≡ r .end → opened r j f x ≡ link (link x (j + 1) (r .end) f) j (j + 1) f
+  opened-then : r .kind ≡ 3 → r .other ≡ r .end → opened r j f x ≡ branched j (r .end) f f x
   unfolding opened
   opened-then e g = rw (e, eq-eqb (r .other) (r .end) g)
 
-  opened-else : r .kind ≡ 3 → (r .other ≡ r .end → ⊥) → opened r j f x ≡ link (link (link x (j + 1) (r .other) f) (r .other) (r .end) f) j (j + 1) (r .other)
+  opened-else : r .kind ≡ 3 → (r .other ≡ r .end → ⊥) → opened r j f x ≡ link (branched j (r .other) f (r .other) x) (r .other) (r .end) f
   unfolding opened
   opened-else e g = rw (e, ne-eqb (r .other) (r .end) g)
 
-  opened-while : r .kind ≡ 5 → opened r j f x ≡ link (link x (j + 1) (r .end) j) j (j + 1) f
+  opened-while : r .kind ≡ 5 → opened r j f x ≡ branched j (r .end) j f x
   unfolding opened
   opened-while e = rw e
 
@@ -94,7 +95,7 @@ size-inside (single-while b) = refl
 -- the followers of parts, stored, are those of the whole
 module _ (j f : ℕ) (x : Links) where
   stored-block : (e : Expr) (a : Stmt) (k l g w : ℕ)
-      → stored (j + 1) (lines a (j + 1) g) (link (link x (j + 1) k w) j (j + 1) l) ≡ stored j (branches e (j + 1) l ∷ lines a (j + 1) g) x
+      → stored (j + 1) (lines a (j + 1) g) (branched j k w l x) ≡ stored j (branches e (j + 1) l ∷ lines a (j + 1) g) x
   stored-block e a k l g w =
       let p = size-pos a in
       let n = next-length a (j + 1) g in
@@ -103,7 +104,7 @@ module _ (j f : ℕ) (x : Links) where
       (sets-inside (x .other) j w l (map otherOf (lines a (j + 1) g)) (omega arith))
 
   stored-two : (e : Expr) (a b : Stmt) (o k : ℕ) → o ≡ j + 1 + size a
-      → stored o (lines b o f) (stored (j + 1) (lines a (j + 1) f) (link (link (link x (j + 1) o f) o k f) j (j + 1) o))
+      → stored o (lines b o f) (stored (j + 1) (lines a (j + 1) f) (link (branched j o f o x) o k f))
       ≡ stored j (branches e (j + 1) o ∷ (lines a (j + 1) f ++ lines b o f)) x
   stored-two e a b o k h =
       let p = size-pos a in
@@ -187,44 +188,41 @@ module _ (codes : List ℕ) (args : List ℤ) (rows : List ℕ) where
   unfolding OpenLaw inside followed lines
   wait-law j m f x h r = plain-law f x (at-wait h) refl refl
 
+  -- the block of a branch
+  branch-law : (e : Expr) (a : Stmt) → BlockLaw a → (j f g : ℕ) {m t : ℕ} (x : Links) → At codes args rows a (j + 1) m → Room x (j + suc (size a))
+      → t ≡ j + 1 + size a
+      → followed rows (j + 1) (size a) (branched j t g f x) ≡ stored j (branches e (suc j) f ∷ lines a (suc j) g) x
+  unfolding BlockLaw
+  branch-law e a ih j f g {m} x h room o =
+      let p = size-pos a in
+      let z : j + 1 ≡ suc j = omega arith in
+      let t = j + 1 + size a in
+      let u : Room x t = record { nexts = (let q = room .nexts in omega arith); others = (let q = room .others in omega arith) } in
+      let y = branched j t g f x in
+      let n : getD (y .next) (j + 1) 0 ≡ t = getD-set-other (set (x .next) (j + 1) t) j (j + 1) (j + 1) 0 (λ q. omega arith)
+      ∙ getD-set-same (x .next) (j + 1) t 0 (let q = u .nexts in omega arith) in
+      let n′ : getD (y .other) (j + 1) 0 ≡ g = getD-set-other (set (x .other) (j + 1) g) j (j + 1) f 0 (λ q. omega arith)
+      ∙ getD-set-same (x .other) (j + 1) g 0 (let q = u .others in omega arith) in
+      ap (λ (k : ℕ). followed rows (j + 1) (size a) (branched j k g f x)) o
+      ∙ ih (j + 1) m g y h (room-link j (j + 1) f (room-link (j + 1) t g u)) n n′
+      ∙ stored-block j f x e a t f g g ∙ ap (λ (k : ℕ). stored j (branches e k f ∷ lines a k g) x) z
+
   then-law : (e : Expr) (a : Stmt) → BlockLaw a → OpenLaw (if-then e a)
-  unfolding OpenLaw BlockLaw inside lines size
+  unfolding OpenLaw inside lines size
   then-law e a ih j m f x h r =
       let w = at-if h in
       let o = w .0 .line in
-      let p = size-pos a in
-      let z : j + 1 ≡ suc j = omega arith in
-      let u : Room x (j + 1 + size a) = record { nexts = (let q = r .nexts in omega arith); others = (let q = r .others in omega arith) } in
-      let y = link (link x (j + 1) (j + 1 + size a) f) j (j + 1) f in
-      let v : Room y (j + 1 + size a) = room-link j (j + 1) f (room-link (j + 1) (j + 1 + size a) f u) in
-      let n : getD (y .next) (j + 1) 0 ≡ j + 1 + size a = getD-set-other (set (x .next) (j + 1) (j + 1 + size a)) j (j + 1) (j + 1) 0 (λ q. omega arith)
-      ∙ getD-set-same (x .next) (j + 1) (j + 1 + size a) 0 (let q = u .nexts in omega arith) in
-      let n′ : getD (y .other) (j + 1) 0 ≡ f = getD-set-other (set (x .other) (j + 1) f) j (j + 1) f 0 (λ q. omega arith)
-      ∙ getD-set-same (x .other) (j + 1) f 0 (let q = u .others in omega arith) in
-      let g : opened (rowIn rows j) j f x ≡ y =
-      opened-then (rowIn rows j) j f x (ap (λ (q : Row). q .kind) o) (ap (λ (q : Row). q .other) o ∙ sym (ap (λ (q : Row). q .end) o))
-      ∙ ap (λ (k : ℕ). link (link x (j + 1) k f) j (j + 1) f) (ap (λ (q : Row). q .end) o) in
-      ap (λ (q : Links). followed rows (j + 1) (size a) q) g ∙ ih (j + 1) (m + length (ops e)) f y (w .1) v n n′
-      ∙ stored-block j f x e a (j + 1 + size a) f f f ∙ ap (λ (k : ℕ). stored j (branches e k f ∷ lines a k f) x) z
+      ap (λ (q : Links). followed rows (j + 1) (size a) q)
+      (opened-then (rowIn rows j) j f x (ap (λ (q : Row). q .kind) o) (ap (λ (q : Row). q .other) o ∙ sym (ap (λ (q : Row). q .end) o)))
+      ∙ branch-law e a ih j f f x (w .1) r (ap (λ (q : Row). q .end) o)
 
   while-law : (e : Expr) (a : Stmt) → BlockLaw a → OpenLaw (while e a)
-  unfolding OpenLaw BlockLaw inside lines size
+  unfolding OpenLaw inside lines size
   while-law e a ih j m f x h r =
       let w = at-while h in
       let o = w .0 .line in
-      let p = size-pos a in
-      let z : j + 1 ≡ suc j = omega arith in
-      let u : Room x (j + 1 + size a) = record { nexts = (let q = r .nexts in omega arith); others = (let q = r .others in omega arith) } in
-      let y = link (link x (j + 1) (j + 1 + size a) j) j (j + 1) f in
-      let v : Room y (j + 1 + size a) = room-link j (j + 1) f (room-link (j + 1) (j + 1 + size a) j u) in
-      let n : getD (y .next) (j + 1) 0 ≡ j + 1 + size a = getD-set-other (set (x .next) (j + 1) (j + 1 + size a)) j (j + 1) (j + 1) 0 (λ q. omega arith)
-      ∙ getD-set-same (x .next) (j + 1) (j + 1 + size a) 0 (let q = u .nexts in omega arith) in
-      let n′ : getD (y .other) (j + 1) 0 ≡ j = getD-set-other (set (x .other) (j + 1) j) j (j + 1) f 0 (λ q. omega arith)
-      ∙ getD-set-same (x .other) (j + 1) j 0 (let q = u .others in omega arith) in
-      let g : opened (rowIn rows j) j f x ≡ y = opened-while (rowIn rows j) j f x (ap (λ (q : Row). q .kind) o)
-      ∙ ap (λ (k : ℕ). link (link x (j + 1) k j) j (j + 1) f) (ap (λ (q : Row). q .end) o) in
-      ap (λ (q : Links). followed rows (j + 1) (size a) q) g ∙ ih (j + 1) (m + length (ops e)) j y (w .1) v n n′
-      ∙ stored-block j f x e a (j + 1 + size a) f j j ∙ ap (λ (k : ℕ). stored j (branches e k f ∷ lines a k j) x) z
+      ap (λ (q : Links). followed rows (j + 1) (size a) q) (opened-while (rowIn rows j) j f x (ap (λ (q : Row). q .kind) o))
+      ∙ branch-law e a ih j f j x (w .1) r (ap (λ (q : Row). q .end) o)
 
   else-law : (e : Expr) (a b : Stmt) → BlockLaw a → BlockLaw b → OpenLaw (if-else e a b)
   unfolding OpenLaw BlockLaw inside lines size
@@ -238,13 +236,14 @@ module _ (codes : List ℕ) (args : List ℤ) (rows : List ℕ) where
       let t = j + 1 + (size a + size b) in
       let t′ : k + size b ≡ t = omega arith in
       let u : Room x t = record { nexts = (let q = r .nexts in omega arith); others = (let q = r .others in omega arith) } in
-      let y = link (link (link x (j + 1) k f) k t f) j (j + 1) k in
-      let v : Room y t = room-link j (j + 1) k (room-link k t f (room-link (j + 1) k f u)) in
+      let y = link (branched j k f k x) k t f in
+      let v : Room y t = room-link k t f (room-link j (j + 1) k (room-link (j + 1) k f u)) in
       let v₁ : Room y k = record { nexts = (let q = v .nexts in omega arith); others = (let q = v .others in omega arith) } in
-      let n : getD (y .next) (j + 1) 0 ≡ k = getD-set-other (set (set (x .next) (j + 1) k) k t) j (j + 1) (j + 1) 0 (λ q. omega arith)
-      ∙ getD-set-other (set (x .next) (j + 1) k) k (j + 1) t 0 (λ q. omega arith) ∙ getD-set-same (x .next) (j + 1) k 0 (let q = u .nexts in omega arith) in
-      let n′ : getD (y .other) (j + 1) 0 ≡ f = getD-set-other (set (set (x .other) (j + 1) f) k f) j (j + 1) k 0 (λ q. omega arith)
-      ∙ getD-set-other (set (x .other) (j + 1) f) k (j + 1) f 0 (λ q. omega arith) ∙ getD-set-same (x .other) (j + 1) f 0 (let q = u .others in omega arith) in
+      let n : getD (y .next) (j + 1) 0 ≡ k = getD-set-other (set (set (x .next) (j + 1) k) j (j + 1)) k (j + 1) t 0 (λ q. omega arith)
+      ∙ getD-set-other (set (x .next) (j + 1) k) j (j + 1) (j + 1) 0 (λ q. omega arith)
+      ∙ getD-set-same (x .next) (j + 1) k 0 (let q = u .nexts in omega arith) in
+      let n′ : getD (y .other) (j + 1) 0 ≡ f = getD-set-other (set (set (x .other) (j + 1) f) j k) k (j + 1) f 0 (λ q. omega arith)
+      ∙ getD-set-other (set (x .other) (j + 1) f) j (j + 1) k 0 (λ q. omega arith) ∙ getD-set-same (x .other) (j + 1) f 0 (let q = u .others in omega arith) in
       let g : opened (rowIn rows j) j f x ≡ y = opened-else (rowIn rows j) j f x (ap (λ (q : Row). q .kind) o)
       (λ q. let q′ : k ≡ t = sym (ap (λ (q : Row). q .other) o) ∙ (q ∙ ap (λ (q : Row). q .end) o) in omega arith)
       ∙ ap2 (ap (λ (q : Row). q .other) o) (ap (λ (q : Row). q .end) o) in
@@ -252,17 +251,15 @@ module _ (codes : List ℕ) (args : List ℤ) (rows : List ℕ) where
       let l = next-length a (j + 1) f in
       let l′ = other-length a (j + 1) f in
       let d : getD (y′ .next) k 0 ≡ k + size b = getD-sets-behind (y .next) (j + 1) (map next (lines a (j + 1) f)) k 0 (omega arith)
-      ∙ getD-set-other (set (set (x .next) (j + 1) k) k t) j k (j + 1) 0 (λ q. omega arith)
-      ∙ getD-set-same (set (x .next) (j + 1) k) k t 0 (let q = u .nexts in let s = length-set (x .next) (j + 1) k in omega arith) ∙ sym t′ in
+      ∙ link-next (branched j k f k x) k t f (let q = v .nexts in let s = length-set (branched j k f k x .next) k t in omega arith) ∙ sym t′ in
       let d′ : getD (y′ .other) k 0 ≡ f = getD-sets-behind (y .other) (j + 1) (map otherOf (lines a (j + 1) f)) k 0 (omega arith)
-      ∙ getD-set-other (set (set (x .other) (j + 1) f) k f) j k k 0 (λ q. omega arith)
-      ∙ getD-set-same (set (x .other) (j + 1) f) k f 0 (let q = u .others in let s = length-set (x .other) (j + 1) f in omega arith) in
+      ∙ link-other (branched j k f k x) k t f (let q = v .others in let s = length-set (branched j k f k x .other) k f in omega arith) in
       ap (λ (q : Links). followed rows (j + 1) (size a + size b) q) g ∙ followed-add rows (j + 1) (size a) (size b) y
       ∙ ap (λ (q : Links). followed rows k (size b) q) (ih (j + 1) (m + length (ops e)) f y (w .1 .0) v₁ n n′)
       ∙ ih′ k _ f y′ (w .1 .1) (rw t′ (room-stored (j + 1) (lines a (j + 1) f) v)) d d′
       ∙ stored-two j f x e a b k t refl ∙ ap (λ (i : ℕ). stored j (branches e i (i + size a) ∷ (lines a i f ++ lines b (i + size a) f)) x) z
     where
-      ap2 : {k k′ t t′ : ℕ} → k ≡ k′ → t ≡ t′ → link (link (link x (j + 1) k f) k t f) j (j + 1) k ≡ link (link (link x (j + 1) k′ f) k′ t′ f) j (j + 1) k′
+      ap2 : {k k′ t t′ : ℕ} → k ≡ k′ → t ≡ t′ → link (branched j k f k x) k t f ≡ link (branched j k′ f k′ x) k′ t′ f
       ap2 q q′ = cc
 
   -- the one after its last statement
@@ -346,13 +343,31 @@ module _ (codes : List ℕ) (args : List ℤ) (rows : List ℕ) where
       ∙ links-equal (sets-set-first (x .next) 0 (size s) (map next (lines s 0 0)) (let q = next-length s 0 0 in omega arith))
       (sets-set-first (x .other) 0 0 (map otherOf (lines s 0 0)) (let q = other-length s 0 0 in omega arith))
 
--- one statement, from what the code reads
-pub step-made : (rows : List ℕ) (j : ℕ) (x y z : Links) (kind second end block after f : ℕ) → kind ≡ getD rows (6 * j) 0 → second ≡ getD rows (6 * j + 4) 0
-    → end ≡ getD rows (6 * j + 5) 0
-    → block ≡ getD (x .next) j 0 → after ≡ getD (x .other) j 0 → f ≡ cond (eqb end block) after end → y ≡ cond (eqb end block) x (link x end block after)
-    → z ≡ cond (eqb kind 3) (ifLinks second end j f y) (cond (eqb kind 5) (whileLinks end j f y) (link y j f 0)) → z ≡ stepAt rows j x
-unfolding stepAt opened rested
-step-made rows j x y z kind second end block after f k s e b a g h i = cc
+-- what is announced behind the last statement of a block, and behind another, from what the code reads
+module _ (rows : List ℕ) (j : ℕ) (x : Links) {end block after : ℕ} (e : end ≡ rowIn rows j .end) (b : block ≡ getD (x .next) j 0)
+    (a : after ≡ getD (x .other) j 0) where
+  pub announced-last : end ≡ block → Announced (rowIn rows j) j x x after
+  unfolding rested
+  announced-last h = let t = eq-eqb (rowIn rows j .end) (getD (x .next) j 0) (sym e ∙ h ∙ b) in (rw t, rw t a)
+
+  pub announced-more : {y : Links} → (end ≡ block → ⊥) → y ≡ link x end block after → Announced (rowIn rows j) j x y end
+  unfolding rested
+  announced-more {y} h g =
+      let t = ne-eqb (rowIn rows j .end) (getD (x .next) j 0) (λ q. h (e ∙ q ∙ sym b)) in
+      (rw (t, ← e, ← b, ← a) g, rw t e)
+
+-- its followers
+pub linked : (rows : List ℕ) (j f : ℕ) (x z : Links) {kind end : ℕ} (second : ℕ) → kind ≡ rowIn rows j .kind → second ≡ rowIn rows j .other
+    → end ≡ rowIn rows j .end
+    → z ≡ cond (eqb kind 3) (ifLinks second end j f x) (cond (eqb kind 5) (branched j end j f x) (link x j f 0)) → z ≡ opened (rowIn rows j) j f x
+unfolding opened
+linked rows j f x z second k s e h = cc
+
+-- one statement
+pub step-made : (rows : List ℕ) (j : ℕ) (x : Links) {y z : Links} {f : ℕ} → Announced (rowIn rows j) j x y f → z ≡ opened (rowIn rows j) j f y
+    → z ≡ stepAt rows j x
+unfolding stepAt
+step-made rows j x a e = rw (← a .0, ← a .1) e
 
 -- the pass, one statement on
 pub followed-again : (rows : List ℕ) (j n : ℕ) (x : Links) → j < n → followed rows j (n - j) x ≡ followed rows (j + 1) (n - (j + 1)) (stepAt rows j x)
@@ -360,15 +375,15 @@ unfolding followed
 followed-again rows j n x h = let z : n - j ≡ suc (n - (j + 1)) = omega arith in rw z
 
 -- the pass at its end
-pub followed-end : (rows : List ℕ) (j n : ℕ) (x : Links) → n ≤ j → followed rows j (n - j) x ≡ x
+pub followed-end : (rows : List ℕ) (j n : ℕ) (x y : Links) → n ≤ j → followed rows j (n - j) x ≡ followed rows 0 (n - 0) y → x ≡ followed rows 0 n y
 unfolding followed
-followed-end rows j n x h = let z : n - j ≡ 0 = omega arith in rw z
-
--- the pass has come to the end
-pub followed-done : (rows : List ℕ) (n j : ℕ) (x y z : Links) → n ≤ j → followed rows j (n - j) z ≡ followed rows 0 (n - 0) y → y ≡ link x 0 n 0
-    → Followed rows n x z
-followed-done rows n j x y z h i g codes args s b a e p q =
+followed-end rows j n x y h e =
+    let z : n - j ≡ 0 = omega arith in
     let d : n - 0 ≡ n = omega arith in
+    rw (z, d) at e
+
+-- the whole pass
+pub followed-done : (rows : List ℕ) (n : ℕ) (x : Links) {y z : Links} → y ≡ link x 0 n 0 → z ≡ followed rows 0 n y → Followed rows n x z
+followed-done rows n x g i codes args s b a e p q =
     let r : Room x (size s) = record { nexts = omega arith; others = omega arith } in
-    sym (followed-end rows j n z h) ∙ i ∙ ap (λ (k : ℕ). followed rows 0 k y) d ∙ ap (λ (w : Links). followed rows 0 n w) g
-    ∙ ap (λ (k : ℕ). followed rows 0 k (link x 0 k 0)) (sym e) ∙ followed-whole codes args rows b a x r
+    i ∙ ap (λ (w : Links). followed rows 0 n w) g ∙ ap (λ (k : ℕ). followed rows 0 k (link x 0 k 0)) (sym e) ∙ followed-whole codes args rows b a x r

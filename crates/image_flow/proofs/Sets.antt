@@ -68,10 +68,9 @@ module _ {A : Type 0} where
 
   -- two blocks inside
   pub sets-two : (l : List A) (j o : ℕ) (w u v : A) (us vs : List A) → o ≡ j + 1 + length us → 0 < length us → 0 < length vs
-      → sets (sets (set (set (set l (j + 1) w) o u) j v) (j + 1) us) o vs ≡ sets l j (v ∷ (us ++ vs))
+      → sets (sets (set (set (set l (j + 1) w) j v) o u) (j + 1) us) o vs ≡ sets l j (v ∷ (us ++ vs))
   sets-two l j o w u v us vs h p q =
-      ap (λ (m : List A). sets (sets m (j + 1) us) o vs) (set-comm (set l (j + 1) w) o j u v (λ e. omega arith))
-      ∙ sets-rest (set (set l (j + 1) w) j v) (j + 1) o u us vs h q ∙ sets-inside l j w v (us ++ vs) (append-pos us vs p)
+      sets-rest (set (set l (j + 1) w) j v) (j + 1) o u us vs h q ∙ sets-inside l j w v (us ++ vs) (append-pos us vs p)
     where
       append-pos : (xs ys : List A) → 0 < length xs → 0 < length (xs ++ ys)
       append-pos [] ys h = absurd (omega arith)

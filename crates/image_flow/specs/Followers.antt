@@ -34,20 +34,22 @@ followerOf r j x = cond (eqb (r .end) (getD (x .next) j 0)) (getD (x .other) j 0
 unfoldable pub rested : Row → ℕ → Links → Links
 rested r j x = cond (eqb (r .end) (getD (x .next) j 0)) x (link x (r .end) (getD (x .next) j 0) (getD (x .other) j 0))
 
+-- both of statement j: what is announced, and the line that follows it
+abbrev pub Announced : Row → ℕ → Links → Links → ℕ → Type 0
+Announced r j before after f = (after ≡ rested r j before) × (f ≡ followerOf r j before)
+
+-- a branch at statement j: next is its block, which ends before the line e where a follows; other is the line g
+abbrev pub branched : ℕ → ℕ → ℕ → ℕ → Links → Links
+branched j e a g x = link (link x (j + 1) e a) j (j + 1) g
+
 -- an if whose second part begins at the line o and which ends before the line e, where f follows: "a branch takes next if true, other if false"
 abbrev pub ifLinks : ℕ → ℕ → ℕ → ℕ → Links → Links
-ifLinks o e j f x =
-    cond (eqb o e)
-    (link (link x (j + 1) e f) j (j + 1) f)
-    (link (link (link x (j + 1) o f) o e f) j (j + 1) o)
+ifLinks o e j f x = cond (eqb o e) (branched j e f f x) (link (branched j o f o x) o e f)
 
--- a loop that ends before the line e, where f follows: "from the end of a loop body the condition follows"
-abbrev pub whileLinks : ℕ → ℕ → ℕ → Links → Links
-whileLinks e j f x = link (link x (j + 1) e j) j (j + 1) f
-
--- statement j, which the line f follows, and the blocks in it
+-- statement j, which the line f follows, and the blocks in it: "from the end of a loop body the condition follows"
 unfoldable pub opened : Row → ℕ → ℕ → Links → Links
-opened r j f x = cond (eqb (r .kind) S.IF) (ifLinks (r .other) (r .end) j f x) (cond (eqb (r .kind) S.WHILE) (whileLinks (r .end) j f x) (link x j f 0))
+opened r j f x =
+    cond (eqb (r .kind) S.IF) (ifLinks (r .other) (r .end) j f x) (cond (eqb (r .kind) S.WHILE) (branched j (r .end) j f x) (link x j f 0))
 
 -- one statement
 unfoldable pub stepAt : List ℕ → ℕ → Links → Links

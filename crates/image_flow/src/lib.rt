@@ -20,9 +20,9 @@ pub fn number(s: &[u16], i: usize) -> u16
 pub fn find(
     rows: &[u16; statement::ROWS],
     n: usize,
-    next: &mut [u16],
-    other: &mut [u16],
-    reach: &mut [u16],
+    next: &mut [u16; limit::STATEMENTS],
+    other: &mut [u16; limit::STATEMENTS],
+    reach: &mut [u16; limit::STATEMENTS],
 )
     ensures { λ _. ⌜ Found (now (rows .entry)) n (links (now (next .entry)) (now (other .entry))) (links (now (next .exit)) (now (other .exit))) (now (reach .entry)) (now (reach .exit)) ⌝ }
 {

@@ -12,7 +12,8 @@ use lib.Seq.{getD-drop, drop-drop, drop-cons}
 use lib.Dec.{ltb, leb, eqb}
 use borrow.Author.Tests.{lt-ltb, le-ltb, le-leb, lt-leb, eqb-true, eqb-false, ne-eqb}
 use Rattle.spec_design.specs.Types.{Ty, integer, ExprTy, plain, sameType}
-use Rattle.spec_design.specs.Expression.{Leaf, int, bit, input, variable, Unary, Binary, Expr, leaf, unary, binary, items, Out, fine, fault, bind, nth, plainly, leafType, unaryType, binaryType}
+use Rattle.spec_design.specs.Expression.{Leaf, int, bit, input, variable, Unary, Binary, Expr, leaf, unary, binary, items, Out, fine, fault, bind, nth, plainly}
+use Rattle.spec_design.specs.Expression.{leafType, unaryType, binaryType}
 use Rattle.base_codes.specs.Operation.{INTEGER, STD-LOGIC, INPUT, VARIABLE, unaryFor, binaryFor, countOr, operandsOf, widthOf}
 use Rattle.base_codes.specs.Types.{NONE, tagOf, tagOr, typeAfter}
 use Rattle.base_codes.specs.Limit.{ITEMS}
@@ -21,7 +22,8 @@ use Rattle.base_codes.proofs.TypeLaws.{tag-type, tag-there, same-tag, unary-typ
 use Rattle.spec_semantics.proofs.Basic.{none-some, fault-fine, some-injective, fine-injective, cond-case}
 use Rattle.spec_format.specs.Words.{Bytes, word4At, onlyIf}
 use Rattle.spec_semantics.specs.Twos.{signed32}
-use Rattle.spec_format.specs.Code.{Operation, push, apply1, apply2, Taken, readInt, bitOf, readBit, readName, applying, operator, readOperation, operations, Machine, onto, run, runOperations, runCode, withType, typed, trees, valueOf, decode}
+use Rattle.spec_format.specs.Code.{Operation, push, apply1, apply2, Taken, readInt, bitOf, readBit, readName, applying, operator, readOperation, operations}
+use Rattle.spec_format.specs.Code.{Machine, onto, run, runOperations, runCode, withType, typed, trees, valueOf, decode}
 use Rattle.spec_format.proofs.Words.{word4-small, signed-range, byte-at}
 use Rattle.spec_format.proofs.Basic.{andThen-some, map-some}
 use Rattle.spec_format.proofs.Coding.{operations-any}

@@ -231,20 +231,13 @@ module _ (sig lines code : List ℕ) (n x p : ℕ) (b : Bytes code) where
   tests k t o s f g q e =
       ap (λ w. isSome (openLine (signatureAt sig) n (storedReaches n lines) p (drop p code) w)) e ∙ raw-tests (raw k t o s f g q)
 
-  -- the fields as the code has read them
-  pub record Fields (k t o s f g q : ℕ) : Type 0 where
-    pub kind : k ≡ getD lines (12 * x) 0
-    pub target : t ≡ getD lines (12 * x + 1) 0
-    pub offset : o ≡ word2At lines (12 * x + 2)
-    pub size : s ≡ word2At lines (12 * x + 4)
-    pub next : f ≡ word2At lines (12 * x + 6)
-    pub other : g ≡ word2At lines (12 * x + 8)
-    pub reach : q ≡ word2At lines (12 * x + 10)
-
-  by-tests : {k t o s f g q : ℕ} → Fields k t o s f g q
-      → opens ≡ ((eqb o p && leb s (length (drop p code))) && (codeFits sig k t (take s (drop p code)) && followersFit n (storedReaches n lines) k f g q))
-  by-tests {k} {t} {o} {s} {f} {g} {q} e =
-      tests k t o s f g q (raw-at lines (12 * x) ∙ rw (← e .kind, ← e .target, ← e .offset, ← e .size, ← e .next, ← e .other, ← e .reach))
+  -- from the fields as the code has read them
+  by-tests : {k t o s : ℕ} → k ≡ getD lines (12 * x) 0 → t ≡ getD lines (12 * x + 1) 0 → o ≡ word2At lines (12 * x + 2) → s ≡ word2At lines (12 * x + 4)
+      → opens ≡ ((eqb o p && leb s (length (drop p code))) && (codeFits sig k t (take s (drop p code))
+      && followersFit n (storedReaches n lines) k (word2At lines (12 * x + 6)) (word2At lines (12 * x + 8)) (word2At lines (12 * x + 10))))
+  by-tests {k} {t} {o} {s} ek et eo es =
+      tests k t o s (word2At lines (12 * x + 6)) (word2At lines (12 * x + 8)) (word2At lines (12 * x + 10))
+      (raw-at lines (12 * x) ∙ rw (← ek, ← et, ← eo, ← es))
 
   room : (s : ℕ) → p ≤ length code → s ≤ length code - p → leb s (length (drop p code)) ≡ true
   room s h l = le-leb s (length (drop p code)) (omega (arith, length-drop p code))
@@ -253,20 +246,21 @@ module _ (sig lines code : List ℕ) (n x p : ℕ) (b : Bytes code) where
   no-room s h l = lt-leb s (length (drop p code)) (omega (arith, length-drop p code))
 
   pub offset-bad : {o : ℕ} → o ≡ word2At lines (12 * x + 2) → (o ≡ p → ⊥) → false ≡ opens
-  offset-bad {o} e h =
-      sym (by-tests (record { kind = refl; target = refl; offset = e; size = refl; next = refl; other = refl; reach = refl }) ∙ rw (ne-eqb o p h))
+  offset-bad {o} e h = sym (by-tests refl refl e refl ∙ rw (ne-eqb o p h))
 
   pub size-bad : {o s : ℕ} → o ≡ word2At lines (12 * x + 2) → s ≡ word2At lines (12 * x + 4) → p ≤ length code → o ≡ p → length code - p < s → false ≡ opens
-  size-bad {o} {s} e d h m l =
-      sym (by-tests (record { kind = refl; target = refl; offset = e; size = d; next = refl; other = refl; reach = refl })
-      ∙ rw (eq-eqb o p m, no-room s h l))
+  size-bad {o} {s} e d h m l = sym (by-tests refl refl e d ∙ rw (eq-eqb o p m, no-room s h l))
 
-  pub code-bad : {k t o s : ℕ} → k ≡ getD lines (12 * x) 0 → t ≡ getD lines (12 * x + 1) 0 → o ≡ word2At lines (12 * x + 2) → s ≡ word2At lines (12 * x + 4)
-      → p ≤ length code → o ≡ p → s ≤ length code - p → codeFits sig k t (take s (drop p code)) ≡ false → false ≡ opens
-  code-bad {k} {t} {o} {s} ek et eo es h m l v =
-      sym (by-tests (record { kind = ek; target = et; offset = eo; size = es; next = refl; other = refl; reach = refl })
-      ∙ rw (eq-eqb o p m, room s h l, v))
+  module _ {k t o s : ℕ} (ek : k ≡ getD lines (12 * x) 0) (et : t ≡ getD lines (12 * x + 1) 0) (eo : o ≡ word2At lines (12 * x + 2))
+      (es : s ≡ word2At lines (12 * x + 4)) (h : p ≤ length code) (m : o ≡ p) (l : s ≤ length code - p) where
+    pub code-bad : codeFits sig k t (take s (drop p code)) ≡ false → false ≡ opens
+    code-bad v = sym (by-tests ek et eo es ∙ rw (eq-eqb o p m, room s h l, v))
 
-  pub line-good : {k t o s f g q : ℕ} {r : Bool} → Fields k t o s f g q → p ≤ length code → o ≡ p → s ≤ length code - p
-      → codeFits sig k t (take s (drop p code)) ≡ true → r ≡ followersFit n (storedReaches n lines) k f g q → r ≡ opens
-  line-good {k} {t} {o} {s} {f} {g} {q} e h m l v w = w ∙ sym (by-tests e ∙ rw (eq-eqb o p m, room s h l, v))
+    pub line-good : {r : Bool} → codeFits sig k t (take s (drop p code)) ≡ true
+        → r ≡ followersFit n (storedReaches n lines) k (word2At lines (12 * x + 6)) (word2At lines (12 * x + 8)) (word2At lines (12 * x + 10)) → r ≡ opens
+    line-good v w = w ∙ sym (by-tests ek et eo es ∙ rw (eq-eqb o p m, room s h l, v))
+
+-- next, other and reach of a line, from what the code reads
+pub followers-read : (n : ℕ) (rs : List ℕ) (k : ℕ) {f f′ g g′ q q′ : ℕ} {r : Bool} → f ≡ f′ → g ≡ g′ → q ≡ q′ → r ≡ followersFit n rs k f g q
+    → r ≡ followersFit n rs k f′ g′ q′
+followers-read n rs k a b c e = rw (← a, ← b, ← c) e

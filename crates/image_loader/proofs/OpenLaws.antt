@@ -16,7 +16,8 @@ use Rattle.base_answers.specs.declared.Refusal.{Refusal}
 use Rattle.spec_format.specs.Words.{onlyIf}
 use Rattle.spec_format.specs.Image.{Sections, Table}
 use Rattle.spec_format.specs.Signature.{Signature, signatureOf}
-use Rattle.spec_format.specs.Opening.{raws, sectionsOf, Lined, lined, bad-at, openLines, Opened, opened, not-opened, tabled, openTable, unless12, rawLines, openSections, unless11, openOf}
+use Rattle.spec_format.specs.Opening.{raws, sectionsOf, Lined, lined, bad-at, openLines, Opened, opened, not-opened, tabled, openTable, unless12, rawLines}
+use Rattle.spec_format.specs.Opening.{openSections, unless11, openOf}
 use Rattle.image_loader.specs.Sections.{isSome, signatureLength, linesLength, codeLength, linesStart, codeStart, parts, headed, paired, whole, sectioned}
 use Rattle.image_loader.specs.Code.{orEmpty, signatureAt}
 use Rattle.image_loader.specs.Lines.{storedReaches, judged, linesFrom}

@@ -14,7 +14,8 @@ use Rattle.spec_format.specs.Words.{word4, word2At, word4At, onlyIf}
 use Rattle.spec_format.specs.Image.{Sections}
 use Rattle.spec_format.specs.Opening.{readSections, readImage, wholeLines, sectionsOf, isEmpty}
 use Rattle.spec_semantics.proofs.Basic.{and-both}
-use Rattle.image_loader.specs.Sections.{isSome, signatureLength, linesLength, codeLength, linesStart, codeStart, part, parts, headed, paired, whole, sectioned}
+use Rattle.image_loader.specs.Sections.{isSome, signatureLength, linesLength, codeLength, linesStart, codeStart, part, parts, headed, paired, whole}
+use Rattle.image_loader.specs.Sections.{sectioned}
 use Rattle.image_loader.proofs.Bools.{same-test}
 
 -- a word of the rest

@@ -6,7 +6,7 @@ ghost use lib.ListN.{length, getD, drop};
 ghost use Rattle.spec_format.specs.Words.{word2At};
 ghost use Rattle.spec_format.specs.Signature.{signatureOf};
 ghost use Rattle.spec_format.specs.Opening.{rawAt, openLine};
-ghost use Rattle.base_codes.specs.Image.{LINE};
+ghost use Rattle.base_codes.specs.Image.{LINE, LINE-NEXT, LINE-OTHER, LINE-REACH};
 ghost use Rattle.base_codes.specs.Limit.{STATEMENTS};
 ghost use Rattle.image_loader.specs.Sections.{isSome};
 ghost use Rattle.image_loader.specs.Code.{signatureAt};
@@ -112,6 +112,18 @@ fn followers_fit(lines: &[u8], n: usize, kind: u8, next: usize, other: usize, re
     false
 }
 
+// Next, other and reach of the line of a kind at a place are right.
+fn goes_on(lines: &[u8], n: usize, kind: u8, at: usize) -> bool
+    requires { ⌜ n ≤ STATEMENTS ⌝ }
+    requires { ⌜ at ≤ LINE * STATEMENTS ⌝ }
+    ensures { λ r. ⌜ r ≡ followersFit n (storedReaches n (now (lines .entry))) kind (word2At (now (lines .entry)) (at + LINE-NEXT)) (word2At (now (lines .entry)) (at + LINE-OTHER)) (word2At (now (lines .entry)) (at + LINE-REACH)) ⌝ }
+{
+    let next = short(lines, at + image::LINE_NEXT);
+    let other = short(lines, at + image::LINE_OTHER);
+    let reach = short(lines, at + image::LINE_REACH);
+    followers_fit(lines, n, kind, next, other, reach)
+}
+
 // The line x is good, where the runs before it end at the offset p of the code section.
 fn line_fits(signature: &[u8], lines: &[u8], code: &[u8], n: usize, x: usize, p: usize) -> bool
     requires { ⌜ isSome (signatureOf (now signature)) ≡ true ⌝ }
@@ -132,16 +144,7 @@ fn line_fits(signature: &[u8], lines: &[u8], code: &[u8], n: usize, x: usize, p:
                 count(lines, at + image::LINE_TARGET),
                 &code[p..end],
             ) {
-                let next = short(lines, at + image::LINE_NEXT);
-                let other = short(lines, at + image::LINE_OTHER);
-                return followers_fit(
-                    lines,
-                    n,
-                    kind,
-                    next,
-                    other,
-                    short(lines, at + image::LINE_REACH),
-                );
+                return goes_on(lines, n, kind, at);
             }
         }
     }

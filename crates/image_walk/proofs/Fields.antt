@@ -5,7 +5,7 @@ use native.Mathlib.Omega.{arith}
 use mathlib.Core.Path.{_≡_, refl, sym, ap, _∙_}
 use mathlib.Core.List.{List, [], _∷_, _++_}
 use lib.ListN.{length, getD, take, drop, length-append}
-use lib.Seq.{getD-drop, drop-drop, take-append-seam, drop-append-seam}
+use lib.Seq.{getD-take, getD-drop, drop-drop, take-append-seam, drop-append-seam}
 use Rattle.spec_format.specs.Words.{word2At}
 use Rattle.spec_format.specs.Lines.{Line, line, reach}
 use Rattle.spec_format.specs.Image.{Table, RawLine, raw, rawOf, rawsOf, lineCode, linesCode}
@@ -20,7 +20,26 @@ at l x = raw (kindAt l x) (targetAt l x) (offsetAt l x) (sizeAt l x) (nextAt l x
 none-there : RawLine
 none-there = raw 0 0 0 0 0 0 0
 
-raw-drop : (l : List ℕ) (k : ℕ) → rawAt (drop (k * 12) l) ≡ at l k
+-- a line's fields are in its 12 bytes
+pub raw-take : (l : List ℕ) → rawAt (take 12 l) ≡ rawAt l
+raw-take l =
+    rw (
+      getD-take 12 l 0 0 (omega arith),
+      getD-take 12 l 1 0 (omega arith),
+      getD-take 12 l 2 0 (omega arith),
+      getD-take 12 l 3 0 (omega arith),
+      getD-take 12 l 4 0 (omega arith),
+      getD-take 12 l 5 0 (omega arith),
+      getD-take 12 l 6 0 (omega arith),
+      getD-take 12 l 7 0 (omega arith),
+      getD-take 12 l 8 0 (omega arith),
+      getD-take 12 l 9 0 (omega arith),
+      getD-take 12 l 10 0 (omega arith),
+      getD-take 12 l 11 0 (omega arith),
+    ) refl
+
+-- the line that a section begins with, from the line k on, is the line k
+pub raw-drop : (l : List ℕ) (k : ℕ) → rawAt (drop (k * 12) l) ≡ at l k
 raw-drop l k = step (k * 12)
   where
     step : (n : ℕ) → rawAt (drop n l) ≡ raw (getD l n 0) (getD l (n + 1) 0) (word2At l (n + 2)) (word2At l (n + 4)) (word2At l (n + 6)) (word2At l (n + 8))

@@ -39,13 +39,13 @@ use Rattle.image_evaluator.specs.Value.{typesFor, partValue, found, evaluatedOf
 use Rattle.image_evaluator.proofs.Evaluation.{value-of-code}
 use Rattle.image_evaluator.proofs.Slots.{value-slots}
 use Rattle.image_walk.specs.Fields.{kindAt, targetAt, offsetAt, sizeAt, nextAt, otherAt}
-use Rattle.image_walk.specs.Moves.{valueAt, moveAt, storedAt}
-use Rattle.image_walk.specs.Follow.{Went, wentOn, followAt}
+use Rattle.image_walk.specs.Moves.{valueAt, Performs}
+use Rattle.image_walk.specs.Follow.{Went, followAt}
 use Rattle.image_walk.specs.Held.{Held}
 use Rattle.image_walk.specs.declared.Followed.the-variants.{Reached, Stopped, Spent}
-use Rattle.image_walk.specs.declared.Move.{Move}
 use Rattle.image_walk.specs.declared.Move.the-variants.{Next}
-use Rattle.image_walk.proofs.Steps.{wait-at, null-at, fault-at, branch-at, store-at}
+use Rattle.image_walk.proofs.Steps.{wait-at, null-at, has-value, fault-at, value-at, branch-at, store-at}
+use Rattle.image_walk.proofs.Turns.{follow-on}
 use Rattle.image_walk.proofs.Fields.{at, begins, line-fields, line-code}
 
 -- Slots.
@@ -99,13 +99,6 @@ module _ (l c is vs : List ℕ) (t : Table) (h : Held l c t) (ti : typesFor is �
       (ap evaluatedOf (value-of-code (t .signature .inputs) (types (t .signature .variables)) e u i (pad 32 (m .variables)) ty it
       ∙ ap (λ o. bind o (λ z. fine (u, z))) q))
 
-  -- One line more, by the bytes: the move m and what the line leaves.
-  follow-on : (k x n : ℕ) (o v : List ℤ) (m : Move) (o′ v′ : List ℤ)
-      → (m ≡ moveAt l x (valueAt l c x is vs i v)) × ((o′ ≡ storedAt 1 l x (valueAt l c x is vs i v) o) × (v′ ≡ storedAt 2 l x (valueAt l c x is vs i v) v))
-      → followAt l c is vs i (suc k) x n o v ≡ wentOn m x n o′ v′ (λ y. followAt l c is vs i k y (suc n) o′ v′)
-  unfolding followAt
-  follow-on k x n o v m o′ v′ p = rw (p .0, p .1 .0, p .1 .1) refl
-
   -- the walk of k lines from the line y on, by the bytes
   abbrev Followed-by : ℕ → ℕ → Run → Type 0
   Followed-by k y τ = Shows (walk (t .lines) i k y τ) (followAt l c is vs i k y (length (τ .way)) (pad 16 (τ .memory .outputs)) (pad 32 (τ .memory .variables)))
@@ -124,24 +117,22 @@ module _ (l c is vs : List ℕ) (t : Table) (h : Held l c t) (ti : typesFor is �
     waits-shows : kindAt l x ≡ 0 → here ≡ record
         { answer = Reached x (length (ρ .way ++ (x ∷ []))); outputs = pad 16 (ρ .memory .outputs); variables = pad 32 (ρ .memory .variables) }
     waits-shows z =
-        follow-on k x (length (ρ .way)) (pad 16 (ρ .memory .outputs)) (pad 32 (ρ .memory .variables)) _ _ _
-        (wait-at l x value (pad 16 (ρ .memory .outputs)) (pad 32 (ρ .memory .variables)) 0 (sym z) refl)
+        follow-on l c is vs i k x (length (ρ .way)) (pad 16 (ρ .memory .outputs)) (pad 32 (ρ .memory .variables)) _ _ _ (wait-at (sym z) refl)
         ∙ ap (λ (n : ℕ). record { answer = Reached x n; outputs = pad 16 (ρ .memory .outputs); variables = pad 32 (ρ .memory .variables) }) counted
 
     -- a refused operator
     stops-shows : (j q : ℕ) → kindAt l x ≡ j → (j ≡ 0 → ⊥) → (j ≡ 4 → ⊥) → value ≡ Fault q → here .answer ≡ Stopped q x
     stops-shows j q z a b e =
-        ap (λ (u : Went). u .answer) (follow-on k x (length (ρ .way)) (pad 16 (ρ .memory .outputs)) (pad 32 (ρ .memory .variables)) _ _ _
-        (fault-at l x value (pad 16 (ρ .memory .outputs)) (pad 32 (ρ .memory .variables)) j q value (sym z) a b refl e))
+        ap (λ (u : Went). u .answer) (follow-on l c is vs i k x (length (ρ .way)) (pad 16 (ρ .memory .outputs)) (pad 32 (ρ .memory .variables)) _ _ _
+        (fault-at (has-value (sym z) a b) refl e))
 
     -- a line that goes on at f with the memory m
     goes-shows : (f : ℕ) (m : Memory) → Followed-by k f (record { way = ρ .way ++ (x ∷ []); memory = m })
-        → (Next f ≡ moveAt l x value) × ((pad 16 (m .outputs) ≡ storedAt 1 l x value (pad 16 (ρ .memory .outputs)))
-        × (pad 32 (m .variables) ≡ storedAt 2 l x value (pad 32 (ρ .memory .variables))))
+        → Performs l x value (pad 16 (ρ .memory .outputs)) (pad 32 (ρ .memory .variables)) (Next f) (pad 16 (m .outputs)) (pad 32 (m .variables))
         → Shows (walk (t .lines) i k f (record { way = ρ .way ++ (x ∷ []); memory = m })) here
     goes-shows f m r p =
         let e : here ≡ followAt l c is vs i k f (length (ρ .way ++ (x ∷ []))) (pad 16 (m .outputs)) (pad 32 (m .variables)) =
-        follow-on k x (length (ρ .way)) (pad 16 (ρ .memory .outputs)) (pad 32 (ρ .memory .variables)) (Next f) (pad 16 (m .outputs)) (pad 32 (m .variables)) p
+        follow-on l c is vs i k x (length (ρ .way)) (pad 16 (ρ .memory .outputs)) (pad 32 (ρ .memory .variables)) _ _ _ p
         ∙ ap (λ (n : ℕ). followAt l c is vs i k f n (pad 16 (m .outputs)) (pad 32 (m .variables))) counted in
         subst (Shows (walk (t .lines) i k f (record { way = ρ .way ++ (x ∷ []); memory = m }))) (sym e) r
 
@@ -164,9 +155,7 @@ module _ (l c is vs : List ℕ) (t : Table) (h : Held l c t) (ti : typesFor is �
               let y : value ≡ found (tagOf u) z = rw q at val in
               rw d
               (goes-shows f (m z) (again f _ b (perform-typed _ _ _ i hi a ty (ρ .memory) (m z) w d))
-              (store-at l x value (pad 16 (ρ .memory .outputs)) (pad 32 (ρ .memory .variables)) j f n (tagOf u) z value (pad 16 (m z .outputs))
-              (pad 32 (m z .variables))
-              (sym kind) n0 n4 n3 refl y (sym next) (sym target) (so z) (sv z)))
+              (value-at refl y (store-at (sym kind) (has-value (sym kind) n0 n4) n3 (sym next) (sym target) (so z) (sv z))))
           on (fault r) q =
               let d : perform a i (ρ .memory) ≡ fault r = rw q at does in
               let y : value ≡ Fault r = rw q at val in
@@ -182,12 +171,9 @@ module _ (l c is vs : List ℕ) (t : Table) (h : Held l c t) (ti : typesFor is �
           taken : (z : ℤ) → value ≡ found (tagOf u) z → (b : Bool) → isOne z ≡ b
               → Shows (tested (fine b) x ρ (λ τ. walk (t .lines) i k f τ) (λ τ. walk (t .lines) i k g τ)) here
           taken z y true q =
-              goes-shows f (ρ .memory) (again f _ bf w)
-              (branch-at l x value (pad 16 (ρ .memory .outputs)) (pad 32 (ρ .memory .variables)) 3 f (tagOf u) z value (sym kind) refl refl y (rw q (sym next)))
+              goes-shows f (ρ .memory) (again f _ bf w) (value-at refl y (branch-at (sym kind) refl (rw q (sym next))))
           taken z y false q =
-              goes-shows g (ρ .memory) (again g _ bg w)
-              (branch-at l x value (pad 16 (ρ .memory .outputs)) (pad 32 (ρ .memory .variables)) 3 g (tagOf u) z value (sym kind) refl refl y
-              (rw q (sym other)))
+              goes-shows g (ρ .memory) (again g _ bg w) (value-at refl y (branch-at (sym kind) refl (rw q (sym other))))
 
           on : (o : Out ℤ) → evaluate e i (ρ .memory .variables) ≡ o
               → Shows (tested (holds e i (ρ .memory)) x ρ (λ τ. walk (t .lines) i k f τ) (λ τ. walk (t .lines) i k g τ)) here
@@ -215,8 +201,7 @@ module _ (l c is vs : List ℕ) (t : Table) (h : Held l c t) (ti : typesFor is �
           (line-value x p e (z .0) (ap (λ y. y .offset) r) (ap (λ y. y .size) r) (d .0) (d .1) (z .1) (fits-items _ _ e _ ft) (ρ .memory) w)
           (λ v. refl) (λ v. sym (set-pad 32 (types (t .signature .variables)) (ρ .memory .variables) n (s .0) v (w .variables) (s .1) few-variables))
       line-shows (acts null f) p q r d b ft =
-          goes-shows f (ρ .memory) (again f _ b w)
-          (null-at l x value (pad 16 (ρ .memory .outputs)) (pad 32 (ρ .memory .variables)) 4 f (sym (ap (λ y. y .kind) r)) refl (sym (ap (λ y. y .next) r)))
+          goes-shows f (ρ .memory) (again f _ b w) (null-at (sym (ap (λ y. y .kind) r)) refl (sym (ap (λ y. y .next) r)))
       line-shows (branches e f g) p q r d b ft =
           let z = fits-type _ _ e _ ft in
           branch-shows e f g (z .0) (ap (λ y. y .kind) r) (ap (λ y. y .next) r) (ap (λ y. y .other) r) (b .0) (b .1)

@@ -15,6 +15,9 @@ pub record Went : Type 0 where
   pub outputs : List ℤ
   pub variables : List ℤ
 
+abbrev pub went : Followed → List ℤ → List ℤ → Went
+went r o v = record { answer = r; outputs = o; variables = v }
+
 -- after the line x, the n lines before it counted, with the outputs o and the variables v that it leaves; go is what is done at the line that follows
 abbrev pub wentOn : Move → ℕ → ℕ → List ℤ → List ℤ → (ℕ → Went) → Went
 wentOn Wait x n o v go = record { answer = Reached x (suc n); outputs = o; variables = v }

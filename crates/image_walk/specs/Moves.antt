@@ -1,4 +1,5 @@
 -- What a line does, by its bytes: the line to follow, and what it leaves in the slots (document 01, "Image, form 1"). Assumes nothing.
+use mathlib.Core.Path.{_≡_}
 use mathlib.Core.Bool.{cond}
 use mathlib.Core.List.{List}
 use Prim.Native.Nat.{ℕ}
@@ -42,3 +43,18 @@ storedOf w k n (Fault q) s = s
 
 abbrev pub storedAt : ℕ → List ℕ → ℕ → Evaluated → List ℤ → List ℤ
 storedAt w l x e s = storedOf w (kindAt l x) (targetAt l x) e s
+
+-- a line that has a value: neither a wait nor null
+pub record Valued (l : List ℕ) (x : ℕ) : Type 0 where
+  pub no-wait : kindAt l x ≡ M.WAIT → ⊥
+  pub no-null : kindAt l x ≡ M.NULL → ⊥
+
+-- the line x with the value e was performed over the outputs o and the variables v: its move m, and what it leaves in them
+pub record Performs (l : List ℕ) (x : ℕ) (e : Evaluated) (o v : List ℤ) (m : Move) (o′ v′ : List ℤ) : Type 0 where
+  pub move : m ≡ moveAt l x e
+  pub outputs : o′ ≡ storedAt M.OUTPUT l x e o
+  pub variables : v′ ≡ storedAt M.VARIABLE l x e v
+
+-- the same of the line whose bytes are l, over its code in c and the type bytes and values of inputs and variables
+abbrev pub PerformsLine : List ℕ → List ℕ → List ℕ → List ℕ → List ℤ → List ℤ → List ℤ → Move → List ℤ → List ℤ → Type 0
+PerformsLine l c is vs i o v m o′ v′ = Performs l 0 (valueAt l c 0 is vs i v) o v m o′ v′

@@ -9,8 +9,8 @@ use Rattle.base_answers.specs.declared.State.{State}
 use Rattle.spec_language.proofs.Examples.{stmts}
 use Rattle.spec_format.specs.Batch.{Batch, batchOf, batchAnswer}
 use Rattle.spec_format.specs.Batch as B
-use Rattle.spec_promises.specs.CInterface.{batchInC}
-use Rattle.spec_promises.specs.CInterface as C
+use Rattle.spec_interface.specs.CInterface.{batchInC}
+use Rattle.spec_interface.specs.CInterface as C
 use Rattle.spec_examples.proofs.Images.{opened, stateAt, tallyImage}
 use Rattle.spec_examples.proofs.Nine.{imageOf}
 

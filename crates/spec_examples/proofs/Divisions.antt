@@ -1,4 +1,5 @@
--- Document 02's values of slip 2, and those at the edges, as one table of claims on whole texts: table, direct run and equations alike. Each is computed from the
+-- Document 02's values of slip 2, and those at the edges, as one table of claims on whole texts: table, direct run and equations alike. Each is computed from
+-- the
 -- text's bytes. Assumes nothing.
 use mathlib.Core.Path.{_≡_, refl}
 use mathlib.Core.List.{List, [], _∷_, _++_}

@@ -36,7 +36,7 @@ use Rattle.spec_format.specs.Cycle.{callsOf, cycleOf}
 use Rattle.spec_semantics.specs.Calls.{Call, Called, performed, not-performed}
 use Rattle.spec_format.specs.Encode as Encode
 use Rattle.spec_format.specs.Writing.{Writing, writtenInto}
-use Rattle.spec_promises.specs.Compile.{written, not-compiled, compileOf}
+use Rattle.spec_interface.specs.Compile.{written, not-compiled, compileOf}
 
 -- opens all that a compile, an opening and a call compute by
 unfoldable pub opened : List ℕ → List ℕ → Writing

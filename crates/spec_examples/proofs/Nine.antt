@@ -25,7 +25,7 @@ use Rattle.spec_behaviour.specs.Direct.{directOf, directFresh, directCalls}
 use Rattle.spec_format.specs.Words.{word2At, word4At}
 use Rattle.spec_format.specs.State.{freshOf}
 use Rattle.spec_format.specs.Cycle.{callsOf}
-use Rattle.spec_promises.specs.Compile.{compileOf}
+use Rattle.spec_interface.specs.Compile.{compileOf}
 use Rattle.spec_examples.proofs.Images.{opened, stateAt, did, rowOf, twoBits}
 
 -- the image that a compile into 200 bytes writes; none where it is refused

@@ -1,4 +1,5 @@
--- Many rows in one call, computed on an image of two waits with two inputs and one output: each row has its own part of the lists and goes on from the state that
+-- Many rows in one call, computed on an image of two waits with two inputs and one output: each row has its own part of the lists and goes on from the state
+-- that
 -- the one before it left, and each of the three lengths is held to the count. Assumes nothing.
 use mathlib.Core.Path.{_≡_, refl}
 use mathlib.Core.Bool.{Bool, true, false}

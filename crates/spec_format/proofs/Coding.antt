@@ -7,10 +7,13 @@ use mathlib.Core.Option.{Option, some, Option·map, bind as andThen}
 use mathlib.Core.List.{List, [], _∷_, _++_, append-nil}
 use lib.ListN.{length, length-append}
 use Rattle.spec_design.specs.Types.{ExprTy, inRange}
-use Rattle.spec_design.specs.Expression.{Leaf, int, bit, input, variable, Unary, sign, invert, Binary, plus, minus, equal, unequal, less, at-most, greater, at-least, and, or, xor, times, divide, modulo, remainder, Expr, leaf, unary, binary, items, Out, fine, fault, bind, Algebra, fold}
+use Rattle.spec_design.specs.Expression.{Leaf, int, bit, input, variable, Unary, sign, invert, Binary, plus, minus, equal, unequal, less, at-most, greater}
+use Rattle.spec_design.specs.Expression.{at-least, and, or, xor, times, divide, modulo, remainder, Expr, leaf, unary, binary, items, Out, fine, fault, bind}
+use Rattle.spec_design.specs.Expression.{Algebra, fold}
 use Rattle.spec_design.proofs.Postfix.{Lays, lay-items, stack-law}
 use Rattle.spec_semantics.proofs.Basic.{none-some}
-use Rattle.spec_format.specs.Code.{Operation, push, apply1, apply2, post, bitByte, first, others, operationBytes, code, Taken, readOperation, operations, Machine, onto, run, runOperations, runCode}
+use Rattle.spec_format.specs.Code.{Operation, push, apply1, apply2, post, bitByte, first, others, operationBytes, code, Taken, readOperation, operations}
+use Rattle.spec_format.specs.Code.{Machine, onto, run, runOperations, runCode}
 use Rattle.base_codes.specs.Operation.{unaryCode, binaryCode}
 use Rattle.spec_format.proofs.Words.{integer-bytes}
 use Rattle.spec_format.proofs.Basic.{andThen-some, map-some}

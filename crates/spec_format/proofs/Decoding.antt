@@ -9,13 +9,16 @@ use mathlib.Core.List.{List, [], _∷_, _++_, append-assoc, append-nil}
 use lib.ListN.{length}
 use lib.Dec.{eqb}
 use Rattle.spec_design.specs.Types.{Ty, ExprTy, sameType, inRange}
-use Rattle.spec_design.specs.Expression.{Leaf, int, bit, input, variable, Unary, Binary, Expr, leaf, unary, binary, Out, fine, fault, bind, Algebra, fold, leafType, unaryType, binaryType, given, given2, typeOf}
+use Rattle.spec_design.specs.Expression.{Leaf, int, bit, input, variable, Unary, Binary, Expr, leaf, unary, binary, Out, fine, fault, bind, Algebra, fold}
+use Rattle.spec_design.specs.Expression.{leafType, unaryType, binaryType, given, given2, typeOf}
 use Rattle.spec_design.proofs.Types.{sameType-refl}
 use Rattle.spec_design.proofs.Postfix.{Steps, lay-whole}
 use Rattle.spec_semantics.proofs.Basic.{none-some, fault-fine, some-injective, fine-injective, eqb-true, cond-case}
 use Rattle.spec_format.specs.Words.{Bytes, word4}
 use Rattle.spec_semantics.specs.Twos.{signed32}
-use Rattle.spec_format.specs.Code.{Operation, push, apply1, apply2, post, bitByte, first, others, operationBytes, code, readInt, bitOf, readBit, readName, applying, operator, readOperation, operations, onto, run, runOperations, runCode, withType, typed, trees, valueOf, decode}
+use Rattle.spec_format.specs.Code.{Operation, push, apply1, apply2, post, bitByte, first, others, operationBytes, code, readInt, bitOf, readBit, readName}
+use Rattle.spec_format.specs.Code.{applying, operator, readOperation, operations, onto, run, runOperations, runCode, withType, typed, trees, valueOf}
+use Rattle.spec_format.specs.Code.{decode}
 use Rattle.base_codes.specs.Operation.{unaryFor, binaryFor}
 use Rattle.base_codes.proofs.OperationLaws.{unary-is, binary-is}
 use Rattle.spec_format.proofs.Words.{word4-small, signed-range, bytes-integer}

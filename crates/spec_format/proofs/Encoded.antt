@@ -7,7 +7,9 @@ use mathlib.Core.Option.{some}
 use mathlib.Core.List.{List, [], _∷_, _++_, append-assoc}
 use lib.ListN.{length, length-map}
 use Rattle.spec_design.specs.Types.{Ty, std-logic, integer, ExprTy, typeByte}
-use Rattle.spec_design.specs.Expression.{Leaf, int, bit, input, variable, Unary, sign, invert, Binary, plus, minus, equal, unequal, less, at-most, greater, at-least, and, or, xor, times, divide, modulo, remainder, Expr, leaf, unary, binary, leafType, unaryType, binaryType, typeOf}
+use Rattle.spec_design.specs.Expression.{Leaf, int, bit, input, variable, Unary, sign, invert, Binary, plus, minus, equal, unequal, less, at-most, greater}
+use Rattle.spec_design.specs.Expression.{at-least, and, or, xor, times, divide, modulo, remainder, Expr, leaf, unary, binary, leafType, unaryType, binaryType}
+use Rattle.spec_design.specs.Expression.{typeOf}
 use Rattle.spec_design.proofs.Postfix.{Steps, lay-whole}
 use Rattle.spec_design.specs.Statement.{output, variable as assign, null}
 use Rattle.spec_design.specs.Process.{typedAct}
@@ -17,7 +19,8 @@ use Rattle.spec_format.specs.Code.{Operation, push, apply1, apply2, post
 use Rattle.base_codes.specs.Operation.{unaryCode, binaryCode}
 use Rattle.spec_format.specs.Signature.{Cell, Signature, types, typeBytes, cellBytes, signatureBytes, GoodSignature}
 use Rattle.spec_format.specs.Lines.{Line, waits, acts, branches}
-use Rattle.spec_format.specs.Image.{Table, RawLine, rawBytes, rawsBytes, lineCode, linesCode, rawOf, rawsOf, pairs, joined, image, form1, sectionsFor, encodeTable}
+use Rattle.spec_format.specs.Image.{Table, RawLine, rawBytes, rawsBytes, lineCode, linesCode, rawOf, rawsOf, pairs, joined, image, form1, sectionsFor}
+use Rattle.spec_format.specs.Image.{encodeTable}
 use Rattle.spec_format.specs.Good.{fitsLine, GoodLines, GoodTable}
 use Rattle.spec_format.proofs.Words.{bytes-append, bytes2-bytes, bytes4-bytes}
 use Rattle.spec_format.proofs.Coding.{untyped1, untyped2, post-laid}

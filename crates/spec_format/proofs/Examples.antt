@@ -7,7 +7,8 @@ use lib.ListN.{set}
 use lib.IntN.{ℤ, pos, negsuc}
 use Rattle.base_answers.specs.declared.State.{State}
 use Rattle.spec_design.specs.Types.{sameTy, sameType, inRange, inType}
-use Rattle.spec_design.specs.Expression.{items, nth, plainly, bind, fold, leafType, given, given2, unaryType, binaryType, sumType, orderType, equalityType, logicalType, typeOf}
+use Rattle.spec_design.specs.Expression.{items, nth, plainly, bind, fold, leafType, given, given2, unaryType, binaryType, sumType, orderType, equalityType}
+use Rattle.spec_design.specs.Expression.{logicalType, typeOf}
 use Rattle.spec_design.specs.Statement.{size}
 use Rattle.spec_design.specs.Process.{isType, fits, typedAct}
 use Rattle.spec_semantics.specs.Evaluation.{evaluate, leafValue, applyUnary, applyBinary, unaryResult, binaryResult, asInteger}
@@ -20,7 +21,8 @@ use Rattle.spec_format.specs.Code.{post, operationBytes, code, operation
 use Rattle.spec_format.specs.Signature.{typeBytes, cellBytes, signatureBytes, readTypes, readCells, signatureOf}
 use Rattle.spec_format.specs.Image.{rawsBytes, lineCode, linesCode, rawOf, rawsOf, pairs, joined, image, form1, sectionsFor, encodeTable}
 use Rattle.spec_format.specs.Good.{goodLine}
-use Rattle.spec_format.specs.Opening.{readSections, readImage, wholeLines, sectionsOf, raws, lineOf, openLine, openLines, openTable, openSections, opened, not-opened, openOf}
+use Rattle.spec_format.specs.Opening.{readSections, readImage, wholeLines, sectionsOf, raws, lineOf, openLine, openLines, openTable, openSections, opened}
+use Rattle.spec_format.specs.Opening.{not-opened, openOf}
 use Rattle.spec_format.specs.State.{placeOk, stateOk, memoryOf, freshTable, freshOf}
 use Rattle.spec_semantics.specs.Records.{zeros, slotsOk, pad, stateFor, fresh}
 use Rattle.spec_format.specs.Cycle.{rowPlace, tableRow, rowOf, cycleOf, callsOf}

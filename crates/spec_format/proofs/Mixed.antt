@@ -7,7 +7,9 @@ use mathlib.Core.Option.{bind as andThen}
 use Prim.Native.Nat.{ℕ}
 use lib.IntN.{pos, negsuc}
 use Rattle.spec_design.specs.Types.{std-logic, integer, plain, boolean, sameTy, sameType, inRange, inType}
-use Rattle.spec_design.specs.Expression.{int, bit, input, variable, sign, invert, plus, minus, equal, unequal, at-least, and, or, Expr, leaf, unary, binary, items, nth, plainly, bind, leafType, given, given2, unaryType, binaryType, sumType, orderType, equalityType, logicalType, typeOf}
+use Rattle.spec_design.specs.Expression.{int, bit, input, variable, sign, invert, plus, minus, equal, unequal, at-least, and, or, Expr, leaf, unary, binary}
+use Rattle.spec_design.specs.Expression.{items, nth, plainly, bind, leafType, given, given2, unaryType, binaryType, sumType, orderType, equalityType}
+use Rattle.spec_design.specs.Expression.{logicalType, typeOf}
 use Rattle.spec_design.specs.Statement.{output, variable as assign, null, act, wait, if-else, seq, size}
 use Rattle.spec_design.specs.Process.{Process, isType, fits, typedAct}
 use Rattle.spec_format.specs.Lines.{lines, linesOf, entry, reaches, reachesOf}
@@ -15,7 +17,8 @@ use Rattle.spec_format.specs.Code.{post, operationBytes, code, operation
 use Rattle.spec_format.specs.Signature.{typeBytes, cellBytes, signatureBytes, readTypes, readCells, signatureOf}
 use Rattle.spec_format.specs.Image.{rawsBytes, lineCode, linesCode, rawOf, rawsOf, pairs, joined, image, form1, sectionsFor, encodeTable}
 use Rattle.spec_format.specs.Good.{goodLine}
-use Rattle.spec_format.specs.Opening.{readSections, readImage, wholeLines, sectionsOf, raws, lineOf, openLine, openLines, openTable, openSections, opened, openOf}
+use Rattle.spec_format.specs.Opening.{readSections, readImage, wholeLines, sectionsOf, raws, lineOf, openLine, openLines, openTable, openSections, opened}
+use Rattle.spec_format.specs.Opening.{openOf}
 use Rattle.spec_format.specs.Encode.{signatureFor, tableOf, encode}
 
 -- a = '1' or d >= -3 - w, where a and d are the inputs, v and w the variables

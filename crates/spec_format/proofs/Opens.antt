@@ -16,7 +16,8 @@ use Rattle.spec_format.specs.Signature.{Signature, signatureBytes, signa
 use Rattle.spec_format.specs.Lines.{Line}
 use Rattle.spec_format.specs.Image.{Table, rawsBytes, linesCode, rawsOf, pairs, joined, image, Sections, form1, sectionsFor, encodeTable}
 use Rattle.spec_format.specs.Good.{GoodTable}
-use Rattle.spec_format.specs.Opening.{wholeLines, sectionsOf, raws, Lined, lined, bad-at, rawReaches, Opened, opened, tabled, openTable, unless12, rawLines, openSections, unless11, openOf}
+use Rattle.spec_format.specs.Opening.{wholeLines, sectionsOf, raws, Lined, lined, bad-at, rawReaches, Opened, opened, tabled, openTable, unless12}
+use Rattle.spec_format.specs.Opening.{rawLines, openSections, unless11, openOf}
 use Rattle.spec_format.specs.Refusals.{Sectioned, Signed}
 use Rattle.spec_format.proofs.Words.{bytes-left, bytes-right}
 use Rattle.spec_format.proofs.Signature.{signature-read, signature-exactly}

@@ -14,8 +14,10 @@ use Rattle.spec_format.specs.Words.{Bytes}
 use Rattle.spec_format.specs.Signature.{Signature, signatureOf}
 use Rattle.spec_format.specs.Lines.{Line}
 use Rattle.spec_format.specs.Image.{RawLine, raw, lineCode, rawOf, Sections}
-use Rattle.spec_format.specs.Opening.{sectionsOf, openLine, Lined, lined, bad-at, with, goOn, openLines, rawReaches, not-opened, tabled, openTable, unless12, rawLines, openSections, unless11, openOf}
-use Rattle.spec_format.specs.Refusals.{Sectioned, Signed, runStart, GoodAt, Lowest, bad-line, not-filled, Refusal, sections-refused, signature-refused, line-refused}
+use Rattle.spec_format.specs.Opening.{sectionsOf, openLine, Lined, lined, bad-at, with, goOn, openLines, rawReaches, not-opened, tabled, openTable}
+use Rattle.spec_format.specs.Opening.{unless12, rawLines, openSections, unless11, openOf}
+use Rattle.spec_format.specs.Refusals.{Sectioned, Signed, runStart, GoodAt, Lowest, bad-line, not-filled, Refusal, sections-refused, signature-refused}
+use Rattle.spec_format.specs.Refusals.{line-refused}
 use Rattle.spec_format.proofs.Words.{bytes-drop}
 use Rattle.spec_format.proofs.Signature.{signature-exactly}
 use Rattle.spec_format.proofs.Sections.{sections-exactly}

@@ -14,7 +14,8 @@ use Rattle.spec_design.specs.Types.{Ty, std-logic, integer, inType, typeByte, t
 use Rattle.spec_semantics.proofs.Basic.{none-some, some-injective, eqb-true, and-left, and-right, cond-case}
 use Rattle.spec_format.specs.Words.{Bytes, word4, bytes4}
 use Rattle.spec_semantics.specs.Twos.{signed32, unsigned32}
-use Rattle.spec_format.specs.Signature.{Cell, Signature, typeBytes, cellBytes, signatureBytes, Initialised, GoodSignature, readTypes, readCell, readCells, atEnd, signatureOf}
+use Rattle.spec_format.specs.Signature.{Cell, Signature, typeBytes, cellBytes, signatureBytes, Initialised, GoodSignature, readTypes, readCell, readCells}
+use Rattle.spec_format.specs.Signature.{atEnd, signatureOf}
 use Rattle.spec_format.proofs.Words.{integer-bytes, bytes-integer, type-range}
 use Rattle.spec_format.proofs.Basic.{andThen-some, onlyIf-some}
 

@@ -5,8 +5,10 @@ use mathlib.Core.Bool.{Bool, true, false}
 use mathlib.Core.List.{List, [], _∷_}
 use Prim.Native.Nat.{ℕ, zero, suc}
 use lib.Dec.{T}
-use Rattle.spec_grammar.specs.Grammar.{NonTerminal, text, ports, morePorts, port, names, moreNames, mode, type, init, value, vars, body, more, statement, target, else-part}
-use Rattle.spec_grammar.specs.Grammar.{expression, chain, ands, ors, xors, relation, compared, simple, terms, term, factors, factor, primary, Sym, tk, nt, Production, productions, textProduction}
+use Rattle.spec_grammar.specs.Grammar.{NonTerminal, text, ports, morePorts, port, names, moreNames, mode, type, init, value, vars, body, more, statement}
+use Rattle.spec_grammar.specs.Grammar.{target, else-part}
+use Rattle.spec_grammar.specs.Grammar.{expression, chain, ands, ors, xors, relation, compared, simple, terms, term, factors, factor, primary, Sym, tk, nt}
+use Rattle.spec_grammar.specs.Grammar.{Production, productions, textProduction}
 use Rattle.spec_grammar.specs.Derivation.{_∈_, here, there, Tree, by, Trees, empty, token, child}
 
 andAlso : {A B : Type 0} → Option A → (A → Option B) → Option B

@@ -13,7 +13,8 @@ use Rattle.spec_grammar.specs.Grammar.{NonTerminal, text, Says, Mark, Sy
 use Rattle.spec_grammar.specs.Tree.{Text}
 use Rattle.spec_grammar.specs.Meter.{Meter, zeroes, tick}
 use Rattle.spec_grammar.specs.Derivation.{_∈_, here, there}
-use Rattle.spec_grammar.specs.Reader.{nullable, rank, choose, nullables, compose, Pick, take, no-rule, pick, Outcome, read, refused, limited, keep, run, readText, atEnd, after, advance, elem, first, firsts, follow}
+use Rattle.spec_grammar.specs.Reader.{nullable, rank, choose, nullables, compose, Pick, take, no-rule, pick, Outcome, read, refused, limited, keep, run}
+use Rattle.spec_grammar.specs.Reader.{readText, atEnd, after, advance, elem, first, firsts, follow}
 use Rattle.spec_grammar.specs.Descent.{Got, got, not-got, past, next, one, each, ofEmpty, emptyRule, leave, chosenRule, headed, descend}
 use Rattle.spec_grammar.proofs.Sets.{and-left, and-right, subset}
 use Rattle.spec_grammar.proofs.Tables.{lead, lead-ok, inside-ok, vanishes, pick-rule, rank-ok, if-so}

@@ -8,7 +8,8 @@ use Rattle.base_codes.specs.Token.{ENTITY, IS, PORT, END, ARCHITECTURE, OF, BEG
 use Rattle.spec_grammar.specs.Grammar.{textProduction, productions}
 use Rattle.spec_grammar.specs.Tree.{Text, Expr, name, sign, negate, binary, parens, assign, only, without, input}
 use Rattle.spec_grammar.specs.Meter.{tick, over}
-use Rattle.spec_grammar.specs.Reader.{nullable, first, follow, elem, nullables, firsts, chosen, pick, compose, onSkip, shift, through, byRule, enter, advance, atEnd, keep, after, run, readText}
+use Rattle.spec_grammar.specs.Reader.{nullable, first, follow, elem, nullables, firsts, chosen, pick, compose, onSkip, shift, through, byRule, enter}
+use Rattle.spec_grammar.specs.Reader.{advance, atEnd, keep, after, run, readText}
 use Rattle.spec_grammar.specs.Acceptance.{Answer, accepted, no-sentence, past-limit}
 use Rattle.spec_grammar.specs.Reader.{placed, answer}
 

@@ -1,4 +1,5 @@
--- Items and parentheses of expressions: after every token the counts keep their limits exactly where the tree does. A machine keeps the two counts of the expression
+-- Items and parentheses of expressions: after every token the counts keep their limits exactly where the tree does. A machine keeps the two counts of the
+-- expression
 -- being read, and the highest value that each has had; by induction over the tree these are the highest over the tree's expressions. Assumes nothing.
 use mathlib.Core.Path.{_≡_, refl, ap}
 use mathlib.Core.Logic.{_↔_}
@@ -6,7 +7,8 @@ use mathlib.Core.List.{List, [], _∷_, _++_}
 use Prim.Native.Nat.{ℕ, suc, pred, _+_, _≤_, max}
 use native.Mathlib.Omega.{arith}
 use Rattle.spec_grammar.specs.Token.{Token}
-use Rattle.spec_grammar.specs.Tree.{Expr, number, bit, name, sign, negate, binary, parens, Stmt, output, assign, null, wait, if-then, if-else, while, Body, only, andThen, Text}
+use Rattle.spec_grammar.specs.Tree.{Expr, number, bit, name, sign, negate, binary, parens, Stmt, output, assign, null, wait, if-then, if-else, while}
+use Rattle.spec_grammar.specs.Tree.{Body, only, andThen, Text}
 use Rattle.spec_grammar.specs.Grammar.{text, Mark, plain, item, opens, closes, fresh, stmt, stmt-fresh, deeper, shallower, declares, ins, outs, variables}
 use Rattle.spec_grammar.specs.Meter.{Meter, zeroes, tick}
 use Rattle.spec_grammar.specs.Limits.{Each, stmtExprs, bodyExprs, itemCount, parenDepth}

@@ -1,10 +1,14 @@
--- A machine that goes by the marks, where those of an expression, of statements or of declarations do not move it: then these do not. By induction over the tree. Assumes nothing.
+-- A machine that goes by the marks, where those of an expression, of statements or of declarations do not move it: then these do not. By induction over the
+-- tree. Assumes nothing.
 use mathlib.Core.Path.{_≡_, refl, _∙_}
 use mathlib.Core.List.{List, [], _∷_}
 use Rattle.spec_grammar.specs.Token.{Token}
-use Rattle.spec_grammar.specs.Tree.{Expr, number, bit, name, sign, negate, binary, parens, Stmt, output, assign, null, wait, if-then, if-else, while, Body, only, andThen, Init, without, integer-literal, logic-literal, minus, Mode, input, output-port, variable-mode, Group, Text}
+use Rattle.spec_grammar.specs.Tree.{Expr, number, bit, name, sign, negate, binary, parens, Stmt, output, assign, null, wait, if-then, if-else, while}
+use Rattle.spec_grammar.specs.Tree.{Body, only, andThen, Init, without, integer-literal, logic-literal, minus, Mode, input, output-port, variable-mode}
+use Rattle.spec_grammar.specs.Tree.{Group, Text}
 use Rattle.spec_grammar.specs.Grammar.{Mark, plain, item, opens, closes, fresh, stmt, stmt-fresh, deeper, shallower, declares, ins, outs, variables}
-use Rattle.spec_grammar.proofs.Walk.{portMark, onExpr, onStmt, onBody, onMoreNames, onNames, onMode, onInit, onPort, onMorePorts, onPorts, onVars, onText}
+use Rattle.spec_grammar.proofs.Walk.{portMark, onExpr, onStmt, onBody, onMoreNames, onNames, onMode, onInit, onPort, onMorePorts, onPorts, onVars}
+use Rattle.spec_grammar.proofs.Walk.{onText}
 use Rattle.spec_grammar.proofs.Along.{byMarks}
 
 module _ {C : Type 0} (act : Mark → C → C) where

@@ -1,4 +1,5 @@
--- The laws by which a reader that calls itself nonterminal by nonterminal (recursive descent) is shown equal to `run`: one for a token, one for a production, one for a nonterminal that is left out.
+-- The laws by which a reader that calls itself nonterminal by nonterminal (recursive descent) is shown equal to `run`: one for a token, one for a production,
+-- one for a nonterminal that is left out.
 -- Assumes nothing.
 use mathlib.Core.Path.{_≡_, refl, sym, _∙_, subst, ap}
 use mathlib.Core.Bool.{Bool, true, false, _&&_}
@@ -11,7 +12,8 @@ use Rattle.spec_grammar.specs.Token.{Token}
 use Rattle.spec_grammar.specs.Grammar.{NonTerminal, Says, Mark, Sym, tk, nt, Fun, Production, productions, _↠_}
 use Rattle.spec_grammar.specs.Meter.{Meter, tick}
 use Rattle.spec_grammar.specs.Derivation.{_∈_}
-use Rattle.spec_grammar.specs.Reader.{nullable, first, follow, rank, elem, choose, nullables, firsts, chosen, compose, Pick, take, no-rule, pick, Step, stuck, skip, to, onSkip, shift, through, byRule, enter, advance, refused, atEnd, keep, after, run}
+use Rattle.spec_grammar.specs.Reader.{nullable, first, follow, rank, elem, choose, nullables, firsts, chosen, compose, Pick, take, no-rule, pick, Step}
+use Rattle.spec_grammar.specs.Reader.{stuck, skip, to, onSkip, shift, through, byRule, enter, advance, refused, atEnd, keep, after, run}
 use Rattle.spec_grammar.proofs.Sets.{and-left, and-right, elem-cases, elem-choose}
 use Rattle.spec_grammar.proofs.Tables.{lead, lead-ok, vanishes, begins, pick-rule, pick-finds, take-same, no-rule-take, rank-ok, if-so}
 use Rattle.spec_grammar.proofs.Trees.{starts, Has}
@@ -253,10 +255,11 @@ module _ (lim : Meter → Bool) (S : NonTerminal) (c : Meter) (M : NonTerminal) 
       → p ≡ no-rule
   unfolding chosen
   no-pick x f g no-rule e = refl
-  no-pick x f g (take q) e = elim (elem-cases (x .kind) (firsts (q .rhs)) (choose (nullables (q .rhs)) (follow M) []) (pick-elem q (productions M) (x .kind) e)) [
-    | inl u ↦ absurd (f (begins (pick-rule q (x .kind) e) (x .kind) u))
-    | inr u ↦ absurd (g (elem-choose (x .kind) (nullables (q .rhs)) (follow M) u .1))
-  ]
+  no-pick x f g (take q) e = elim (elem-cases (x .kind) (firsts (q .rhs)) (choose (nullables (q .rhs)) (follow M) [])
+      (pick-elem q (productions M) (x .kind) e)) [
+        | inl u ↦ absurd (f (begins (pick-rule q (x .kind) e) (x .kind) u))
+        | inr u ↦ absurd (g (elem-choose (x .kind) (nullables (q .rhs)) (follow M) u .1))
+      ]
 
   run-on : (x : Token) (us : List Token) → (T (elem (x .kind) (follow M)) → ⊥) → run lim (x ∷ us) S c γ (κ v) ≡ refused (x ∷ us)
   unfolding run

@@ -9,7 +9,8 @@ use lib.Dec.{eqb}
 use lib.ListN.{length}
 use Rattle.spec_grammar.specs.Token.{Token}
 use Rattle.base_codes.specs.Token.{NAME, NUMBER}
-use Rattle.spec_grammar.specs.Tree.{Expr, number, bit, name, sign, negate, binary, parens, Stmt, output, assign, null, wait, if-then, if-else, while, Body, only, andThen, Text}
+use Rattle.spec_grammar.specs.Tree.{Expr, number, bit, name, sign, negate, binary, parens, Stmt, output, assign, null, wait, if-then, if-else, while}
+use Rattle.spec_grammar.specs.Tree.{Body, only, andThen, Text}
 use Rattle.spec_grammar.specs.Grammar.{text, Mark, plain, item, opens, closes, fresh, stmt, stmt-fresh, deeper, shallower, declares, ins, outs, variables}
 use Rattle.spec_grammar.specs.Limits.{itemCount, stmtCount, bodyCount}
 use Rattle.spec_grammar.specs.Derivation.{Reads}

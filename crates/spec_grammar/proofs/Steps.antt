@@ -9,7 +9,8 @@ use lib.Dec.{T, eqb, ltb, eqb-refl, eqb→eq, ltb→lt}
 use Rattle.spec_grammar.specs.Token.{Token}
 use Rattle.spec_grammar.specs.Grammar.{NonTerminal, Says, Mark, Sym, tk, nt, Fun, Production, productions}
 use Rattle.spec_grammar.specs.Derivation.{_∈_, Trees, token, spans, marks, says, saysAll}
-use Rattle.spec_grammar.specs.Reader.{nullable, first, follow, rank, elem, choose, nullables, firsts, chosen, compose, Pick, take, no-rule, pick, Step, stuck, skip, to, onSkip, shift, through, byRule, enter, advance}
+use Rattle.spec_grammar.specs.Reader.{nullable, first, follow, rank, elem, choose, nullables, firsts, chosen, compose, Pick, take, no-rule, pick, Step}
+use Rattle.spec_grammar.specs.Reader.{stuck, skip, to, onSkip, shift, through, byRule, enter, advance}
 use Rattle.spec_grammar.proofs.Sets.{and-left, and-right, elem-left, elem-right, elem-cases, elem-choose, choose-elem, subset, within, not-T}
 use Rattle.spec_grammar.proofs.Tables.{inside, lead, inside-ok, lead-ok, vanishes, pick-finds, pick-rule, take-same, no-rule-take, rank-ok, if-so}
 use Rattle.spec_grammar.proofs.Trees.{cons-head, cons-tail, Has, By, down, up, starts}

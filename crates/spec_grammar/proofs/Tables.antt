@@ -5,8 +5,10 @@ use mathlib.Core.List.{List, [], _∷_}
 use Prim.Native.Nat.{ℕ}
 use native.Mathlib.Omega.{arith}
 use lib.Dec.{T, ltb}
-use Rattle.spec_grammar.specs.Grammar.{NonTerminal, text, ports, morePorts, port, names, moreNames, mode, type, init, value, vars, body, more, statement, target, else-part}
-use Rattle.spec_grammar.specs.Grammar.{expression, chain, ands, ors, xors, relation, compared, simple, terms, term, factors, factor, primary, Sym, tk, nt, Production, productions, textProduction}
+use Rattle.spec_grammar.specs.Grammar.{NonTerminal, text, ports, morePorts, port, names, moreNames, mode, type, init, value, vars, body, more, statement}
+use Rattle.spec_grammar.specs.Grammar.{target, else-part}
+use Rattle.spec_grammar.specs.Grammar.{expression, chain, ands, ors, xors, relation, compared, simple, terms, term, factors, factor, primary, Sym, tk, nt}
+use Rattle.spec_grammar.specs.Grammar.{Production, productions, textProduction}
 use Rattle.spec_grammar.specs.Derivation.{_∈_, here, there}
 use Rattle.spec_grammar.specs.Reader.{nullable, first, follow, rank, elem, choose, nullables, firsts, chosen, Pick, take, no-rule, pick}
 use Rattle.spec_grammar.proofs.Sets.{and-left, and-right, subset, within, disjoint, apart}

@@ -1,5 +1,7 @@
--- Names and numbers of a text: after every token its length or value keeps its limit exactly where each name and number of the tree does. A machine adds up what the names
--- and numbers so far have over their limits; by induction over the tree this is the sum over those of the tree, which is 0 exactly if none is over. Assumes nothing.
+-- Names and numbers of a text: after every token its length or value keeps its limit exactly where each name and number of the tree does. A machine adds up
+-- what the names
+-- and numbers so far have over their limits; by induction over the tree this is the sum over those of the tree, which is 0 exactly if none is over. Assumes
+-- nothing.
 use mathlib.Core.Path.{_≡_, refl}
 use mathlib.Core.Bool.{Bool, true, false, cond}
 use mathlib.Core.Logic.{_↔_}
@@ -9,10 +11,13 @@ use native.Mathlib.Omega.{arith}
 use lib.Dec.{eqb, eqb→eq}
 use Rattle.spec_grammar.specs.Token.{Token}
 use Rattle.base_codes.specs.Token.{NAME, NUMBER}
-use Rattle.spec_grammar.specs.Tree.{Expr, number, bit, name, sign, negate, binary, parens, Stmt, output, assign, null, wait, if-then, if-else, while, Body, only, andThen, Init, without, integer-literal, logic-literal, minus, Mode, input, output-port, variable-mode, Group, Text}
+use Rattle.spec_grammar.specs.Tree.{Expr, number, bit, name, sign, negate, binary, parens, Stmt, output, assign, null, wait, if-then, if-else, while}
+use Rattle.spec_grammar.specs.Tree.{Body, only, andThen, Init, without, integer-literal, logic-literal, minus, Mode, input, output-port, variable-mode}
+use Rattle.spec_grammar.specs.Tree.{Group, Text}
 use Rattle.spec_grammar.specs.Grammar.{text, Mark}
 use Rattle.spec_grammar.specs.Meter.{Meter, zeroes, tick}
-use Rattle.spec_grammar.specs.Limits.{Each, exprNames, exprNumbers, stmtNames, bodyNames, stmtExprs, bodyExprs, initNumbers, groupNames, groupNumbers, exprsNumbers, textNames, textNumbers}
+use Rattle.spec_grammar.specs.Limits.{Each, exprNames, exprNumbers, stmtNames, bodyNames, stmtExprs, bodyExprs, initNumbers, groupNames, groupNumbers}
+use Rattle.spec_grammar.specs.Limits.{exprsNumbers, textNames, textNumbers}
 use Rattle.spec_grammar.specs.Derivation.{Reads}
 use Rattle.spec_grammar.proofs.Walk.{Machine, onExpr, onStmt, onBody, onMoreNames, onNames, onMode, onInit, onPort, onMorePorts, onPorts, onVars, onText}
 use Rattle.spec_grammar.proofs.Along.{Along, Follows, text-along}

@@ -4,8 +4,11 @@ use mathlib.Core.Path.{sym, subst}
 use mathlib.Core.List.{List}
 use Prim.Native.Nat.{ℕ}
 use Rattle.spec_grammar.specs.Token.{Token}
-use Rattle.spec_grammar.specs.Tree.{Expr, number, bit, name, sign, negate, binary, parens, Stmt, output, assign, null, wait, if-then, if-else, while, Body, only, andThen, Init, without, integer-literal, logic-literal, minus, Group, Text}
-use Rattle.spec_grammar.specs.Grammar.{NonTerminal, text, ports, morePorts, port, names, moreNames, mode, type, init, value, vars, body, more, statement, target, else-part, expression, chain, ands, ors, xors, relation, compared, simple, terms, term, factors, factor, primary}
+use Rattle.spec_grammar.specs.Tree.{Expr, number, bit, name, sign, negate, binary, parens, Stmt, output, assign, null, wait, if-then, if-else, while}
+use Rattle.spec_grammar.specs.Tree.{Body, only, andThen, Init, without, integer-literal, logic-literal, minus, Group, Text}
+use Rattle.spec_grammar.specs.Grammar.{NonTerminal, text, ports, morePorts, port, names, moreNames, mode, type, init, value, vars, body, more, statement}
+use Rattle.spec_grammar.specs.Grammar.{target, else-part, expression, chain, ands, ors, xors, relation, compared, simple, terms, term, factors, factor}
+use Rattle.spec_grammar.specs.Grammar.{primary}
 use Rattle.spec_grammar.specs.Grammar.{Says, Mark, productions, textProduction}
 use Rattle.spec_grammar.specs.Derivation.{Reads}
 use Rattle.spec_grammar.specs.Limits.{Each}

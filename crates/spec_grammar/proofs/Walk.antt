@@ -10,9 +10,14 @@ use lib.Dec.{eqb}
 use lib.ListN.{length}
 use Rattle.spec_grammar.specs.Token.{Token}
 use Rattle.base_codes.specs.Token.{NAME, NUMBER}
-use Rattle.spec_grammar.specs.Tree.{Expr, number, bit, name, sign, negate, binary, parens, Stmt, output, assign, null, wait, if-then, if-else, while, Body, only, andThen, Init, without, integer-literal, logic-literal, minus, Mode, input, output-port, variable-mode, Group, Text}
-use Rattle.spec_grammar.specs.Grammar.{NonTerminal, text, ports, morePorts, port, names, moreNames, mode, type, init, value, vars, body, more, statement, target, else-part, expression, chain, ands, ors, xors, relation, compared, simple, terms, term, factors, factor, primary, Says}
-use Rattle.spec_grammar.specs.Grammar.{Mark, plain, item, opens, closes, fresh, stmt, stmt-fresh, deeper, shallower, declares, ins, outs, variables, Sym, tk, nt, Fun, Production, productions, textProduction}
+use Rattle.spec_grammar.specs.Tree.{Expr, number, bit, name, sign, negate, binary, parens, Stmt, output, assign, null, wait, if-then, if-else, while}
+use Rattle.spec_grammar.specs.Tree.{Body, only, andThen, Init, without, integer-literal, logic-literal, minus, Mode, input, output-port, variable-mode}
+use Rattle.spec_grammar.specs.Tree.{Group, Text}
+use Rattle.spec_grammar.specs.Grammar.{NonTerminal, text, ports, morePorts, port, names, moreNames, mode, type, init, value, vars, body, more, statement}
+use Rattle.spec_grammar.specs.Grammar.{target, else-part, expression, chain, ands, ors, xors, relation, compared, simple, terms, term, factors, factor}
+use Rattle.spec_grammar.specs.Grammar.{primary, Says}
+use Rattle.spec_grammar.specs.Grammar.{Mark, plain, item, opens, closes, fresh, stmt, stmt-fresh, deeper, shallower, declares, ins, outs, variables, Sym}
+use Rattle.spec_grammar.specs.Grammar.{tk, nt, Fun, Production, productions, textProduction}
 use Rattle.spec_grammar.specs.Derivation.{_∈_, here, there, Tree, by, Trees, empty, token, child, span, spans, mark, marks, says, saysAll, Reads}
 use Rattle.spec_grammar.proofs.Marks.{mark-length}
 

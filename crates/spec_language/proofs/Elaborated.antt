@@ -12,7 +12,8 @@ use Rattle.spec_grammar.specs.Tree.{Init, Group, Text, Mode}
 use Rattle.spec_language.specs.Lists.{unless, each, filter}
 use Rattle.spec_design.specs.Statement.{Class, A, B, C, classOf, LoopsC}
 use Rattle.spec_design.specs.Process.{Slot, Process}
-use Rattle.spec_language.specs.Declarations.{Decl, scopeFor, scopeOf, clockOf, declare, spread, groups, declared, find, isA, isInput, isOutput, isVariable, clockLike, statements}
+use Rattle.spec_language.specs.Declarations.{Decl, scopeFor, scopeOf, clockOf, declare, spread, groups, declared, find, isA, isInput, isOutput}
+use Rattle.spec_language.specs.Declarations.{isVariable, clockLike, statements}
 use Rattle.spec_language.specs.Names.{names, differs, doubled, namesOf}
 use Rattle.spec_language.specs.Typing.{types, typesOf, initialsOf}
 use Rattle.spec_language.specs.Values.{values, firstAt, missing, valuesOf}

@@ -1,4 +1,5 @@
--- Examples of refusal 2 and of what tokens are; those of refusal 1 stand in the crate spec_examples. Each refused text has its nearest accepted neighbour. Assumes nothing.
+-- Examples of refusal 2 and of what tokens are; those of refusal 1 stand in the crate spec_examples. Each refused text has its nearest accepted neighbour.
+-- Assumes nothing.
 use mathlib.Core.List.{List, [], _∷_, _++_}
 use Rattle.spec_language.specs.Bytes.{bytes}
 use Rattle.spec_language.proofs.Examples.{Example, accepts, refused-at, whole, stmts, vars}

@@ -17,7 +17,8 @@ use Rattle.spec_language.specs.Names.{doubled, readable, namesIn}
 use Rattle.spec_language.specs.Typing.{onOne, resultOf, onTwo, typeOf, wrong1, wrong2, typesIn}
 use Rattle.base_codes.specs.Operation.{operatorOf}
 use Rattle.spec_language.specs.Clock.{readsIn}
-use Rattle.spec_language.specs.Elaboration.{Means, number, bit, input, variable, sign, invert, binary, parens, position, nameCode, named, orBoolean, orPlus, code}
+use Rattle.spec_language.specs.Elaboration.{Means, number, bit, input, variable, sign, invert, binary, parens, position, nameCode, named, orBoolean}
+use Rattle.spec_language.specs.Elaboration.{orPlus, code}
 use Rattle.spec_language.proofs.Facts.{clash, no-cons, no-some, both-nil, unless-nil, not-true, find-name, kth-found, Found, found-kth}
 
 -- the clock, where there is one, is not read

@@ -1,4 +1,5 @@
--- lex answers tokens exactly when the text has these tokens, and 2 at p exactly when it has tokens up to p and there no token begins, or a malformed word. Assumes nothing.
+-- lex answers tokens exactly when the text has these tokens, and 2 at p exactly when it has tokens up to p and there no token begins, or a malformed word.
+-- Assumes nothing.
 use mathlib.Core.Path.{_≡_, refl, sym, _∙_, ap, subst}
 use mathlib.Core.Logic.{_↔_}
 use mathlib.Core.List.{List, [], _∷_, _++_}

@@ -6,7 +6,8 @@ use mathlib.Core.List.{List, [], _∷_}
 use Prim.Native.Nat.{ℕ}
 use Rattle.spec_grammar.specs.Token.{Token}
 use Rattle.spec_grammar.specs.Tree.{Group, Text}
-use Rattle.spec_grammar.specs.Grammar.{NonTerminal, text, ports, morePorts, port, names, moreNames, mode, type, init, value, vars, body, more, statement, target, else-part, expression, chain, ands, ors, xors, relation, compared, simple, terms, term, factors, factor, primary}
+use Rattle.spec_grammar.specs.Grammar.{NonTerminal, text, ports, morePorts, port, names, moreNames, mode, type, init, value, vars, body, more, statement}
+use Rattle.spec_grammar.specs.Grammar.{target, else-part, expression, chain, ands, ors, xors, relation, compared, simple, terms, term, factors, factor, primary}
 use Rattle.spec_grammar.specs.Grammar.{Says, Mark, Sym, tk, nt, Fun, Production, productions, textProduction}
 use Rattle.spec_grammar.specs.Derivation.{span, Reads}
 use Rattle.spec_grammar.specs.Limits.{Each}

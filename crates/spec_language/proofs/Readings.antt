@@ -15,10 +15,12 @@ use Rattle.spec_design.specs.Types.{Ty, std-logic, integer}
 use Rattle.spec_design.specs.Expression.{sumType, logicalType}
 use Rattle.spec_design.specs.Process.{Source, Process}
 use Rattle.spec_language.specs.Lists.{filter}
-use Rattle.spec_language.specs.Declarations.{Decl, typeNamed, declare, spread, groups, declared, isInput, isOutput, isVariable, find, typeIn, within, statements, orElse, waitName, firstWait, clockOf, isClock, isData, scopeFor, scopeOf}
+use Rattle.spec_language.specs.Declarations.{Decl, typeNamed, declare, spread, groups, declared, isInput, isOutput, isVariable, find, typeIn, within}
+use Rattle.spec_language.specs.Declarations.{statements, orElse, waitName, firstWait, clockOf, isClock, isData, scopeFor, scopeOf}
 use Rattle.spec_language.specs.Typing.{onOne, typeOf}
 use Rattle.spec_language.specs.Elaboration.{position, nameCode, named, code, stmt, stmts, minus, initial, source, slot, processFor, elaborate}
-use Rattle.spec_language.specs.Reading.{ExprReading, StmtReading, BodyReading, DeclReading, Reading, readExpr, readStmt, readBody, given, unlessInput, readDecl, reading}
+use Rattle.spec_language.specs.Reading.{ExprReading, StmtReading, BodyReading, DeclReading, Reading, readExpr, readStmt, readBody, given, unlessInput}
+use Rattle.spec_language.specs.Reading.{readDecl, reading}
 use Rattle.spec_language.specs.Reading as R
 use Rattle.spec_language.specs.Validity.{Valid}
 use Rattle.spec_language.proofs.Facts.{clash}

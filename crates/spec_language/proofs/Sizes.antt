@@ -15,7 +15,8 @@ use Rattle.spec_grammar.specs.Tree.{Body, Mode, Group, Text}
 use Rattle.spec_grammar.specs.Limits.{Each, ifInput, ifOutput, inputCount, outputCount, nameCount, stmtCount, bodyCount}
 use Rattle.spec_design.specs.Statement.{Class, A, B, C, seqClass, ifClass, size}
 use Rattle.spec_language.specs.Lists.{unless, each, filter}
-use Rattle.spec_language.specs.Declarations.{Decl, Scope, declare, spread, groups, declared, isInput, isOutput, isVariable, find, isA, within, statements, orElse, waitName, firstWait, clockOf, isClock, isData, clockLike}
+use Rattle.spec_language.specs.Declarations.{Decl, Scope, declare, spread, groups, declared, isInput, isOutput, isVariable, find, isA, within, statements}
+use Rattle.spec_language.specs.Declarations.{orElse, waitName, firstWait, clockOf, isClock, isData, clockLike}
 use Rattle.spec_language.specs.Clock.{clock, clockFor, readsOf, strays}
 use Rattle.spec_language.specs.Classes.{class, classes}
 use Rattle.spec_language.specs.Elaboration.{stmt, stmts}

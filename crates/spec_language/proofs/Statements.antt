@@ -17,7 +17,8 @@ use Rattle.spec_language.specs.Names.{doubled, namesIn, namesOf}
 use Rattle.spec_language.specs.Typing.{typeOf, typesIn, wants, typesOf}
 use Rattle.spec_language.specs.Clock.{readsIn, readsOf}
 use Rattle.spec_language.specs.Classes.{pair, looped, class, classes}
-use Rattle.spec_language.specs.Elaboration.{Kth, Means, Does, DoesAll, output, assign, null, wait, if-then, if-else, while, only, andThen, position, code, stmt, stmts}
+use Rattle.spec_language.specs.Elaboration.{Kth, Means, Does, DoesAll, output, assign, null, wait, if-then, if-else, while, only, andThen, position, code}
+use Rattle.spec_language.specs.Elaboration.{stmt, stmts}
 use Rattle.spec_language.proofs.Facts.{clash, no-some, both-nil, each-nil, unless-nil, kth-found, found-kth}
 use Rattle.spec_language.proofs.Expressions.{Unread, typed}
 use Rattle.spec_language.proofs.Expressions as E

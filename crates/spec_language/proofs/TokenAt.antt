@@ -13,7 +13,8 @@ use Rattle.spec_language.specs.Lexing.{Meaning, Piece, Stops, Starts}
 use Rattle.spec_language.specs.Lexing as S
 use Rattle.spec_language.proofs.Facts.{eqb-eq, eq-eqb}
 use Rattle.spec_language.proofs.Lexing.{Here, gap, token, bad, none, starts}
-use Rattle.spec_language.proofs.LexExact.{gap-something, token-something, bad-something, step-gap, step-token, step-bad, step-none, empty-nothing, shorter, piece-some}
+use Rattle.spec_language.proofs.LexExact.{gap-something, token-something, bad-something, step-gap, step-token, step-bad, step-none, empty-nothing}
+use Rattle.spec_language.proofs.LexExact.{shorter, piece-some}
 
 passed : (w rest : List ℕ) (n p : ℕ) → tokenFrom (w ++ rest) (length w) n p ≡ tokenFrom rest 0 (n + length w) p
 unfolding tokenFrom

@@ -40,12 +40,14 @@ use Rattle.spec_simulation.specs.Outcome.{Outcome, row-refused, state-refused, 
 use Rattle.spec_simulation.proofs.Outcomes.{image-outcome, row-long}
 use Rattle.spec_simulation.proofs.Processes.{encode-opens}
 use Rattle.spec_simulation.proofs.Places.{image-place, cycle-place, cycle-count}
-use Rattle.spec_promises.specs.Compile.{written, compileOf}
+use Rattle.spec_interface.specs.Compile.{written, compileOf}
 use Rattle.spec_promises.specs.Promises.{answerInC, RefusedAs}
-use Rattle.spec_promises.specs.Batch.{Due, DueTo, BatchRefused, by-image, by-length, endToEnd, Comes, turned-away, takes, Singly, Batched, BatchTold, BatchOfText}
+use Rattle.spec_promises.specs.Batch.{Due, DueTo, BatchRefused, by-image, by-length, endToEnd, Comes, turned-away, takes, Singly, Batched, BatchTold}
+use Rattle.spec_promises.specs.Batch.{BatchOfText}
 use Rattle.spec_promises.proofs.Size.{valid-fits}
-use Rattle.spec_promises.proofs.Demand3.{wrote, demand3}
-use Rattle.spec_promises.proofs.Entry.{told-by}
+use Rattle.spec_interface.proofs.Compile.{wrote}
+use Rattle.spec_promises.proofs.Demand3.{demand3}
+use Rattle.spec_promises.proofs.AnswersTold.{told-by}
 
 -- THE COUNT'S DUE
 eqb-is : (m n : ℕ) → m ≡ n → eqb m n ≡ true
@@ -104,7 +106,7 @@ module _ (image : List ℕ) (s : State) (n : ℕ) (is os : List ℤ) (ns : List 
         (not-due-is (t .signature) n is os ns h)
 
   -- a call is turned away and leaves all as it came, or it is its rows end to end
-  pub batch-cases : (P : Batch → Type 0) → ((q k : ℕ) → P (record { answer = refusal q k; state = s; rows = os; answers = ns }))
+  batch-cases : (P : Batch → Type 0) → ((q k : ℕ) → P (record { answer = refusal q k; state = s; rows = os; answers = ns }))
       → ((t : Table) → openOf image ≡ opened t → DueTo t n is os ns
       → P (endToEnd s (callsOf image s (callsIn n (length (t .signature .inputs)) (length (t .signature .outputs)) is os))))
       → P (batchOf image s n is os ns)

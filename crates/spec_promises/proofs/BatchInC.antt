@@ -1,15 +1,13 @@
 -- Many rows in one call at the C interface: the 49 numbers that single calls hand on are those of the state record that the rows hand on, from any 49 numbers;
 -- a row that is refused leaves them, a row that is performed leaves those of a record that they hold without loss. Assumes nothing.
 use mathlib.Core.Path.{_≡_, refl, sym, _∙_, ap}
-use mathlib.Core.Bool.{Bool, true, false, cond, _||_}
 use mathlib.Core.List.{List, [], _∷_, _++_}
 use Prim.Native.Nat.{ℕ}
 use lib.ListN.{length, take}
 use lib.IntN.{ℤ}
-use Rattle.base_answers.specs.Answers.{isDone}
 use Rattle.base_answers.specs.Numbers.{numbersOf}
 use Rattle.base_answers.specs.declared.State.{State}
-use Rattle.spec_semantics.specs.Calls.{Answer, performed, not-performed, Called, Call}
+use Rattle.spec_semantics.specs.Calls.{Called, Call}
 use Rattle.spec_semantics.specs.Advances.{cycleAnswer}
 use Rattle.spec_semantics.specs.Comparison.{laid}
 use Rattle.spec_semantics.specs.Rows.{atFirst}
@@ -18,46 +16,16 @@ use Rattle.spec_format.specs.Image.{Table}
 use Rattle.spec_format.specs.Opening.{opened, openOf}
 use Rattle.spec_format.specs.Cycle.{cycleOf, callsOf}
 use Rattle.spec_format.specs.Encode.{tableOf}
-use Rattle.spec_format.specs.Batch.{Batch, callsIn, rowsLeft, answersLeft, stateLeft, batchOf, onePerformed, isMoved}
-use Rattle.spec_format.proofs.Unmoved.{state-kept}
+use Rattle.spec_format.specs.Batch.{Batch, callsIn, rowsLeft, answersLeft}
 use Rattle.spec_simulation.specs.Outcome.{Outcome, row-refused, state-refused, operator-refused, performs}
 use Rattle.spec_simulation.proofs.Outcomes.{image-outcome}
-use Rattle.spec_promises.specs.Compile.{compileOf}
-use Rattle.spec_promises.specs.CInterface.{stateOfC, cOfState, cycledSlots, compileInC, cycleInC, callsInC, slotsLeft, batchSlots, batchLeft, batchInC}
+use Rattle.spec_interface.specs.Compile.{compileOf}
+use Rattle.spec_interface.specs.CInterface.{stateOfC, cOfState, cycledSlots, compileInC, cycleInC, callsInC, slotsLeft, batchLeft, batchInC}
+use Rattle.spec_interface.proofs.CInterface.{back}
 use Rattle.spec_promises.specs.Promises.{doneNumbers}
 use Rattle.spec_promises.specs.Batch.{DueTo, slotsAfter, rowsAfter, answersAfter, endToEndInC, BatchInC, BatchOfTextInC}
-use Rattle.spec_promises.proofs.CInterface.{back, wait-whole, wrote-in-c, wrote-bytes, calls-in-c}
-use Rattle.spec_promises.proofs.Batch.{batch-cases, batch-taken, turned-back, text-opens, text-due, text-calls}
-
--- THE 49 NUMBERS AFTER THE ROWS: stored where a row was performed, else as they came
-module _ (image : List ℕ) where
-  rows-moved : (s : State) (l : List ℤ) (cs : List Call)
-      → slotsLeft l (callsOf image s cs) ≡ cond (onePerformed (callsOf image s cs)) (cOfState (stateLeft s (callsOf image s cs))) l
-  unfolding callsOf slotsLeft onePerformed stateLeft
-  rows-moved s l [] = refl
-  rows-moved s l (c ∷ cs) =
-      let r = cycleOf image s (c .inputs) (c .outputs) in
-      on (r .state) (callsOf image (r .state) cs) (r .answer) (rows-moved (r .state) (cOfState (r .state)) cs) (rows-moved (r .state) l cs)
-      (state-kept image (r .state) cs)
-    where
-      on : (x : State) (rs : List Called) (a : Answer)
-          → slotsLeft (cOfState x) rs ≡ cond (onePerformed rs) (cOfState (stateLeft x rs)) (cOfState x)
-          → slotsLeft l rs ≡ cond (onePerformed rs) (cOfState (stateLeft x rs)) l
-          → (onePerformed rs ≡ false → stateLeft x rs ≡ x)
-          → slotsLeft (cycledSlots a x l) rs ≡ cond (isDone (cycleAnswer a) || onePerformed rs) (cOfState (stateLeft x rs)) l
-      on x rs (performed way) stored kept f = stored ∙ again (onePerformed rs) refl
-        where
-          again : (b : Bool) → onePerformed rs ≡ b → cond b (cOfState (stateLeft x rs)) (cOfState x) ≡ cOfState (stateLeft x rs)
-          again true e = refl
-          again false e = sym (ap cOfState (f e))
-      on x rs (not-performed q k) stored kept f = kept
-
-  pub slots-moved : (l : List ℤ) (n : ℕ) (is os : List ℤ) (ns : List ℕ)
-      → batchSlots (batchOf image (stateOfC l) n is os ns .answer) l
-      ≡ cond (isMoved (batchOf image (stateOfC l) n is os ns .answer)) (cOfState (batchOf image (stateOfC l) n is os ns .state)) l
-  slots-moved l n is os ns =
-      batch-cases image (stateOfC l) n is os ns (λ b. batchSlots (b .answer) l ≡ cond (isMoved (b .answer)) (cOfState (b .state)) l)
-      (λ q k. refl) (λ t e d. rows-moved (stateOfC l) l _)
+use Rattle.spec_promises.proofs.CInterface.{wait-whole, wrote-in-c, wrote-bytes, calls-in-c}
+use Rattle.spec_promises.proofs.Batch.{batch-taken, turned-back, text-opens, text-due, text-calls}
 
 -- THE ROWS GIVEN SINGLY
 module _ (image : List ℕ) (h : Bytes image) (t : Table) (e : openOf image ≡ opened t) where

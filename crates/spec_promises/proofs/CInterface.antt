@@ -1,22 +1,18 @@
--- The C interface: the three numbers are the definition's own, and the 49 numbers handed from call to call are those of the state record handed from call to
--- call. Assumes nothing.
+-- Lists of calls at the C interface: the 49 numbers handed from call to call are those of the state record handed from call to call. Assumes nothing.
 use Prim.Native.Nat.{ℕ, _<_}
 use native.Mathlib.Omega.{arith}
 use mathlib.Core.Path.{_≡_, refl, sym, ap, _∙_, subst}
 use mathlib.Core.List.{List, [], _∷_, map}
-use lib.ListN.{length, take, drop, length-append}
-use lib.Seq.{take-all, take-at, drop-at}
-use lib.IntN.{ℤ, pos}
-use borrow.Author.Tests.{lt-ltb}
+use lib.ListN.{length, take}
+use lib.IntN.{ℤ}
 use Rattle.base_answers.specs.declared.State.{State}
-use Rattle.base_answers.specs.Answers.{Told}
 use Rattle.base_answers.specs.Numbers.{numbersOf}
 use Rattle.spec_language.proofs.Judged.{accepts}
 use Rattle.spec_language.proofs.WellFormed.{valid-well-formed}
 use Rattle.spec_semantics.specs.Equations.{beginning, Memory}
 use Rattle.spec_semantics.specs.Rows.{Kept, atFirst}
 use Rattle.spec_semantics.specs.Records.{Started, stateFor, fresh}
-use Rattle.spec_semantics.specs.Calls.{performed, not-performed, Called, Call}
+use Rattle.spec_semantics.specs.Calls.{Called, Call}
 use Rattle.spec_semantics.specs.Comparison.{laid, equationCalls}
 use Rattle.spec_semantics.proofs.Slots.{pad-length}
 use Rattle.spec_language.proofs.Numbers.{of-text-above-0}
@@ -28,80 +24,19 @@ use Rattle.spec_format.specs.Cycle.{cycleOf, callsOf}
 use Rattle.spec_format.specs.Encode.{encode}
 use Rattle.spec_format.specs.Writing.{Writing}
 use Rattle.spec_format.proofs.Opens.{opens-exactly}
-use Rattle.spec_format.proofs.Calls.{refused-untouched}
 use Rattle.spec_simulation.specs.Outcome as Image
 use Rattle.spec_simulation.proofs.Processes.{encode-bytes}
-use Rattle.spec_behaviour.specs.Direct.{directOf}
 use Rattle.spec_behaviour.proofs.DirectRun.{direct-run}
-use Rattle.spec_promises.specs.Compile.{written, not-compiled, compileOf}
-use Rattle.spec_promises.specs.CInterface.{placeOfC, stateOfC, cOfState, Left, cycleLeft, startLeft, openNumbers, compileInC, cycleInC, directInC, callsInC}
+use Rattle.spec_interface.specs.Compile.{written, compileOf}
+use Rattle.spec_interface.specs.CInterface.{stateOfC, cOfState, Left, cycleLeft, startLeft, compileInC, cycleInC, directInC, callsInC}
+use Rattle.spec_interface.specs.Laws.{Whole}
+use Rattle.spec_interface.proofs.CInterface.{back}
 use Rattle.spec_promises.specs.Promises as P
-use Rattle.spec_promises.specs.Promises.{SlotsInC, ToldInC, CallsInC, seenInC, refusedNumbers, doneNumbers}
+use Rattle.spec_promises.specs.Promises.{CallsInC, seenInC, doneNumbers}
 use Rattle.spec_promises.proofs.Demand1.{demand1}
-use Rattle.spec_promises.proofs.Demand3.{wrote, demand3}
+use Rattle.spec_interface.proofs.Compile.{wrote}
+use Rattle.spec_promises.proofs.Demand3.{demand3}
 use Rattle.spec_promises.proofs.Size.{valid-fits}
-use Rattle.spec_promises.proofs.Untouched.{direct-untouched}
-
--- ONE CALL
-
--- a compile that is refused leaves the buffer
-buffer-kept : (text buffer : List ℕ) (q k : ℕ) (r : Writing) → P.Compiles text buffer r → r .answer ≡ not-compiled q k → r .buffer ≡ buffer
-buffer-kept text buffer q k r (P.Compiles.writes d v l) e = absurd (let z : _≡_ {A = ℕ} 0 1 = cc in omega arith)
-buffer-kept text buffer q k r (P.Compiles.too-short d v l) e = refl
-buffer-kept text buffer q k r (P.Compiles.refuses n p a h) e = refl
-
--- a cycle that is refused
-left-refused : (call : State → Called) (l o : List ℤ) (q k : ℕ) → call (stateOfC l) .answer ≡ not-performed q k → call (stateOfC l) .row ≡ o
-    → cycleLeft call l ≡ record { answer = refusedNumbers q k; slots = l; row = o }
-left-refused call l o q k e f = rw (e, f)
-
--- a cycle that is performed
-left-performed : (call : State → Called) (l : List ℤ) (way : List ℕ) (s : State) (row : List ℤ)
-    → call (stateOfC l) ≡ record { answer = performed way; state = s; row = row }
-    → cycleLeft call l ≡ record { answer = doneNumbers (length way); slots = cOfState s; row = row }
-left-performed call l way s row e = rw e
-
-pub told-in-c : (text buffer image : List ℕ) → Bytes image → (l : List ℤ) (c : Call) → ToldInC text buffer image l c
-told-in-c text buffer image h l c =
-    record {
-      compiled = λ n e. ap (λ (a : Told ℕ). (numbersOf a, compileOf text buffer .buffer)) e;
-      compile-refused = λ q k e. ap (λ (a : Told ℕ). (numbersOf a, compileOf text buffer .buffer)) e
-          ∙ ap (λ (b : List ℕ). (refusedNumbers q k, b))
-          (buffer-kept text buffer q k (compileOf text buffer) (demand1 text buffer image h (stateOfC l) c .compiled) e);
-      opened = λ t e. ap openNumbers e;
-      open-refused = λ q k e. ap openNumbers e;
-      started = λ s e. ap (λ (x : Started). startLeft x l) e;
-      start-refused = λ q k e. ap (λ (x : Started). startLeft x l) e;
-      cycled = λ way s row e. left-performed (λ x. cycleOf image x (c .inputs) (c .outputs)) l way s row e;
-      cycle-refused = λ q k e. left-refused (λ x. cycleOf image x (c .inputs) (c .outputs)) l (c .outputs) q k e
-          (refused-untouched (stateOfC l) (c .outputs) image (c .inputs) q k e .1);
-      run = λ way s row e. left-performed (λ x. directOf text x c) l way s row e;
-      run-refused = λ q k e. left-refused (λ x. directOf text x c) l (c .outputs) q k e (direct-untouched text (stateOfC l) c q k e .1);
-      run-started = λ s e. ap (λ (x : Started). startLeft x l) e;
-      run-start-refused = λ q k e. ap (λ (x : Started). startLeft x l) e;
-    }
-
--- THE 49 NUMBERS
-pub slots-in-c : (s : State) → length (s .outputs) ≡ 16 → length (s .variables) ≡ 32 → SlotsInC s
-slots-in-c s h k =
-    let e = length-append (s .outputs) (s .variables) in
-    record { place = refl; outputs = take-at (s .outputs) (s .variables) 16 h; variables = drop-at (s .outputs) (s .variables) 16 h; count = omega arith }
-
--- LISTS OF CALLS
-
--- a record that the 49 numbers hold without loss
-pub record Whole (s : State) : Type 0 where
-  pub place : s .place < 65536
-  pub outputs : length (s .outputs) ≡ 16
-  pub variables : length (s .variables) ≡ 32
-
-pub back : (s : State) → Whole s → stateOfC (cOfState s) ≡ s
-back s w =
-    let l = slots-in-c s (w .outputs) (w .variables) in
-    let place : placeOfC (pos (s .place)) ≡ s .place = rw (lt-ltb (s .place) 65536 (w .place)) in
-    let variables : take 32 (drop 17 (cOfState s)) ≡ s .variables = ap (take 32) (l .variables)
-    ∙ take-all 32 (s .variables) (let e = w .variables in omega arith) in
-    λ j. record { place = place j; outputs = l .outputs j; variables = variables j }
 
 -- what a call on the record s leaves in the 49 numbers of s is seen as the call, and the record is whole again
 record Carried (s : State) (r : Called) : Type 0 where

@@ -33,7 +33,7 @@ use Rattle.spec_format.proofs.Opens.{opens-exactly}
 use Rattle.spec_format.proofs.Refusals.{refused-exactly}
 use Rattle.spec_simulation.proofs.Outcomes.{image-outcome}
 use Rattle.spec_behaviour.specs.Direct.{unlessRefused, directOf, freshText, directFresh}
-use Rattle.spec_promises.specs.Compile.{onVerdict, compileOf}
+use Rattle.spec_interface.specs.Compile.{onVerdict, compileOf}
 use Rattle.spec_promises.specs.Promises.{Compiles, writes, too-short, Opens, opens, Starts, Runs, runs, RunsText, by-14, by-15, answers, StartsText}
 use Rattle.spec_promises.specs.Promises as D
 

@@ -38,27 +38,25 @@ use Rattle.spec_format.specs.State.{stateOk, freshFrom, freshOf}
 use Rattle.spec_format.specs.Cycle.{rowPlace, tableRow, rowOf, unlessClosed, cycleOf}
 use Rattle.spec_format.specs.Encode.{encode}
 use Rattle.spec_format.specs.Writing.{Writing, writtenInto}
-use Rattle.spec_format.proofs.Writing.{short-written, written-cases}
+use Rattle.spec_format.proofs.Writing.{written-cases}
 use Rattle.spec_format.proofs.Opens.{opens-exactly}
 use Rattle.spec_format.proofs.Refusals.{refused-exactly}
 use Rattle.spec_simulation.specs.Outcome as O
 use Rattle.spec_simulation.proofs.InputRows.{row-exactly}
 use Rattle.spec_simulation.proofs.States.{state-exactly}
 use Rattle.spec_behaviour.specs.Direct.{unlessRefused, directOf, freshText, directFresh}
-use Rattle.spec_promises.specs.Compile.{not-compiled, onVerdict, compileOf}
+use Rattle.spec_interface.specs.Compile.{not-compiled, onVerdict, compileOf}
+use Rattle.spec_interface.proofs.Compile.{compile-writes}
 use Rattle.spec_promises.specs.Promises as P
 use Rattle.spec_promises.proofs.Cases.{compiles, image-opens, image-starts, image-runs, text-runs, text-starts}
 
 -- COMPILE
 module _ (text buffer : List ℕ) (q k : ℕ) where
   compile-back : P.CompileRefused text buffer q k → compileOf text buffer .answer ≡ not-compiled q k
-  unfolding compileOf
-  compile-back (P.CompileRefused.by-text r) = ap (λ (v : Verdict). onVerdict v buffer .answer) (J.refuses text q k .1 r)
+  compile-back (P.CompileRefused.by-text r) = ap (λ (w : Writing). w .answer) (compile-writes text buffer .turned-back q k (J.refuses text q k .1 r))
   compile-back (P.CompileRefused.by-buffer d v h e f) =
-      let z : onVerdict (accepted d) buffer .answer ≡ not-compiled 10 (length (encode d)) =
-      ap (λ (w : Writing). w .answer) (short-written (encode d) buffer h) in
-      ap (λ (x : Verdict). onVerdict x buffer .answer) (J.accepts text d .1 v)
-      ∙ (z ∙ ap (λ (n : ℕ). not-compiled n (length (encode d))) (sym e) ∙ ap (λ (n : ℕ). not-compiled q n) (sym f))
+      ap (λ (w : Writing). w .answer) (compile-writes text buffer .too-short d (J.accepts text d .1 v) h)
+      ∙ (ap (λ (n : ℕ). not-compiled n (length (encode d))) (sym e) ∙ ap (λ (n : ℕ). not-compiled q n) (sym f))
 
   on-encoded : (d : Process) → Valid text d → writtenInto (encode d) buffer .answer ≡ not-compiled q k → P.CompileRefused text buffer q k
   on-encoded d v =

@@ -4,11 +4,10 @@ use mathlib.Core.Path.{_≡_, refl, sym, _∙_, ap}
 use mathlib.Core.List.{List, [], _∷_}
 use Prim.Native.Nat.{ℕ}
 use lib.ListN.{length, take}
-use Rattle.base_answers.proofs.Told.{done-refused}
 use Rattle.base_answers.specs.declared.State.{State}
 use Rattle.spec_design.specs.Process.{Process, WellFormed}
 use Rattle.spec_language.specs.Validity.{Valid}
-use Rattle.spec_language.specs.Verdict.{Verdict, accepted, refused, verdict}
+use Rattle.spec_language.specs.Verdict.{Verdict}
 use Rattle.spec_language.proofs.Judged.{accepts}
 use Rattle.spec_language.proofs.WellFormed.{valid-well-formed}
 use Rattle.spec_semantics.specs.Rows.{Kept, Outcome, row, atFirst}
@@ -20,8 +19,8 @@ use Rattle.spec_semantics.specs.Records as S
 use Rattle.spec_format.specs.Cycle.{cycleOf, callsOf}
 use Rattle.spec_semantics.specs.Calls.{Called, Call}
 use Rattle.spec_format.specs.Encode.{tableOf, encode}
-use Rattle.spec_format.proofs.Writing.{wrote-into}
-use Rattle.spec_promises.specs.Compile.{written, onVerdict, compileOf}
+use Rattle.spec_interface.specs.Compile.{written, compileOf}
+use Rattle.spec_interface.proofs.Compile.{wrote}
 use Rattle.spec_semantics.specs.Comparison.{fed, laid, told, seen, equationCalls}
 use Rattle.spec_semantics.specs.DirectRow.{directRow}
 use Rattle.spec_behaviour.specs.Direct.{unlessRefused, directOf, freshText, directFresh}
@@ -69,23 +68,6 @@ module _ (p : Process) (w : WellFormed p) (o : openOf (encode p) ≡ opened (tab
   unfolding equationCalls
   ways-short [] k v = tt
   ways-short (c ∷ cs) k v = (way-short k v c, ways-short cs (row p k (fed c) .1) (row-invariant p w k (fed c) v))
-
--- what a compile that wrote n bytes wrote
-pub record Wrote (text buffer : List ℕ) (n : ℕ) : Type 0 where
-  pub process : Process
-  pub verdict : verdict text ≡ accepted process
-  pub count : length (encode process) ≡ n
-  pub image : take n (compileOf text buffer .buffer) ≡ encode process
-
-pub wrote : (text buffer : List ℕ) (n : ℕ) → compileOf text buffer .answer ≡ written n → Wrote text buffer n
-unfolding compileOf
-wrote text buffer n e = on (verdict text) refl
-  where
-    on : (v : Verdict) → verdict text ≡ v → Wrote text buffer n
-    on (refused q k) h = done-refused (sym e ∙ ap (λ (v : Verdict). onVerdict v buffer .answer) h)
-    on (accepted p) h =
-        let w = wrote-into (encode p) buffer n (sym (ap (λ (v : Verdict). onVerdict v buffer .answer) h) ∙ e) in
-        record { process = p; verdict = h; count = w .0; image = ap (λ (v : Verdict). take n (onVerdict v buffer .buffer)) h ∙ w .1 }
 
 -- THE THEOREM
 pub demand3 : (text buffer : List ℕ) (n : ℕ) → compileOf text buffer .answer ≡ written n → Demand3 text buffer n

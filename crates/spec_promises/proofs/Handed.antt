@@ -13,9 +13,9 @@ use Rattle.spec_language.specs.Validity.{Refuses}
 use Rattle.spec_language.specs.Validity as Q
 use Rattle.spec_language.proofs.Numbers.{first-not-2}
 use Rattle.spec_language.proofs.TokenAt.{token-at, token-some, starts-computed, stop-nothing}
-use Rattle.spec_promises.specs.Lending.{bytesBetween, Lends, StandsAt, PartAt}
+use Rattle.spec_interface.specs.Lending.{bytesBetween, Lends, StandsAt, PartAt}
 use Rattle.spec_promises.specs.Promises.{Handed}
-use Rattle.spec_promises.proofs.Lending.{stands-between, stands-lent, empty-stands, empty-between}
+use Rattle.spec_interface.proofs.Lending.{stands-between, stands-lent, empty-stands, empty-between}
 
 -- what starts at p, the text t being read from n on, stands so far behind n
 abbrev Stands : ℕ → List ℕ → ℕ → List ℕ → Type 0

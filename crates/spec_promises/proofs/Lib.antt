@@ -5,15 +5,13 @@ pub mod Direct
 pub mod Cases
 pub mod Demand1
 pub mod Demand3
-pub mod Lending
 pub mod Handed
-pub mod SectionsLent
 pub mod Main
 pub mod LexedPlaces
 pub mod OffencePlaces
 pub mod Places
 pub mod Untouched
 pub mod CInterface
-pub mod Entry
+pub mod AnswersTold
 pub mod Batch
 pub mod BatchInC

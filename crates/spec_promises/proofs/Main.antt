@@ -23,19 +23,22 @@ use Rattle.spec_simulation.specs.Outcome.{Outcome, row-refused, state-refused, 
 use Rattle.spec_simulation.proofs.Outcomes.{image-outcome}
 use Rattle.spec_simulation.proofs.Processes.{encode-opens}
 use Rattle.spec_behaviour.specs.Direct.{directOf, directCalls}
-use Rattle.spec_promises.specs.Compile.{written, compileOf}
-use Rattle.spec_promises.specs.Lending.{boundsOf}
-use Rattle.spec_promises.specs.CInterface.{compileInC}
+use Rattle.spec_interface.specs.Compile.{written, compileOf}
+use Rattle.spec_interface.specs.Lending.{boundsOf}
+use Rattle.spec_interface.specs.CInterface.{compileInC}
+use Rattle.spec_interface.proofs.Compile.{wrote}
+use Rattle.spec_interface.proofs.SectionsLent as L
+use Rattle.spec_interface.proofs.Entry as E
+use Rattle.spec_interface.proofs.CInterface as I
 use Rattle.spec_promises.specs.Batch.{Batched, BatchTold, BatchOfText, BatchInC, BatchOfTextInC}
-use Rattle.spec_promises.specs.Promises.{Demand1, Demand2, Demand3, Handed, SectionsLent, AnswersTold, ToldByEntry, SlotsInC, ToldInC, doneNumbers, CallsInC, Compiled, Returned}
+use Rattle.spec_promises.specs.Promises.{Demand1, Demand2, Demand3, Handed, SectionsLent, AnswersTold, ToldByEntry, SlotsInC, ToldInC, doneNumbers}
+use Rattle.spec_promises.specs.Promises.{CallsInC, Compiled, Returned}
 use Rattle.spec_promises.proofs.Size.{valid-fits}
 use Rattle.spec_promises.proofs.Demand1 as D1
 use Rattle.spec_promises.proofs.Demand2 as D2
 use Rattle.spec_promises.proofs.Demand3 as D3
-use Rattle.spec_promises.proofs.Demand3.{wrote}
 use Rattle.spec_promises.proofs.Handed as H
-use Rattle.spec_promises.proofs.SectionsLent as L
-use Rattle.spec_promises.proofs.Entry as E
+use Rattle.spec_promises.proofs.AnswersTold as A
 use Rattle.spec_promises.proofs.CInterface as C
 use Rattle.spec_promises.proofs.Batch as B
 use Rattle.spec_promises.proofs.BatchInC as BC
@@ -66,18 +69,18 @@ sections-lent = L.sections-lent
 
 -- ANSWERS THAT ARE ENUMS, and what entry leaves and tells beside them, for every text, image and state record
 pub answers-told : AnswersTold
-answers-told = E.answers-told
+answers-told = A.answers-told
 
 pub told-by-entry : (text image : List ℕ) (s : State) → ToldByEntry text image s
 told-by-entry = E.told-by-entry
 
 -- THE C INTERFACE: one call of each function, for every text, buffer, image, 49 numbers and call; every list of calls, where rabtishu_compile told n bytes
 pub told-in-c : (text buffer image : List ℕ) → Bytes image → (l : List ℤ) (c : Call) → ToldInC text buffer image l c
-told-in-c = C.told-in-c
+told-in-c text buffer image h l c = I.told-in-c text buffer image l c
 
 -- every state record has 16 and 32 slots, by its type
 pub slots-in-c : (s : State) → length (s .outputs) ≡ 16 → length (s .variables) ≡ 32 → SlotsInC s
-slots-in-c = C.slots-in-c
+slots-in-c = I.slots-in-c
 
 pub calls-in-c : (text buffer : List ℕ) (n : ℕ) → compileInC text buffer .0 ≡ doneNumbers n → CallsInC text buffer n
 calls-in-c = C.calls-in-c

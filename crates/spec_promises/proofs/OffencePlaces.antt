@@ -6,12 +6,14 @@ use Prim.Native.Nat.{ℕ, _≤_}
 use lib.Dec.{eqb}
 use Rattle.spec_grammar.specs.Token.{Token}
 use Rattle.spec_grammar.specs.Tree as T
-use Rattle.spec_grammar.specs.Tree.{Expr, number, bit, name, sign, negate, binary, parens, Stmt, output, assign, null, wait, if-then, if-else, while, Body, only, andThen, Init, without, integer-literal, logic-literal, Group, Text}
+use Rattle.spec_grammar.specs.Tree.{Expr, number, bit, name, sign, negate, binary, parens, Stmt, output, assign, null, wait, if-then, if-else, while, Body}
+use Rattle.spec_grammar.specs.Tree.{only, andThen, Init, without, integer-literal, logic-literal, Group, Text}
 use Rattle.spec_grammar.specs.Limits.{Each}
 use Rattle.spec_grammar.proofs.Each.{each-join}
 use Rattle.spec_design.specs.Types.{Ty, ExprTy, std-logic, integer, boolean, sameTy, sameType}
 use Rattle.spec_language.specs.Lists.{unless, each}
-use Rattle.spec_language.specs.Declarations.{Decl, typeNamed, declare, spread, groups, declared, isInput, isOutput, isVariable, find, isA, typeIn, within, statements, orElse, waitName, firstWait, clockOf, clockLike}
+use Rattle.spec_language.specs.Declarations.{Decl, typeNamed, declare, spread, groups, declared, isInput, isOutput, isVariable, find, isA, typeIn, within}
+use Rattle.spec_language.specs.Declarations.{statements, orElse, waitName, firstWait, clockOf, clockLike}
 use Rattle.spec_language.specs.Names.{again, doubled, readable, namesIn, namesOf, differs, names}
 use Rattle.spec_language.specs.Typing.{typeOf, wrong1, wrong2, typesIn, wants, typesOf, initialOf, initialsOf, types}
 use Rattle.spec_language.specs.Values.{firstAt, missing, valuesOf, values}

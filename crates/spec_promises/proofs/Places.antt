@@ -22,7 +22,7 @@ use Rattle.spec_simulation.proofs.Outcomes.{row-outcome}
 use Rattle.spec_simulation.proofs.Processes.{process-good}
 use Rattle.spec_simulation.proofs.Places.{image-place, outcome-place, outcome-count, open-place, cycle-place, cycle-count}
 use Rattle.spec_behaviour.specs.Direct.{unlessRefused, directOf, directFresh}
-use Rattle.spec_promises.specs.Compile.{written, not-compiled, compileOf}
+use Rattle.spec_interface.specs.Compile.{written, not-compiled, compileOf}
 use Rattle.spec_promises.specs.Promises as P
 use Rattle.spec_promises.specs.Places.{PlacesFit}
 use Rattle.spec_grammar.proofs.TokensOf.{tokens-of}

@@ -23,8 +23,8 @@ use Rattle.spec_format.specs.Refusals.{Refusal}
 use Rattle.spec_format.specs.State.{freshOf}
 use Rattle.spec_format.specs.Cycle.{cycleOf, callsOf}
 use Rattle.spec_format.specs.Batch.{Batch, callsIn, rowsLeft, answersLeft, stateLeft, batchOf, batchAnswer, isMoved}
-use Rattle.spec_promises.specs.Compile.{compileOf}
-use Rattle.spec_promises.specs.CInterface.{Left, BatchLeft, cOfState, compileInC, freshInC, cycleInC, callsInC, batchInC}
+use Rattle.spec_interface.specs.Compile.{compileOf}
+use Rattle.spec_interface.specs.CInterface.{Left, BatchLeft, cOfState, compileInC, freshInC, cycleInC, callsInC, batchInC}
 use Rattle.spec_promises.specs.Promises.{RefusedAs, refusedNumbers, doneNumbers, answerInC, seenInC}
 
 -- "the count's due": i input values, o outputs and three numbers for each of n rows

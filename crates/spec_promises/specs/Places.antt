@@ -12,7 +12,7 @@ use Rattle.spec_format.specs.Opening.{not-opened, openOf}
 use Rattle.spec_format.specs.State.{freshOf}
 use Rattle.spec_format.specs.Cycle.{cycleOf}
 use Rattle.spec_behaviour.specs.Direct.{directOf, directFresh}
-use Rattle.spec_promises.specs.Compile.{written, not-compiled, compileOf}
+use Rattle.spec_interface.specs.Compile.{written, not-compiled, compileOf}
 
 pub record PlacesFit (text buffer image : List ℕ) (s : State) (c : Call) : Type 0 where
   -- "Places in 1 to 9 are byte offsets": of the text, or its length

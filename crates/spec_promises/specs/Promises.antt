@@ -1,12 +1,12 @@
 -- What the buyer was promised: demands 1, 2 and 3, for every text, buffer, image, state record and list of calls. To be read first. The definitions that are
--- named here are those that stand in the `ensures` of the public functions: compile (`compileOf`), open (`openOf`), fresh (`freshOf`), cycle (`cycleOf`),
--- direct (`directOf`), direct_fresh (`directFresh`). They are functions, so every call ends and a refusal has one place. Assumes nothing.
+-- named here (spec_interface/specs/Operations.antt) stand in the `ensures` of the public functions: compile (`compileOf`), open (`openOf`), fresh (`freshOf`),
+-- cycle (`cycleOf`), direct (`directOf`), direct_fresh (`directFresh`). They are functions, so every call ends and a refusal has one place. Assumes nothing.
 use mathlib.Core.Path.{_≡_}
 use mathlib.Core.Logic.{_↔_}
 use mathlib.Core.List.{List, [], _∷_, _++_, map}
 use Prim.Native.Nat.{ℕ, suc, _+_, _≤_, _<_}
-use lib.ListN.{length, getD, take, drop}
-use lib.IntN.{ℤ, pos}
+use lib.ListN.{length, take, drop}
+use lib.IntN.{ℤ}
 use denote.Ref.{RefT, now}
 use Rattle.base_answers.specs.Answers.{numberOf, placeOf, compileTold, freshTold, cycleTold}
 use Rattle.base_answers.specs.declared.State.{State}
@@ -17,12 +17,10 @@ use Rattle.base_answers.specs.declared.Started as declared-started
 use Rattle.base_answers.specs.declared.Started.the-variants.{Fresh, NotStarted}
 use Rattle.base_answers.specs.declared.Cycled.{Cycled}
 use Rattle.base_answers.specs.declared.Cycled.the-variants.{Performed, NotPerformed}
-use Rattle.base_answers.specs.declared.Sections.{Sections}
 use Rattle.spec_grammar.specs.Tree.{Text}
 use Rattle.spec_design.specs.Statement.{size}
 use Rattle.spec_design.specs.Process.{Process}
 use Rattle.spec_language.specs.Lexing as Lexing
-use Rattle.spec_language.specs.Lexer.{tokenAt}
 use Rattle.spec_language.specs.Reading.{reading}
 use Rattle.spec_language.specs.Validity.{Parses, Valid, Refuses, OfText}
 use Rattle.spec_language.specs.Verdict.{accepted, refused, verdict}
@@ -40,23 +38,40 @@ use Rattle.spec_semantics.specs.Calls.{Answer, performed, not-performed, Called
 use Rattle.spec_semantics.specs.Advances.{cycleAnswer, freshAnswer}
 use Rattle.spec_semantics.specs.Comparison.{fed, laid, seen, equationCalls}
 use Rattle.spec_semantics.specs.DirectRow.{Described}
-use Rattle.spec_format.specs.Image.{Table, sectionsFor, encodeTable}
+use Rattle.spec_format.specs.Image.{Table, encodeTable}
 use Rattle.spec_format.specs.Good.{GoodTable}
 use Rattle.spec_format.specs.Lines.{linesOf, reachesOf, reach}
 use Rattle.spec_format.specs.Walk.{from, tableCycle}
-use Rattle.spec_format.specs.Opening.{Opened, opened, not-opened, openOf}
+use Rattle.spec_format.specs.Opening.{Opened, opened, not-opened}
 use Rattle.spec_format.specs.Refusals.{Refusal}
-use Rattle.spec_format.specs.State.{memoryOf, freshTable, freshOf}
-use Rattle.spec_format.specs.Cycle.{cycleOf, callsOf}
+use Rattle.spec_format.specs.State.{memoryOf, freshTable}
 use Rattle.spec_format.specs.Encode.{tableOf, encode}
 use Rattle.spec_format.specs.Writing.{Writing}
 use Rattle.spec_simulation.specs.Outcome as Image
-use Rattle.spec_behaviour.specs.Direct.{directOf, directFresh, directCalls}
+use Rattle.spec_behaviour.specs.Direct.{directCalls}
 use Rattle.spec_behaviour.specs.DirectRun.{DirectRun}
-use Rattle.spec_promises.specs.Compile.{written, not-compiled, compileOf}
-use Rattle.spec_promises.specs.Entry.{stateAfter, openingTold}
-use Rattle.spec_promises.specs.CInterface.{Left, stateOfC, cOfState, compileInC, openInC, freshInC, cycleInC, directFreshInC, directInC, callsInC}
-use Rattle.spec_promises.specs.Lending.{Lends, StandsAt, PartAt, LentAs}
+use Rattle.spec_interface.specs.Operations.{compileOf, openOf, freshOf, cycleOf, callsOf, directOf, directFresh, tokenAt}
+use Rattle.spec_interface.specs.Compile.{written, not-compiled}
+use Rattle.spec_interface.specs.CInterface.{cOfState, compileInC, freshInC, cycleInC, directFreshInC, directInC, callsInC}
+use Rattle.spec_interface.specs.Lending.{Lends, StandsAt, PartAt}
+-- PROMISES THAT SPEAK OF THE INTERFACE ALONE stand beside its definitions, in spec_interface/specs/Told.antt; they are these.
+
+-- THE SECTIONS LENT OUT, of an image that opens as the table t, between the bounds o. "The opened image lends out its three sections as parts of the caller's
+-- bytes": what is lent are the bytes of signature, lines and code, each where it stands in the image. The bounds that opening finds are such.
+pub use Rattle.spec_interface.specs.Told.{SectionsLent}
+-- what entry leaves and tells beside its answers: the state record s is the fresh state where there is one and as it came where the call is refused; an opened
+-- image tells 0 and 0, or the definition's own number and place
+pub use Rattle.spec_interface.specs.Told.{ToldByEntry}
+-- THE C INTERFACE, in the same words: what its functions hand out is what the definitions of the operations say, number by number (include/rabtishu.h).
+-- a refusal is told as number, place, 0; what is done as 0, 0 and a count
+pub use Rattle.spec_interface.specs.Told.{refusedNumbers, doneNumbers}
+-- the 49 numbers of a state record: first the place, then 16 outputs, then 32 variables
+pub use Rattle.spec_interface.specs.Told.{SlotsInC}
+-- one call of each function, on any bytes, any 49 numbers and any rows: the three numbers are the definition's own number, place and count; a refused call
+-- alters neither buffer, nor the 49 numbers, nor the output row
+pub use Rattle.spec_interface.specs.Told.{ToldInC}
+-- a call of the equations as a C caller sees it
+pub use Rattle.spec_interface.specs.Told.{answerInC, seenInC}
 
 -- DEMAND 1. "Nothing that comes in can upset it: every text, image, state and input row gets a result or a numbered refusal; every call ends; a refusal has
 -- its place fixed and alters no byte of image, state or output row." Each operation below comes to one of the cases that are listed, and each case holds
@@ -203,12 +218,7 @@ pub record Handed (text : List ℕ) (place : ℕ) : Type 0 where
   pub part : (s r : RefT (List ℕ)) → now s ≡ text → Lends s place (place + length (tokenAt text place)) r
       → (now r ≡ tokenAt text place) × (place ≤ length text → PartAt s place r)
 
--- THE SECTIONS LENT OUT, of an image that opens as the table t, between the bounds o. "The opened image lends out its three sections as parts of the caller's
--- bytes": what is lent are the bytes of signature, lines and code, each where it stands in the image. The bounds that opening finds are such.
-pub record SectionsLent (image : List ℕ) (t : Table) (o : Sections) : Type 0 where
-  pub signature : LentAs image (o .signature) (o .lines) (sectionsFor t .signature)
-  pub lines : LentAs image (o .lines) (o .code) (sectionsFor t .lines)
-  pub code : LentAs image (o .code) (o .end) (sectionsFor t .code)
+-- THE SECTIONS LENT OUT: `SectionsLent`, above.
 
 -- ANSWERS THAT ARE ENUMS. "Where an answer is an enum, the promises use a definition. That definition gives this paper's number and values for each of the
 -- enum's cases." An answer of the code that tells what is told of the definition's, as every contract has it, is the count itself, or a refusal with the
@@ -224,60 +234,9 @@ pub record AnswersTold : Type 0 where
   pub cycled : (r : Cycled) (way : List ℕ) → cycleTold r ≡ cycleAnswer (performed way) → r ≡ Performed (record { lines = length way })
   pub cycle-refused : (r : Cycled) (q k : ℕ) → cycleTold r ≡ cycleAnswer (not-performed q k) → RefusedAs NotPerformed r q k
 
--- what entry leaves and tells beside them: the state record s is the fresh state where there is one and as it came where the call is refused; an opened image
--- tells 0 and 0, or the definition's own number and place
-pub record ToldByEntry (text image : List ℕ) (s : State) : Type 0 where
-  pub opened : (t : Table) → openOf image ≡ opened t → openingTold (openOf image) ≡ (0, 0)
-  pub open-refused : (q k : ℕ) → openOf image ≡ not-opened q k → openingTold (openOf image) ≡ (q, k)
-  pub started : (x : State) → freshOf image ≡ fresh x → stateAfter (freshOf image) s ≡ x
-  pub start-refused : (q k : ℕ) → freshOf image ≡ not-started q k → stateAfter (freshOf image) s ≡ s
-  pub run-started : (x : State) → directFresh text ≡ fresh x → stateAfter (directFresh text) s ≡ x
-  pub run-start-refused : (q k : ℕ) → directFresh text ≡ not-started q k → stateAfter (directFresh text) s ≡ s
+-- WHAT ENTRY LEAVES AND TELLS beside them: `ToldByEntry`, above.
 
--- THE C INTERFACE, in the same words: what its functions hand out is what the definitions above say, number by number (include/rabtishu.h).
-
--- a refusal is told as number, place, 0; what is done as 0, 0 and a count
-abbrev pub refusedNumbers : ℕ → ℕ → List ℕ
-refusedNumbers q k = q ∷ k ∷ 0 ∷ []
-
-abbrev pub doneNumbers : ℕ → List ℕ
-doneNumbers n = 0 ∷ 0 ∷ n ∷ []
-
--- the 49 numbers of a state record: first the place, then 16 outputs, then 32 variables
-pub record SlotsInC (s : State) : Type 0 where
-  pub place : getD (cOfState s) 0 (pos 0) ≡ pos (s .place)
-  pub outputs : take 16 (drop 1 (cOfState s)) ≡ s .outputs
-  pub variables : drop 17 (cOfState s) ≡ s .variables
-  pub count : length (cOfState s) ≡ 49
-
--- one call of each function, on any bytes, any 49 numbers and any rows: the three numbers are the definition's own number, place and count; a refused call
--- alters neither buffer, nor the 49 numbers, nor the output row
-pub record ToldInC (text buffer image : List ℕ) (l : List ℤ) (c : Call) : Type 0 where
-  pub compiled : (n : ℕ) → compileOf text buffer .answer ≡ written n → compileInC text buffer ≡ (doneNumbers n, compileOf text buffer .buffer)
-  pub compile-refused : (q k : ℕ) → compileOf text buffer .answer ≡ not-compiled q k → compileInC text buffer ≡ (refusedNumbers q k, buffer)
-  pub opened : (t : Table) → openOf image ≡ opened t → openInC image ≡ doneNumbers 0
-  pub open-refused : (q k : ℕ) → openOf image ≡ not-opened q k → openInC image ≡ refusedNumbers q k
-  pub started : (s : State) → freshOf image ≡ fresh s → freshInC image l ≡ (doneNumbers 0, cOfState s)
-  pub start-refused : (q k : ℕ) → freshOf image ≡ not-started q k → freshInC image l ≡ (refusedNumbers q k, l)
-  pub cycled : (way : List ℕ) (s : State) (row : List ℤ)
-      → cycleOf image (stateOfC l) (c .inputs) (c .outputs) ≡ record { answer = performed way; state = s; row = row }
-      → cycleInC image l (c .inputs) (c .outputs) ≡ record { answer = doneNumbers (length way); slots = cOfState s; row = row }
-  pub cycle-refused : (q k : ℕ) → cycleOf image (stateOfC l) (c .inputs) (c .outputs) .answer ≡ not-performed q k
-      → cycleInC image l (c .inputs) (c .outputs) ≡ record { answer = refusedNumbers q k; slots = l; row = c .outputs }
-  pub run : (way : List ℕ) (s : State) (row : List ℤ) → directOf text (stateOfC l) c ≡ record { answer = performed way; state = s; row = row }
-      → directInC text l (c .inputs) (c .outputs) ≡ record { answer = doneNumbers (length way); slots = cOfState s; row = row }
-  pub run-refused : (q k : ℕ) → directOf text (stateOfC l) c .answer ≡ not-performed q k
-      → directInC text l (c .inputs) (c .outputs) ≡ record { answer = refusedNumbers q k; slots = l; row = c .outputs }
-  pub run-started : (s : State) → directFresh text ≡ fresh s → directFreshInC text l ≡ (doneNumbers 0, cOfState s)
-  pub run-start-refused : (q k : ℕ) → directFresh text ≡ not-started q k → directFreshInC text l ≡ (refusedNumbers q k, l)
-
--- a call of the equations as a C caller sees it
-abbrev pub answerInC : Answer → List ℕ
-answerInC (performed way) = doneNumbers (length way)
-answerInC (not-performed q k) = refusedNumbers q k
-
-abbrev pub seenInC : Called → Left
-seenInC r = record { answer = answerInC (r .answer); slots = cOfState (r .state); row = r .row }
+-- THE C INTERFACE, one call of each function: `ToldInC` and `SlotsInC`, above.
 
 -- DEMAND 3 AND THE DIRECT RUN IN C, where rabtishu_compile told n bytes: from the 49 numbers that rabtishu_fresh leaves, every list of calls of
 -- rabtishu_cycle on these bytes, refused ones included, leaves after every call the three numbers, the 49 numbers and the output row of the equations; and

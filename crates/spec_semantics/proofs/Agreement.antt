@@ -10,13 +10,20 @@ use mathlib.Core.List.{List, [], _∷_, _++_}
 use lib.ListN.{set}
 use lib.IntN.{ℤ}
 use Rattle.spec_design.specs.Expression.{Expr, Out, fine, fault, bind}
-use Rattle.spec_design.specs.Statement.{Act, output, variable, null, Stmt, act, wait, if-then, if-else, while, seq, size, has, Class, A, B, C, seqClass, ifClass, classOf, LoopsC}
+use Rattle.spec_design.specs.Statement.{Act, output, variable, null, Stmt, act, wait, if-then, if-else, while, seq, size, has, Class, A, B, C, seqClass}
+use Rattle.spec_design.specs.Statement.{ifClass, classOf, LoopsC}
 use Rattle.spec_semantics.specs.Evaluation.{isOne, evaluate}
-use Rattle.spec_semantics.specs.Equations.{Run, Result, passed, reached, refused, perform, holds, log, then, acted, tested, pick, start, resume, enter, cycle}
+use Rattle.spec_semantics.specs.Equations.{Run, Result, passed, reached, refused, perform, holds, log, then, acted, tested, pick, start, resume, enter}
+use Rattle.spec_semantics.specs.Equations.{cycle}
 use Rattle.spec_semantics.specs.Effects.{Step, ends, stops, andThen, traced}
-use Rattle.spec_semantics.specs.Published.{ι, ω, φ, «PRIMREC_option», «PRIMREC_sum», _⇒_∣_, «type_a_statement», «type_b_statement», «type_c_statement», condition, «negate_condition», «SIGNAL_ASSIGNMENT», «VARIABLE_ASSIGNMENT», «NULL_STATEMENT», «WAIT», «SEQ_AA», «SEQ_AB», «SEQ_AC», «SEQ_BA», «SEQ_BB», «SEQ_BC», «SEQ_CA», «SEQ_CB», «SEQ_CC», «IF_THEN_ELSE_AA», «IF_THEN_ELSE_AB», «IF_THEN_ELSE_AC», «IF_THEN_ELSE_BA», «IF_THEN_ELSE_BB», «IF_THEN_ELSE_BC», «IF_THEN_ELSE_CA», «IF_THEN_ELSE_CB», «IF_THEN_ELSE_CC», «WHILE_C», «CLOSE_C»}
+use Rattle.spec_semantics.specs.Published.{ι, ω, φ, «PRIMREC_option», «PRIMREC_sum», _⇒_∣_, «type_a_statement», «type_b_statement», «type_c_statement»}
+use Rattle.spec_semantics.specs.Published.{condition, «negate_condition», «SIGNAL_ASSIGNMENT», «VARIABLE_ASSIGNMENT», «NULL_STATEMENT», «WAIT», «SEQ_AA»}
+use Rattle.spec_semantics.specs.Published.{«SEQ_AB», «SEQ_AC», «SEQ_BA», «SEQ_BB», «SEQ_BC», «SEQ_CA», «SEQ_CB», «SEQ_CC», «IF_THEN_ELSE_AA»}
+use Rattle.spec_semantics.specs.Published.{«IF_THEN_ELSE_AB», «IF_THEN_ELSE_AC», «IF_THEN_ELSE_BA», «IF_THEN_ELSE_BB», «IF_THEN_ELSE_BC»}
+use Rattle.spec_semantics.specs.Published.{«IF_THEN_ELSE_CA», «IF_THEN_ELSE_CB», «IF_THEN_ELSE_CC», «WHILE_C», «CLOSE_C»}
 use Rattle.spec_semantics.specs.Waits.{seqWaits, seqPart, ifWaits, ifPart, Waits, numberOf}
-use Rattle.spec_semantics.specs.Denotation.{raised, tracing, performing, Sem, seqSem, ifSem, whileSem, closeSem, actSem, waitSem, conditionSem, sem, process}
+use Rattle.spec_semantics.specs.Denotation.{raised, tracing, performing, Sem, seqSem, ifSem, whileSem, closeSem, actSem, waitSem, conditionSem, sem}
+use Rattle.spec_semantics.specs.Denotation.{process}
 use Rattle.spec_semantics.specs.Correspondence.{run, placed, toA, toB, toC, starts, resumes, placeOf}
 use Rattle.spec_semantics.proofs.Basic.{eqb-same, or-left, or-right}
 use Rattle.spec_semantics.proofs.Results.{then-cong, A-C, B-C, has-below}

@@ -6,7 +6,8 @@ use mathlib.Core.Logic.{_⊎_, inl, inr}
 use mathlib.Core.Bool.{Bool, true, false}
 use native.Mathlib.Omega.{arith}
 use native.Mathlib.Nat.{suc-mul}
-use lib.IntN.{ℤ, pos, negsuc, sucℤ, predℤ, negℤ, _+ℤ_, _-ℤ_, _*ℤ_, natAbs, +ℤ-idl, +ℤ-idr, +ℤ-comm, +ℤ-assoc, sucℤ-+ℤ, predℤ-+ℤ, +ℤ-negℤ-cancel, -ℤ-+ℤ-cancel, zero-*ℤ, sucℤ-*ℤ, predℤ-*ℤ, *ℤ-comm}
+use lib.IntN.{ℤ, pos, negsuc, sucℤ, predℤ, negℤ, _+ℤ_, _-ℤ_, _*ℤ_, natAbs, +ℤ-idl, +ℤ-idr, +ℤ-comm, +ℤ-assoc, sucℤ-+ℤ, predℤ-+ℤ, +ℤ-negℤ-cancel, -ℤ-+ℤ-cancel}
+use lib.IntN.{zero-*ℤ, sucℤ-*ℤ, predℤ-*ℤ, *ℤ-comm}
 use Rattle.spec_semantics.specs.Division.{negative, Divided}
 use Rattle.spec_semantics.proofs.Divided.{abs-neg, sub-case}
 

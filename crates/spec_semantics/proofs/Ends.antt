@@ -6,7 +6,8 @@ use mathlib.Core.List.{List}
 use lib.IntN.{ℤ}
 use Rattle.spec_design.specs.Expression.{Out, fine, fault}
 use Rattle.spec_design.specs.Statement.{Stmt, act, wait, if-then, if-else, while, seq, size, has, C, classOf}
-use Rattle.spec_semantics.specs.Equations.{Memory, Run, Result, passed, reached, refused, then, acted, tested, pick, start, resume, Place, beginning, at, enter, cycle}
+use Rattle.spec_semantics.specs.Equations.{Memory, Run, Result, passed, reached, refused, then, acted, tested, pick, start, resume, Place, beginning, at}
+use Rattle.spec_semantics.specs.Equations.{enter, cycle}
 use Rattle.spec_semantics.specs.Way.{Ended, at-wait, at-operator}
 use Rattle.spec_semantics.proofs.Basic.{eqb-same, or-left, or-right}
 use Rattle.spec_semantics.proofs.Results.{then-passed, C-stops}

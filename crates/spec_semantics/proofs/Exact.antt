@@ -7,7 +7,8 @@ use mathlib.Core.Bool.{Bool, true, false, cond}
 use mathlib.Core.Option.{Option, none, some}
 use mathlib.Core.List.{List}
 use lib.IntN.{ℤ, pos}
-use Rattle.spec_design.specs.Expression.{Expr, leaf, unary, binary, Out, fine, fault, fold, Unary, sign, invert, Binary, plus, minus, equal, unequal, less, at-most, greater, at-least, and, or, xor, times, divide, modulo, remainder}
+use Rattle.spec_design.specs.Expression.{Expr, leaf, unary, binary, Out, fine, fault, fold, Unary, sign, invert, Binary, plus, minus, equal, unequal, less}
+use Rattle.spec_design.specs.Expression.{at-most, greater, at-least, and, or, xor, times, divide, modulo, remainder}
 use Rattle.spec_design.specs.Types.{ExprTy, eqZ, inRange}
 use Rattle.spec_semantics.specs.Division.{byNonzero}
 use Rattle.spec_design.specs.Statement.{Stmt, C, classOf, LoopsC}

@@ -8,9 +8,11 @@ use native.Mathlib.Omega.{arith}
 use lib.IntN.{ℤ, pos, _+ℤ_, _-ℤ_, _*ℤ_, negℤ}
 use lib.Signed.{quotZ}
 use Rattle.spec_design.specs.Types.{ExprTy, eqZ, inRange}
-use Rattle.spec_design.specs.Expression.{Leaf, Unary, sign, invert, Binary, plus, minus, equal, unequal, less, at-most, greater, at-least, and, or, xor, times, divide, modulo, remainder, Expr, leaf, unary, binary, Out, fine, fault, bind, fold}
+use Rattle.spec_design.specs.Expression.{Leaf, Unary, sign, invert, Binary, plus, minus, equal, unequal, less, at-most, greater, at-least, and, or, xor, times}
+use Rattle.spec_design.specs.Expression.{divide, modulo, remainder, Expr, leaf, unary, binary, Out, fine, fault, bind, fold}
 use Rattle.spec_semantics.specs.Division.{byNonzero}
-use Rattle.spec_semantics.specs.Evaluation.{unaryResult, binaryResult, asInteger, applyUnary, applyBinary, evaluate, OperatorNumber, OperatorRefused, sum, difference, product, quotient, divided-by-0, modulo-0, remainder-by-0}
+use Rattle.spec_semantics.specs.Evaluation.{unaryResult, binaryResult, asInteger, applyUnary, applyBinary, evaluate, OperatorNumber, OperatorRefused, sum}
+use Rattle.spec_semantics.specs.Evaluation.{difference, product, quotient, divided-by-0, modulo-0, remainder-by-0}
 use Rattle.spec_semantics.specs.Faults.{Faults, in-operand, at-sign, in-left, in-right, at-operator}
 use Rattle.spec_semantics.proofs.Basic.{fault-fine, fault-injective}
 

@@ -5,10 +5,16 @@ use mathlib.Core.Bool.{Bool, true, false}
 use mathlib.Core.Option.{Option, none, some}
 use mathlib.Core.Logic.{_⊎_, inl, inr}
 use Rattle.spec_design.specs.Expression.{Expr}
-use Rattle.spec_design.specs.Statement.{Act, output, variable, null, Stmt, act, wait, if-then, if-else, while, seq, size, Class, A, B, C, seqClass, ifClass, classOf}
-use Rattle.spec_semantics.specs.Published.{ι, ω, φ, «PRIMREC_option», «PRIMREC_sum», _⇒_∣_, «type_a_statement», «type_b_statement», «type_c_statement», condition, «negate_condition», «SIGNAL_ASSIGNMENT», «VARIABLE_ASSIGNMENT», «NULL_STATEMENT», «WAIT», «SEQ_AA», «SEQ_AB», «SEQ_AC», «SEQ_BA», «SEQ_BB», «SEQ_BC», «SEQ_CA», «SEQ_CB», «SEQ_CC», «IF_THEN_ELSE_AA», «IF_THEN_ELSE_AB», «IF_THEN_ELSE_AC», «IF_THEN_ELSE_BA», «IF_THEN_ELSE_BB», «IF_THEN_ELSE_BC», «IF_THEN_ELSE_CA», «IF_THEN_ELSE_CB», «IF_THEN_ELSE_CC», «WHILE_C», «CLOSE_C»}
+use Rattle.spec_design.specs.Statement.{Act, output, variable, null, Stmt, act, wait, if-then, if-else, while, seq, size, Class, A, B, C, seqClass, ifClass}
+use Rattle.spec_design.specs.Statement.{classOf}
+use Rattle.spec_semantics.specs.Published.{ι, ω, φ, «PRIMREC_option», «PRIMREC_sum», _⇒_∣_, «type_a_statement», «type_b_statement», «type_c_statement»}
+use Rattle.spec_semantics.specs.Published.{condition, «negate_condition», «SIGNAL_ASSIGNMENT», «VARIABLE_ASSIGNMENT», «NULL_STATEMENT», «WAIT», «SEQ_AA»}
+use Rattle.spec_semantics.specs.Published.{«SEQ_AB», «SEQ_AC», «SEQ_BA», «SEQ_BB», «SEQ_BC», «SEQ_CA», «SEQ_CB», «SEQ_CC», «IF_THEN_ELSE_AA»}
+use Rattle.spec_semantics.specs.Published.{«IF_THEN_ELSE_AB», «IF_THEN_ELSE_AC», «IF_THEN_ELSE_BA», «IF_THEN_ELSE_BB», «IF_THEN_ELSE_BC»}
+use Rattle.spec_semantics.specs.Published.{«IF_THEN_ELSE_CA», «IF_THEN_ELSE_CB», «IF_THEN_ELSE_CC», «WHILE_C», «CLOSE_C»}
 use Rattle.spec_semantics.specs.Waits.{seqWaits, ifWaits, Waits}
-use Rattle.spec_semantics.specs.Denotation.{Interpretation, performing, Sem, seqSem, ifSem, whileSem, closeSem, actSem, waitSem, conditionSem, sem, process}
+use Rattle.spec_semantics.specs.Denotation.{Interpretation, performing, Sem, seqSem, ifSem, whileSem, closeSem, actSem, waitSem, conditionSem, sem}
+use Rattle.spec_semantics.specs.Denotation.{process}
 
 -- a relation between the values of two interpretations that pure, bind, the steps and the values of expressions keep
 pub record Related (I J : Interpretation) : Type 1 where

@@ -16,7 +16,8 @@ use Rattle.spec_semantics.specs.Rows as R
 use Rattle.spec_semantics.specs.PublishedRows.{State, initialState, stateOf, keptOf, concludedPublished, judgedPublished, publishedFrom, publishedRows}
 use Rattle.spec_semantics.specs.Calls.{Answer, Call}
 use Rattle.spec_semantics.specs.Comparison.{fed, laid, told, left, seen, equationCalls}
-use Rattle.spec_semantics.specs.PrintedRows.{printedFrom, printedRows, ofPerformed, rowAnswers, rowLeft, rowKept, callAnswers, callLeft, callKept, RowsPrinted, CallsPrinted}
+use Rattle.spec_semantics.specs.PrintedRows.{printedFrom, printedRows, ofPerformed, rowAnswers, rowLeft, rowKept, callAnswers, callLeft, callKept}
+use Rattle.spec_semantics.specs.PrintedRows.{RowsPrinted, CallsPrinted}
 use Rattle.spec_semantics.proofs.Exact.{cycle-exact}
 use Rattle.spec_semantics.proofs.PublishedRows.{rows-published}
 

@@ -9,7 +9,8 @@ use mathlib.Core.List.{List}
 use lib.IntN.{ℤ}
 use Rattle.spec_design.specs.Expression.{Expr, Out, fine, fault, bind}
 use Rattle.spec_design.specs.Statement.{Act, output, variable, null, Stmt, act, wait, if-then, if-else, while, seq, size, has}
-use Rattle.spec_semantics.specs.Equations.{Memory, Run, Result, passed, reached, refused, perform, holds, log, then, acted, tested, pick, start, resume, Place, beginning, at, enter, cycle}
+use Rattle.spec_semantics.specs.Equations.{Memory, Run, Result, passed, reached, refused, perform, holds, log, then, acted, tested, pick, start, resume}
+use Rattle.spec_semantics.specs.Equations.{Place, beginning, at, enter, cycle}
 use Rattle.spec_semantics.specs.Faults.{Faults}
 use Rattle.spec_semantics.specs.Refusal.{ActFaults, StartFaults, ResumeFaults, EnterFaults, CycleFaults}
 use Rattle.spec_semantics.proofs.Basic.{fault-injective}

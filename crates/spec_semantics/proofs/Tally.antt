@@ -9,9 +9,11 @@ use Rattle.spec_design.specs.Statement.{size, has, seqClass, classOf, LoopsC}
 use Rattle.spec_design.specs.Process.{isType, fits, typedAct, typed, WellFormed}
 use Rattle.spec_semantics.specs.Evaluation.{binaryResult, asInteger, applyBinary, leafValue, evaluate, exactValue}
 use Rattle.spec_semantics.specs.Equations.{perform, holds, log, then, acted, tested, pick, start, resume, at, enter, cycle}
-use Rattle.spec_semantics.specs.Rows.{Call, Kept, Outcome, performed, operator-refused, atFirst, wrongValue, rowRefusal, concluded, judged, row, rowsFrom, rows}
+use Rattle.spec_semantics.specs.Rows.{Call, Kept, Outcome, performed, operator-refused, atFirst, wrongValue, rowRefusal, concluded, judged, row, rowsFrom}
+use Rattle.spec_semantics.specs.Rows.{rows}
 use Rattle.spec_semantics.specs.Effects.{andThen}
-use Rattle.spec_semantics.specs.Published.{«PRIMREC_option», «PRIMREC_sum», _⇒_∣_, «SIGNAL_ASSIGNMENT», «VARIABLE_ASSIGNMENT», «WAIT», «SEQ_AC», «SEQ_BC», «WHILE_C», «CLOSE_C»}
+use Rattle.spec_semantics.specs.Published.{«PRIMREC_option», «PRIMREC_sum», _⇒_∣_, «SIGNAL_ASSIGNMENT», «VARIABLE_ASSIGNMENT», «WAIT», «SEQ_AC», «SEQ_BC»}
+use Rattle.spec_semantics.specs.Published.{«WHILE_C», «CLOSE_C»}
 use Rattle.spec_semantics.specs.Denotation.{raised, performing, actSem, waitSem, conditionSem, sem, process}
 use Rattle.spec_semantics.specs.Automaton.{statesOver}
 use Rattle.spec_semantics.specs.PublishedRows.{concludedPublished, judgedPublished, publishedFrom, publishedRows}

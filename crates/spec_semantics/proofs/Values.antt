@@ -8,7 +8,9 @@ use lib.ListN.{length, getD, set}
 use lib.IntN.{ℤ, pos}
 use lib.Signed.{leZ, ltZ}
 use Rattle.spec_design.specs.Types.{Ty, std-logic, integer, ExprTy, plain, boolean, sameType, eqZ, inRange, inType}
-use Rattle.spec_design.specs.Expression.{Leaf, int, bit, input, variable, Unary, sign, invert, Binary, plus, minus, equal, unequal, less, at-most, greater, at-least, and, or, xor, times, divide, modulo, remainder, Expr, leaf, unary, binary, Out, fine, fault, fold, nth, plainly, sumType, orderType, equalityType, logicalType, unaryType, binaryType, leafType, given, given2, typeOf}
+use Rattle.spec_design.specs.Expression.{Leaf, int, bit, input, variable, Unary, sign, invert, Binary, plus, minus, equal, unequal, less, at-most, greater}
+use Rattle.spec_design.specs.Expression.{at-least, and, or, xor, times, divide, modulo, remainder, Expr, leaf, unary, binary, Out, fine, fault, fold, nth}
+use Rattle.spec_design.specs.Expression.{plainly, sumType, orderType, equalityType, logicalType, unaryType, binaryType, leafType, given, given2, typeOf}
 use Rattle.spec_semantics.specs.Evaluation.{bitOf, isOne, differ, unaryResult, binaryResult, asInteger, applyUnary, applyBinary, leafValue, evaluate}
 use Rattle.spec_semantics.specs.Values.{ofType, Values}
 use Rattle.spec_semantics.specs.Division.{byNonzero}

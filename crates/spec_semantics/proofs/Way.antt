@@ -9,7 +9,8 @@ use mathlib.Core.List.{List, [], List·Memᴰ, List·Memᴰ·not-nil}
 use lib.IntN.{ℤ}
 use Rattle.spec_design.specs.Expression.{Out, fine, fault}
 use Rattle.spec_design.specs.Statement.{Stmt, act, wait, if-then, if-else, while, seq, size, has, A, C, classOf, LoopsC}
-use Rattle.spec_semantics.specs.Equations.{Memory, Run, Result, passed, reached, refused, log, then, acted, tested, pick, start, resume, Place, beginning, at, enter, cycle}
+use Rattle.spec_semantics.specs.Equations.{Memory, Run, Result, passed, reached, refused, log, then, acted, tested, pick, start, resume, Place, beginning}
+use Rattle.spec_semantics.specs.Equations.{at, enter, cycle}
 use Rattle.spec_semantics.specs.Way.{Distinct, Path}
 use Rattle.spec_semantics.proofs.Results.{A-C, B-C, seqClass-C, ifClass-C, C-stops}
 use Rattle.spec_semantics.proofs.Distinct.{snoc-cases, distinct-snoc, distinct-length}

@@ -1,4 +1,5 @@
--- Outputs and variables keep their declared numbers and types: an assignment stores a value of its target's type; then induction on the statement. Assumes nothing.
+-- Outputs and variables keep their declared numbers and types: an assignment stores a value of its target's type; then induction on the statement. Assumes
+-- nothing.
 use Prim.Native.Nat.{ℕ, suc, _+_}
 use mathlib.Core.Path.{_≡_, refl, ap}
 use mathlib.Core.Bool.{Bool, true, false}
@@ -11,7 +12,8 @@ use Rattle.spec_design.specs.Expression.{Expr, items, Out, fine, fault, plainly
 use Rattle.spec_design.specs.Statement.{Act, output, variable, null, Stmt, act, wait, if-then, if-else, while, seq, size, has}
 use Rattle.spec_design.specs.Process.{Slot, Process, sourceTypes, slotTypes, initials, isType, fits, typedAct, typed, typedProcess, Initialised}
 use Rattle.spec_semantics.specs.Evaluation.{evaluate}
-use Rattle.spec_semantics.specs.Equations.{Memory, Run, Result, passed, reached, refused, perform, log, then, acted, tested, pick, start, resume, Place, beginning, at, enter, cycle}
+use Rattle.spec_semantics.specs.Equations.{Memory, Run, Result, passed, reached, refused, perform, log, then, acted, tested, pick, start, resume, Place}
+use Rattle.spec_semantics.specs.Equations.{beginning, at, enter, cycle}
 use Rattle.spec_semantics.specs.Values.{ofType, Values, Typed, WellTyped}
 use Rattle.spec_semantics.proofs.Basic.{false-true, fine-injective, bind-fine, and-left, and-right}
 use Rattle.spec_semantics.proofs.Values.{values-set, value-typed}

@@ -11,7 +11,8 @@ use Rattle.spec_design.specs.Statement.{Stmt, act, wait, if-then, if-else, whil
 use Rattle.spec_semantics.proofs.Results.{A-C, B-C, seqClass-C, ifClass-C, size-pos}
 use Rattle.spec_format.specs.Lines.{linesOf, line, reach, reachOf, entry, reaches, reachesOf}
 use Rattle.spec_simulation.specs.Ranked.{Followers, Ranked}
-use Rattle.spec_simulation.proofs.Lines.{Segment, segment-whole, segment-head, segment-tail, segment-left, segment-right, Each, linesOf-length, linesOf-line}
+use Rattle.spec_simulation.proofs.Lines.{Segment, segment-whole, segment-head, segment-tail, segment-left, segment-right, Each, linesOf-length}
+use Rattle.spec_simulation.proofs.Lines.{linesOf-line}
 use Rattle.spec_simulation.proofs.Ranked.{ranked-once}
 
 pub reaches-length : (s : Stmt) (r : ℕ) → length (reaches s r) ≡ size s

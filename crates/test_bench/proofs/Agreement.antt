@@ -11,7 +11,7 @@ use Rattle.spec_format.specs.State.{freshOf}
 use Rattle.spec_format.specs.Cycle.{cycleOf, callsOf}
 use Rattle.spec_behaviour.specs.Direct.{directFresh, directCalls}
 use Rattle.direct_cycle.specs.Calls.{callOf}
-use Rattle.spec_promises.specs.Compile.{written, compileOf}
+use Rattle.spec_interface.specs.Compile.{written, compileOf}
 use Rattle.spec_promises.proofs.Main.{demand3}
 use Rattle.test_bench.specs.Rows.{Cycle, directCycle, calledOn, madeOn}
 

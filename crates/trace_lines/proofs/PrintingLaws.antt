@@ -140,13 +140,12 @@ module _ (o : List ℕ) (a : ℕ) (z : ℤ) (n : ℕ) (f : SFits w32 z) (e : n �
 
 -- whole lines
 pub performed-puts : (o : List ℕ) (n place lines : ℕ) (v : List ℤ) (o1 : List ℕ) (r1 : ℕ) (o2 : List ℕ) (r2 : ℕ) (o3 : List ℕ) (r3 : ℕ) (o4 : List ℕ) (r4 : ℕ)
-    (o5 : List ℕ) (r5 : ℕ) (o6 : List ℕ) (r6 : ℕ) (o7 : List ℕ) (r7 : ℕ)
-    → Puts o 0 (decimal n) o1 r1 → Puts o1 r1 (32 ∷ []) o2 r2 → Puts o2 r2 (decimal place) o3 r3 → Puts o3 r3 (32 ∷ []) o4 r4 → Puts o4 r4 (decimal lines) o5 r5
-    → Puts o5 r5 (integers v) o6 r6 → Puts o6 r6 (10 ∷ []) o7 r7 → Puts o 0 (performedLine n place lines v) o7 r7
+    → Puts o 0 (decimal n ++ (32 ∷ decimal place)) o1 r1 → Puts o1 r1 (32 ∷ decimal lines) o2 r2 → Puts o2 r2 (integers v) o3 r3 → Puts o3 r3 (10 ∷ []) o4 r4
+    → Puts o 0 (performedLine n place lines v) o4 r4
 unfolding performedLine
-performed-puts o n place lines v o1 r1 o2 r2 o3 r3 o4 r4 o5 r5 o6 r6 o7 r7 a b c d e f g =
-    puts-then _ _ _ _ _ _ _ _ a (puts-then _ _ _ _ _ _ _ _ b
-    (puts-then _ _ _ _ _ _ _ _ c (puts-then _ _ _ _ _ _ _ _ d (puts-then _ _ _ _ _ _ _ _ e (puts-then _ _ _ _ _ _ _ _ f g)))))
+performed-puts o n place lines v o1 r1 o2 r2 o3 r3 o4 r4 a b c d =
+    rw (append-assoc (decimal n) (32 ∷ decimal place) ((32 ∷ decimal lines) ++ (integers v ++ (10 ∷ []))))
+    at (puts-then _ _ _ _ _ _ _ _ a (puts-then _ _ _ _ _ _ _ _ b (puts-then _ _ _ _ _ _ _ _ c d)))
 
 pub refused-puts : (o : List ℕ) (n number : ℕ) (o1 : List ℕ) (r1 : ℕ) (o2 : List ℕ) (r2 : ℕ) (o3 : List ℕ) (r3 : ℕ) (o4 : List ℕ) (r4 : ℕ)
     → Puts o 0 (decimal n) o1 r1 → Puts o1 r1 (bytes " refused ") o2 r2 → Puts o2 r2 (decimal number) o3 r3 → Puts o3 r3 (10 ∷ []) o4 r4
@@ -154,10 +153,9 @@ pub refused-puts : (o : List ℕ) (n number : ℕ) (o1 : List ℕ) (r1 : ℕ) (o
 unfolding refusedLine
 refused-puts o n number o1 r1 o2 r2 o3 r3 o4 r4 a b c d = puts-then _ _ _ _ _ _ _ _ a (puts-then _ _ _ _ _ _ _ _ b (puts-then _ _ _ _ _ _ _ _ c d))
 
-pub text-puts : (o : List ℕ) (number place : ℕ) (o1 : List ℕ) (r1 : ℕ) (o2 : List ℕ) (r2 : ℕ) (o3 : List ℕ) (r3 : ℕ) (o4 : List ℕ) (r4 : ℕ) (o5 : List ℕ)
-    (r5 : ℕ)
-    → Puts o 0 (bytes "refused ") o1 r1 → Puts o1 r1 (decimal number) o2 r2 → Puts o2 r2 (32 ∷ []) o3 r3 → Puts o3 r3 (decimal place) o4 r4 → Puts o4 r4 (10 ∷ []) o5 r5
-    → Puts o 0 (refusedText number place) o5 r5
+pub text-puts : (o : List ℕ) (number place : ℕ) (o1 : List ℕ) (r1 : ℕ) (o2 : List ℕ) (r2 : ℕ) (o3 : List ℕ) (r3 : ℕ)
+    → Puts o 0 (bytes "refused ") o1 r1 → Puts o1 r1 (decimal number ++ (32 ∷ decimal place)) o2 r2 → Puts o2 r2 (10 ∷ []) o3 r3
+    → Puts o 0 (refusedText number place) o3 r3
 unfolding refusedText
-text-puts o number place o1 r1 o2 r2 o3 r3 o4 r4 o5 r5 a b c d e =
-    puts-then _ _ _ _ _ _ _ _ a (puts-then _ _ _ _ _ _ _ _ b (puts-then _ _ _ _ _ _ _ _ c (puts-then _ _ _ _ _ _ _ _ d e)))
+text-puts o number place o1 r1 o2 r2 o3 r3 a b c =
+    rw (append-assoc (decimal number) (32 ∷ decimal place) (10 ∷ [])) at (puts-then _ _ _ _ _ _ _ _ a (puts-then _ _ _ _ _ _ _ _ b c))

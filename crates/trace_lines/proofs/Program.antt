@@ -18,7 +18,7 @@ use Rattle.spec_format.specs.Words.{Bytes}
 use Rattle.spec_format.specs.Encode.{encode}
 use Rattle.spec_format.specs.Writing.{Writing}
 use Rattle.spec_format.proofs.Writing.{fits-written}
-use Rattle.spec_promises.specs.Compile.{written, onVerdict, compileOf}
+use Rattle.spec_interface.specs.Compile.{written, onVerdict, compileOf}
 use Rattle.spec_promises.proofs.Size.{valid-fits}
 use Rattle.image_compiler.proofs.Written.{accepted-fits, written-opens}
 use Rattle.trace_header.specs.Header.{headerOf, headerFor}

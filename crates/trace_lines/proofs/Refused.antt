@@ -5,7 +5,7 @@ use mathlib.Core.List.{List}
 use Prim.Native.Nat.{ℕ}
 use lib.ListN.{length}
 use Rattle.spec_language.specs.Verdict.{Verdict, refused, verdict}
-use Rattle.spec_promises.specs.Compile.{onVerdict, compileOf}
+use Rattle.spec_interface.specs.Compile.{onVerdict, compileOf}
 use Rattle.trace_lines.specs.Trace.{traceOf}
 use Rattle.trace_lines.specs.Chunks.{onlyLine}
 use Rattle.trace_lines.proofs.Whole.{trace-refused}

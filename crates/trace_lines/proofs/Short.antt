@@ -8,15 +8,12 @@ use native.Mathlib.Omega.{arith}
 use lib.ListN.{length, length-append, length-replicate, replicate}
 use lib.IntN.{ℤ, pos, negsuc}
 use lib.Dec.{ltb}
-use Rattle.base_answers.specs.declared.State.{State}
-use Rattle.spec_semantics.specs.Calls.{Answer, performed, not-performed, Call, Called}
+use Rattle.spec_semantics.specs.Calls.{Answer, performed, not-performed, Called}
 use Rattle.spec_semantics.specs.Advances.{cycleAnswer}
 use Rattle.spec_language.specs.Bytes.{bytes}
 use Rattle.spec_format.specs.Words.{Bytes}
 use Rattle.spec_format.specs.Cycle.{cycleOf}
-use Rattle.spec_simulation.specs.Outcome as O
-use Rattle.spec_promises.specs.Promises as P
-use Rattle.spec_promises.proofs.Main.{demand1}
+use Rattle.spec_simulation.proofs.Outcomes.{row-long}
 use Rattle.spec_design.specs.Spelling.{decimalBy, decimal}
 use Rattle.trace_lines.specs.Printing.{integer, integers, performedLine, refusedLine, refusedText}
 use Rattle.trace_lines.specs.Chunks.{lineOf, shown, room, rowShown, goesOn, onward, rowAt, nextOf}
@@ -89,24 +86,6 @@ shown-short n c h = go (c .answer) refl
     go (performed way) e = performed-short n (c .state .place) (length way) (c .row) (h way e)
     go (not-performed q k) e = refused-short n _
 
--- a performed call leaves as many values as the output row has
-row-long : (b : List ℕ) → Bytes b → (s : State) (c : Call) (way : List ℕ) → cycleOf b s (c .inputs) (c .outputs) .answer ≡ performed way
-    → length (cycleOf b s (c .inputs) (c .outputs) .row) ≡ length (c .outputs)
-row-long b h s c way = go (cycleOf b s (c .inputs) (c .outputs)) (demand1 [] [] b h s c .cycled)
-  where
-    not : {A : Type 0} {q k : ℕ} → not-performed q k ≡ performed way → A
-    not e = absurd (let z : _≡_ {A = ℕ} 0 1 = cc in omega arith)
-
-    on : (r : Called) {t : _} → O.Outcome t s (c .inputs) (c .outputs) r → r .answer ≡ performed way → length (r .row) ≡ length (c .outputs)
-    on _ (O.row-refused k m) e = not e
-    on _ (O.state-refused m g) e = not e
-    on _ (O.operator-refused number x is m g l q) e = not e
-    on _ (O.performs p τ m g q w y n l) e = l
-
-    go : (r : Called) → P.Runs b s c r → r .answer ≡ performed way → length (r .row) ≡ length (c .outputs)
-    go r (P.Runs.runs t e _ o) f = on r o f
-    go _ (P.Runs.refuses q k l m x) f = not f
-
 -- THE LINE of the next row
 pub next-short : (b rows : List ℕ) → Bytes b → (p : Progress) → length (nextOf b rows p .0) ≤ 512
 unfolding nextOf
@@ -116,7 +95,7 @@ next-short b rows h p = go (goesOn (length rows) (p .number) (p .at))
     row none = refused-short (p .number) 14
     row (some v) =
         shown-short (p .number) (cycleOf b (p .state) v (replicate (room b) (pos 0))) (λ way e.
-        let l = row-long b h (p .state) (record { inputs = v; outputs = replicate (room b) (pos 0) }) way e in
+        let l = row-long b h (p .state) v (replicate (room b) (pos 0)) in
         let m = length-replicate (room b) (pos 0) in
         omega arith)
 

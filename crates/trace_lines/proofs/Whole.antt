@@ -23,10 +23,11 @@ use Rattle.spec_format.specs.State.{freshOf}
 use Rattle.spec_semantics.specs.Records.{stateFor}
 use Rattle.spec_format.specs.Cycle.{cycleOf, callsOf}
 use Rattle.spec_semantics.specs.Calls.{Called, Call}
-use Rattle.spec_promises.specs.Compile.{written, compileOf}
+use Rattle.spec_interface.specs.Compile.{written, compileOf}
 use Rattle.spec_semantics.specs.Comparison.{fed, seen, equationCalls}
 use Rattle.spec_semantics.specs.Advances.{startOf}
-use Rattle.spec_promises.proofs.Demand3.{wrote, demand3}
+use Rattle.spec_interface.proofs.Compile.{wrote}
+use Rattle.spec_promises.proofs.Demand3.{demand3}
 use Rattle.trace_lines.specs.Rows.{rowsIn}
 use Rattle.trace_lines.specs.Printing.{refusedLine, refusedText}
 use Rattle.trace_header.specs.Header.{headerOf}

@@ -5,7 +5,7 @@ use Prim.Native.Nat.{ℕ}
 use lib.ListN.{length, take}
 use Rattle.base_answers.specs.Answers.{Told, countOf}
 use Rattle.spec_language.specs.Verdict.{verdict}
-use Rattle.spec_promises.specs.Compile.{compileOf}
+use Rattle.spec_interface.specs.Compile.{compileOf}
 use Rattle.trace_header.specs.Header.{headerFor}
 use Rattle.trace_lines.specs.Chunks.{onlyLine, firstOf, fills}
 

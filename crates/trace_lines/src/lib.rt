@@ -13,7 +13,7 @@ ghost use Rattle.trace_lines.specs.Stored.{Puts};
 ghost use Rattle.trace_lines.specs.Chunks.{OpenedAt, lineOf, shown, room, Shows, goesOn, firstOf, nextOf, hasMore, fillBy, fillOf, Fills, begunOf};
 ghost use Rattle.base_answers.specs.declared.Compiled.the-variants.{Written};
 ghost use Rattle.base_answers.specs.Answers.{done, cycleTold};
-ghost use Rattle.spec_promises.specs.Compile.{compileOf};
+ghost use Rattle.spec_interface.specs.Compile.{compileOf};
 
 mod printing;
 mod rows;

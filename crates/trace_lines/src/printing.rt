@@ -1,7 +1,7 @@
 // Bytes stored into a lent buffer, one behind another. Each function takes the place to begin at and answers the place behind what it stored; behind
 // the buffer's end nothing is stored.
 ghost use mathlib.Core.Path.{_≡_};
-ghost use mathlib.Core.List.{[], _∷_};
+ghost use mathlib.Core.List.{[], _∷_, _++_};
 ghost use Prim.Native.Nat.{ℕ, _+_, _<_};
 ghost use lib.IntN.{pos};
 ghost use lib.ListN.{getD};
@@ -68,6 +68,22 @@ fn put_number(out: &mut [u8], at: usize, n: usize) -> usize
     put_digits(out, at, n)
 }
 
+// A number after a space.
+fn put_spaced(out: &mut [u8], at: usize, n: usize) -> usize
+    ensures { λ r. ⌜ Puts (now (out .entry)) at (32 ∷ decimal n) (now (out .exit)) r ⌝ }
+{
+    let next = put(out, at, b' ');
+    put_number(out, next, n)
+}
+
+// Two numbers, a space between them.
+fn put_pair(out: &mut [u8], at: usize, m: usize, n: usize) -> usize
+    ensures { λ r. ⌜ Puts (now (out .entry)) at (decimal m ++ (32 ∷ decimal n)) (now (out .exit)) r ⌝ }
+{
+    let next = put_number(out, at, m);
+    put_spaced(out, next, n)
+}
+
 // An integer in decimals.
 fn put_integer(out: &mut [u8], at: usize, v: i32) -> usize
     ensures { λ r. ⌜ Puts (now (out .entry)) at (integer v) (now (out .exit)) r ⌝ }
@@ -111,13 +127,10 @@ pub(crate) fn performed_line(
 ) -> usize
     ensures { λ r. ⌜ Puts (now (out .entry)) 0 (performedLine n place lines (now (outputs .entry))) (now (out .exit)) r ⌝ }
 {
-    let a = put_number(out, 0, n);
-    let b = put(out, a, b' ');
-    let c = put_number(out, b, place);
-    let d = put(out, c, b' ');
-    let e = put_number(out, d, lines);
-    let f = put_integers(out, e, outputs);
-    put(out, f, b'\n')
+    let a = put_pair(out, 0, n, place);
+    let b = put_spaced(out, a, lines);
+    let c = put_integers(out, b, outputs);
+    put(out, c, b'\n')
 }
 
 // The line of a refused row.
@@ -135,8 +148,6 @@ pub(crate) fn refused_text(out: &mut [u8], number: usize, place: usize) -> usize
     ensures { λ r. ⌜ Puts (now (out .entry)) 0 (refusedText number place) (now (out .exit)) r ⌝ }
 {
     let a = put_text(out, 0, b"refused ");
-    let b = put_number(out, a, number);
-    let c = put(out, b, b' ');
-    let d = put_number(out, c, place);
-    put(out, d, b'\n')
+    let b = put_pair(out, a, number, place);
+    put(out, b, b'\n')
 }

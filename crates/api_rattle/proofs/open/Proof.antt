@@ -1,5 +1,6 @@
 -- `api_rattle::open` meets its contract: a walk of its MIR, by hand. `find` is called on the bytes, and an `Image` is made of them and its answer.
--- A `&[u8]` is Copy: what it owns is had at exit, passed to the callee, and inside the result. All that the proof knows of `find` is that it meets its contract.
+-- A `&[u8]` is Copy: what it owns is had at exit, passed to the callee, and inside the result. All that the proof knows of `find` is that it meets its
+-- contract.
 -- Assumes nothing.
 use mathlib.Core.Path.{_≡_, refl, ap}
 use Prim.Native.Nat.{ℕ}
@@ -17,7 +18,8 @@ use prog.Wp.{Heap, Calls, Loops, WpFn, Tables}
 use ghost.Atoms.{Atoms, sem}
 use contract.Monad.{Fun, fact}
 use contract.Running.{givenOf, tables, tablesOf}
-use types.Kit.{Given, ‵, raw, _⊛_, ⋆, some, later, _$_, _∵_, !, qed, by, move, use1, use2, split, join, pick, rewrite, fsplit, fjoin, suffices, frame, await, done}
+use types.Kit.{Given, ‵, raw, _⊛_, ⋆, some, later, _$_, _∵_, !, qed, by, move, use1, use2, split, join, pick, rewrite, fsplit, fjoin, suffices, frame, await}
+use types.Kit.{done}
 use types.Part.{agg}
 use types.Run.{look, init, forget, stop, from, load, and-then, no-more, assigns, land, returns, enter, alloc1, alloc0, params1, pass1, pass0, free1, free0}
 use sound.WpLaws.{FmC, fmOf, WpFn-mono}

@@ -1,4 +1,5 @@
--- `api_rattle::signature` meets its contract: a walk of its MIR, by hand. The struct is taken apart, and its fields are passed to `signature_part`, whose answer is handed
+-- `api_rattle::signature` meets its contract: a walk of its MIR, by hand. The struct is taken apart, and its fields are passed to `signature_part`, whose
+-- answer is handed
 -- back.
 -- A struct of `&` alone is Copy: one copy goes to the callee, the other is had at exit. Assumes nothing.
 use mathlib.Core.Path.{_≡_, refl}
@@ -18,9 +19,11 @@ use ghost.Atoms.{Atoms, sem}
 use contract.Lifetimes.{Lfts}
 use contract.Monad.{Fun, fact}
 use contract.Running.{givenOf, tables, tablesOf}
-use types.Kit.{Given, ‵, raw, _⊛_, given, ⋆, some, later, _$_, _∵_, !, qed, by, move, drop, use1, use2, split, join, learn, pick, fsplit, fjoin, suffices, frame, await, done}
+use types.Kit.{Given, ‵, raw, _⊛_, given, ⋆, some, later, _$_, _∵_, !, qed, by, move, drop, use1, use2, split, join, learn, pick, fsplit, fjoin, suffices}
+use types.Kit.{frame, await, done}
 use types.Part.{whole, sub, look-in}
-use types.Run.{look, init, forget, stop, fld, from, load, of-opd, and-then, no-more, assigns, land, returns, enter, alloc1, alloc0, params1, pass1, pass0, free1, free0}
+use types.Run.{look, init, forget, stop, fld, from, load, of-opd, and-then, no-more, assigns, land, returns, enter, alloc1, alloc0, params1, pass1, pass0}
+use types.Run.{free1, free0}
 use sound.WpLaws.{FmC, fmOf, WpFn-mono}
 use denote.RattleType.{RattleType, owns}
 use denote.Laws.{Is, shows}
@@ -41,7 +44,7 @@ use denote.Triple.Table.{entered, cited}
 use denote.Triple.Walked.{says, Stays, stay-none, walkOf, goes-none, Walks, ends-at, walked, walk-meets}
 use denote.Exit.{yes}
 use denote.Triple.Clauses.{ensured, lasts}
-use Rattle.spec_promises.specs.Lending.{Lends}
+use Rattle.spec_interface.specs.Lending.{Lends}
 use Rattle.api_rattle.specs.declared.Image.{Image}
 use Rattle.api_rattle.proofs.Image as T
 use Rattle.api_rattle.proofs.Image.Laws as T′

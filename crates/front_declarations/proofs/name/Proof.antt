@@ -22,7 +22,8 @@ returns-2 c = moved-by (c .before .before .before .before .before .before .befor
     ∙ rw (
       eq-eqb (c .before .before .before .before .before .before .before .args .p .cursor .fault) 0 (c .before .before .before .before .if1 .left),
       ne-eqb
-          (kindIn (c .before .before .before .before .before .before .before .args .kinds .now) (c .before .before .before .before .before .before .before .args .n)
+          (kindIn (c .before .before .before .before .before .before .before .args .kinds .now)
+          (c .before .before .before .before .before .before .before .args .n)
           (c .before .before .before .before .before .before .before .args .p .cursor .at)) 1
           (λ e. c .before .before .if2 .taken (c .before .before .before .kind-at .ensures ∙ e)),
     )

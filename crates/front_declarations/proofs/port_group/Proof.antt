@@ -1,6 +1,5 @@
 -- `front_declarations::port_group` meets its contract: the parts follow the grammar one after another, and the rows are written last. Assumes nothing.
 use mathlib.Core.Path.{_∙_}
-use native.Mathlib.Omega.{arith}
 use borrow.Author.Needs.{needs}
 use lib.Dec.{lit<}
 use Rattle.front_declarations.proofs.Steps.{asks-header, cursor-asks, moved-by}
@@ -13,7 +12,8 @@ names-requires : tie.Need-names-requires
 names-requires c κs = c .pre .asks
 
 expect-requires : tie.Need-expect-requires
-expect-requires c κs = let s = c .before .args in let h = c .before .pre .asks in let ha = asks-header h (c .names .ensures .moves) in (lit< tt, cursor-asks ha)
+expect-requires c κs = let s = c .before .args in let h = c .before .pre .asks in let ha = asks-header h (c .names .ensures .moves) in
+    (lit< tt, cursor-asks ha)
 
 mode-requires : tie.Need-mode-requires
 mode-requires c κs = let s = c .before .before .before .args in let h = c .before .before .before .pre .asks in
@@ -41,30 +41,36 @@ returns c = port-read (c .before .before .before .before .before .before .before
 kind-at-requires : tie.Need-kind-at-requires
 kind-at-requires c κs = c .before .before .before .before .before .before .before .before .before .before .before .pre .asks .short
 
-shape-at-requires : tie.Need-shape-at-requires
-shape-at-requires c κs = let s = c .before .before .before .before .before .before .before .before .before .before .before .before .before .args in
-    let h = c .before .before .before .before .before .before .before .before .before .before .before .before .before .pre .asks in
-    let ha = asks-header h (c .before .before .before .before .before .before .before .before .before .before .before .before .names .ensures .moves) in
-    let kb = took-kept (s .kinds .now) (s .long .now) 8 (lit< tt) ha
-    (moved-by (c .before .before .before .before .before .before .before .before .before .before .before .before .names .result)
-    (c .before .before .before .before .before .before .before .before .before .before .moved .ensures)
-    (c .before .before .before .before .before .before .before .before .before .before .before .expect .ensures)) in let hb = asks-header ha (kb .moves) in
-    let mc = mode-moves (s .kinds .now) hb (c .before .before .before .before .before .before .before .before .before .mode .ensures) in
-    let hc = asks-header hb (mc .moves) in let i = h .inside in let j = hc .inside in let l = h .short in (l, (omega arith), (omega arith))
-
-declared-by-requires : tie.Need-declared-by-requires
-declared-by-requires c κs = let h = c .before .before .before .before .before .before .before .before .before .before .before .before .before .before .before .pre .asks in (h .inputs, h .outputs, h .vars)
-
-declared-by-requires-2 : tie.Need-declared-by-requires-2
-declared-by-requires-2 c κs = let s = c .before .before .before .before .before .before .before .before .before .before .before .before .before .before .before .before .args in let h = c .before .before .before .before .before .before .before .before .before .before .before .before .before .before .before .before .pre .asks in let ha = asks-header h (c .before .before .before .before .before .before .before .before .before .before .before .before .before .before .before .names .ensures .moves) in let kb = took-kept (s .kinds .now) (s .long .now) 8 (lit< tt) ha (moved-by (c .before .before .before .before .before .before .before .before .before .before .before .before .before .before .before .names .result) (c .before .before .before .before .before .before .before .before .before .before .before .before .before .moved .ensures) (c .before .before .before .before .before .before .before .before .before .before .before .before .before .before .expect .ensures)) in let hb = asks-header ha (kb .moves) in let mc = mode-moves (s .kinds .now) hb (c .before .before .before .before .before .before .before .before .before .before .before .before .mode .ensures) in let hc = asks-header hb (mc .moves) in let ke = tail-moves (s .kinds .now) (s .long .now) hc (moved-by (c .before .before .before .before .before .before .before .before .before .before .before .before .mode .result) (c .before .before .before .before .before .before .before .before .before .moved2 .ensures) (c .before .before .before .before .before .before .before .before .before .before .tail .ensures)) in let he = asks-header hc (ke .moves) in (he .inputs, he .outputs, he .vars)
-
-put-rows-requires : tie.Need-put-rows-requires
-put-rows-requires c κs = let s = c .before .before .before .before .before .before .before .before .before .before .before .before .before .before .before .before .before .args in let h = c .before .before .before .before .before .before .before .before .before .before .before .before .before .before .before .before .before .pre .asks in let ha = asks-header h (c .before .before .before .before .before .before .before .before .before .before .before .before .before .before .before .before .names .ensures .moves) in let kb = took-kept (s .kinds .now) (s .long .now) 8 (lit< tt) ha (moved-by (c .before .before .before .before .before .before .before .before .before .before .before .before .before .before .before .before .names .result) (c .before .before .before .before .before .before .before .before .before .before .before .before .before .before .moved .ensures) (c .before .before .before .before .before .before .before .before .before .before .before .before .before .before .before .expect .ensures)) in let hb = asks-header ha (kb .moves) in let mc = mode-moves (s .kinds .now) hb (c .before .before .before .before .before .before .before .before .before .before .before .before .before .mode .ensures) in let hc = asks-header hb (mc .moves) in let ke = tail-moves (s .kinds .now) (s .long .now) hc (moved-by (c .before .before .before .before .before .before .before .before .before .before .before .before .before .mode .result) (c .before .before .before .before .before .before .before .before .before .before .moved2 .ensures) (c .before .before .before .before .before .before .before .before .before .before .before .tail .ensures)) in let he = asks-header hc (ke .moves) in let e1 = c .declared-by2 .ensures in let i = h .inside in let l = h .short in let a1 = he .inputs in let a2 = he .outputs in let a3 = he .vars in ((rw e1 (omega arith)), (omega arith))
+put-group-requires : tie.Need-put-group-requires
+put-group-requires c κs = let s = c .before .before .before .before .before .before .before .before .before .before .before .before .before .before .args in
+    let h = c .before .before .before .before .before .before .before .before .before .before .before .before .before .before .pre .asks in
+    let ha = asks-header h
+    (c .before .before .before .before .before .before .before .before .before .before .before .before .before .names .ensures .moves) in
+    let hb = asks-header ha (took-kept (s .kinds .now) (s .long .now) 8 (lit< tt) ha
+    (moved-by (c .before .before .before .before .before .before .before .before .before .before .before .before .before .names .result)
+    (c .before .before .before .before .before .before .before .before .before .before .before .moved .ensures)
+    (c .before .before .before .before .before .before .before .before .before .before .before .before .expect .ensures)) .moves) in
+    let hc = asks-header hb (mode-moves (s .kinds .now) hb
+    (c .before .before .before .before .before .before .before .before .before .before .mode .ensures) .moves) in
+    let ke = tail-moves (s .kinds .now) (s .long .now) hc (moved-by
+    (c .before .before .before .before .before .before .before .before .before .before .mode .result)
+    (c .before .before .before .before .before .before .before .moved2 .ensures)
+    (c .before .before .before .before .before .before .before .before .tail .ensures)) in
+    (h, asks-header hc (ke .moves), h .inside, hc .inside)
 
 returns-2 : tie.Need-returns-2
-returns-2 c = port-read (c .before .before .before .before .before .before .before .before .before .before .before .before .before .before .before .before .before .before .pre) (c .before .before .before .before .before .before .before .before .before .before .before .before .before .before .before .before .before .names .ensures) (moved-by (c .before .before .before .before .before .before .before .before .before .before .before .before .before .before .before .before .before .names .result) (c .before .before .before .before .before .before .before .before .before .before .before .before .before .before .before .moved .ensures) (c .before .before .before .before .before .before .before .before .before .before .before .before .before .before .before .before .expect .ensures)) (c .before .before .before .before .before .before .before .before .before .before .before .before .before .before .mode .ensures) (moved-by (c .before .before .before .before .before .before .before .before .before .before .before .before .before .before .mode .result) (c .before .before .before .before .before .before .before .before .before .before .before .moved2 .ensures) (c .before .before .before .before .before .before .before .before .before .before .before .before .tail .ensures)) (λ z. c .put-rows .ensures ∙ rw (c .before .before .before .before .shape-at .ensures, c .before .before .declared-by .ensures, c .before .declared-by2 .ensures, c .before .before .before .before .before .mode-of .ensures, c .before .before .before .before .before .before .kind-at .ensures))
+returns-2 c = port-read (c .before .before .before .before .before .before .before .before .before .before .before .before .before .before .before .pre)
+    (c .before .before .before .before .before .before .before .before .before .before .before .before .before .before .names .ensures) (moved-by
+    (c .before .before .before .before .before .before .before .before .before .before .before .before .before .before .names .result)
+    (c .before .before .before .before .before .before .before .before .before .before .before .before .moved .ensures)
+    (c .before .before .before .before .before .before .before .before .before .before .before .before .before .expect .ensures))
+    (c .before .before .before .before .before .before .before .before .before .before .before .mode .ensures)
+    (moved-by (c .before .before .before .before .before .before .before .before .before .before .before .mode .result)
+    (c .before .before .before .before .before .before .before .before .moved2 .ensures)
+    (c .before .before .before .before .before .before .before .before .before .tail .ensures)) (λ z. c .put-group .ensures ∙ rw
+    (c .before .before .mode-of .ensures, c .before .before .before .kind-at .ensures))
 
 pub port-group-spec : {M : Type 1} → statement M
 port-group-spec = tie.close (tie.spec names-requires expect-requires (λ c κs. search needs) mode-requires tail-requires
     (λ c κs. search needs) returns kind-at-requires
-    (λ c κs. search needs) shape-at-requires declared-by-requires declared-by-requires-2 put-rows-requires returns-2)
+    (λ c κs. search needs) put-group-requires returns-2)

@@ -22,7 +22,8 @@ unfolding valueAt
 returns c = c .expect2 .ensures ∙ rw (
   c .before .expect .ensures,
   eq-eqb
-      (kindIn (c .before .before .before .before .args .kinds .now) (c .before .before .before .before .args .n) (c .before .before .before .before .args .q .at))
+      (kindIn (c .before .before .before .before .args .kinds .now) (c .before .before .before .before .args .n)
+      (c .before .before .before .before .args .q .at))
       12 (sym (c .before .before .before .kind-at .ensures) ∙ c .before .before .if1 .taken),
 )
 
@@ -35,7 +36,8 @@ returns-2 c = c .expect3 .ensures ∙ rw (
   c .before .literal-kind .ensures,
   c .before .before .before .kind-at .ensures,
   ne-eqb
-      (kindIn (c .before .before .before .before .args .kinds .now) (c .before .before .before .before .args .n) (c .before .before .before .before .args .q .at))
+      (kindIn (c .before .before .before .before .args .kinds .now) (c .before .before .before .before .args .n)
+      (c .before .before .before .before .args .q .at))
       12 (λ e. c .before .before .if1 .left (c .before .before .before .kind-at .ensures ∙ e)),
 )
 

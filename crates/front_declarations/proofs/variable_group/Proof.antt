@@ -1,6 +1,4 @@
 -- `front_declarations::variable_group` meets its contract: the parts follow the grammar one after another, and the rows are written last. Assumes nothing.
-use mathlib.Core.Path.{_∙_}
-use native.Mathlib.Omega.{arith}
 use borrow.Author.Needs.{needs}
 use lib.Dec.{lit<}
 use Rattle.front_declarations.proofs.Steps.{asks-header, cursor-asks, at-by, moved-by}
@@ -48,75 +46,36 @@ returns c = variable-read (c .before .before .before .before .before .before .be
     (moved-by (c .before .before .before .before .before .before .before .names .result) (c .before .before .before .moved .ensures)
     (c .before .before .before .before .expect2 .ensures)) (λ z. absurd (c .if1 .taken z))
 
-shape-at-requires : tie.Need-shape-at-requires
-shape-at-requires c κs = let s = c .before .before .before .before .before .before .before .before .before .args in
-    let h = c .before .before .before .before .before .before .before .before .before .pre .0 in
-    let ka = variable-moves (s .kinds .now) (s .long .now) h (c .before .before .before .before .before .before .before .before .variable-word .ensures) in
-    let ha = asks-header h (ka .moves) in let hb = asks-header ha (c .before .before .before .before .before .before .before .names .ensures .moves) in
-    let kc = took-kept (s .kinds .now) (s .long .now) 8 (lit< tt) hb
-    (at-by (c .before .before .before .before .before .before .before .names .result) (c .before .before .before .before .before .before .expect .ensures)) in
-    let hc = asks-header hb (kc .moves) in let i = ha .inside in let j = hc .inside in let l = h .short in (l, (omega arith), (omega arith))
-
-declared-by-requires : tie.Need-declared-by-requires
-declared-by-requires c κs = let h = c .before .before .before .before .before .before .before .before .before .before .before .pre .0 in
-    (h .inputs, h .outputs, h .vars)
-
-declared-by-requires-2 : tie.Need-declared-by-requires-2
-declared-by-requires-2 c κs = let s = c .before .before .before .before .before .before .before .before .before .before .before .before .args in
-    let h = c .before .before .before .before .before .before .before .before .before .before .before .before .pre .0 in
-    let ka = variable-moves (s .kinds .now) (s .long .now) h
-    (c .before .before .before .before .before .before .before .before .before .before .before .variable-word .ensures) in let ha = asks-header h (ka .moves) in
-    let hb = asks-header ha (c .before .before .before .before .before .before .before .before .before .before .names .ensures .moves) in
-    let kc = took-kept (s .kinds .now) (s .long .now) 8 (lit< tt) hb
-    (at-by (c .before .before .before .before .before .before .before .before .before .before .names .result)
-    (c .before .before .before .before .before .before .before .before .before .expect .ensures)) in let hc = asks-header hb (kc .moves) in
-    let kd = tail-moves (s .kinds .now) (s .long .now) hc
-    (at-by (c .before .before .before .before .before .before .before .before .before .before .names .result)
-    (c .before .before .before .before .before .before .before .before .tail .ensures)) in let hd = asks-header hc (kd .moves) in
-    let ke = took-kept (s .kinds .now) (s .long .now) 7 (lit< tt) hd
-    (moved-by (c .before .before .before .before .before .before .before .before .before .before .names .result)
-    (c .before .before .before .before .before .before .moved .ensures) (c .before .before .before .before .before .before .before .expect2 .ensures)) in
-    let he = asks-header hd (ke .moves) in (he .inputs, he .outputs, he .vars)
-
-put-rows-requires : tie.Need-put-rows-requires
-put-rows-requires c κs = let s = c .before .before .before .before .before .before .before .before .before .before .before .before .before .args in
-    let h = c .before .before .before .before .before .before .before .before .before .before .before .before .before .pre .0 in
-    let ka = variable-moves (s .kinds .now) (s .long .now) h
-    (c .before .before .before .before .before .before .before .before .before .before .before .before .variable-word .ensures) in
-    let ha = asks-header h (ka .moves) in let hb =
-    asks-header ha (c .before .before .before .before .before .before .before .before .before .before .before .names .ensures .moves) in
-    let kc = took-kept (s .kinds .now) (s .long .now) 8 (lit< tt) hb
-    (at-by (c .before .before .before .before .before .before .before .before .before .before .before .names .result)
-    (c .before .before .before .before .before .before .before .before .before .before .expect .ensures)) in let hc = asks-header hb (kc .moves) in
-    let kd = tail-moves (s .kinds .now) (s .long .now) hc
-    (at-by (c .before .before .before .before .before .before .before .before .before .before .before .names .result)
-    (c .before .before .before .before .before .before .before .before .before .tail .ensures)) in let hd = asks-header hc (kd .moves) in
-    let ke = took-kept (s .kinds .now) (s .long .now) 7 (lit< tt) hd
-    (moved-by (c .before .before .before .before .before .before .before .before .before .before .before .names .result)
-    (c .before .before .before .before .before .before .before .moved .ensures)
-    (c .before .before .before .before .before .before .before .before .expect2 .ensures)) in let he = asks-header hd (ke .moves) in
-    let e1 = c .declared-by2 .ensures in let i = ha .inside in let l = h .short in let a1 = he .inputs in let a2 = he .outputs in let a3 = he .vars in
-    ((rw e1 (omega arith)), (omega arith))
+put-group-requires : tie.Need-put-group-requires
+put-group-requires c κs = let s = c .before .before .before .before .before .before .before .before .before .before .args in
+    let h = c .before .before .before .before .before .before .before .before .before .before .pre .0 in
+    let ha = asks-header h (variable-moves (s .kinds .now) (s .long .now) h
+    (c .before .before .before .before .before .before .before .before .before .variable-word .ensures) .moves) in
+    let hb = asks-header ha (c .before .before .before .before .before .before .before .before .names .ensures .moves) in
+    let hc = asks-header hb (took-kept (s .kinds .now) (s .long .now) 8 (lit< tt) hb (at-by
+    (c .before .before .before .before .before .before .before .before .names .result)
+    (c .before .before .before .before .before .before .before .expect .ensures)) .moves) in
+    let hd = asks-header hc (tail-moves (s .kinds .now) (s .long .now) hc (at-by
+    (c .before .before .before .before .before .before .before .before .names .result)
+    (c .before .before .before .before .before .before .tail .ensures)) .moves) in
+    let ke = took-kept (s .kinds .now) (s .long .now) 7 (lit< tt) hd (moved-by
+    (c .before .before .before .before .before .before .before .before .names .result) (c .before .before .before .before .moved .ensures)
+    (c .before .before .before .before .before .expect2 .ensures)) in
+    (h, asks-header hd (ke .moves), ha .inside, hc .inside)
 
 returns-2 : tie.Need-returns-2
-returns-2 c = variable-read (c .before .before .before .before .before .before .before .before .before .before .before .before .before .before .pre .0)
-    (c .before .before .before .before .before .before .before .before .before .before .before .before .before .before .pre .1)
-    (c .before .before .before .before .before .before .before .before .before .before .before .before .before .before .pre .2)
-    (c .before .before .before .before .before .before .before .before .before .before .before .before .before .variable-word .ensures)
-    (c .before .before .before .before .before .before .before .before .before .before .before .before .names .ensures)
-    (at-by (c .before .before .before .before .before .before .before .before .before .before .before .before .names .result)
-    (c .before .before .before .before .before .before .before .before .before .before .before .expect .ensures))
-    (at-by (c .before .before .before .before .before .before .before .before .before .before .before .before .names .result)
-    (c .before .before .before .before .before .before .before .before .before .before .tail .ensures))
-    (moved-by (c .before .before .before .before .before .before .before .before .before .before .before .before .names .result)
-    (c .before .before .before .before .before .before .before .before .moved .ensures)
-    (c .before .before .before .before .before .before .before .before .before .expect2 .ensures))
-    (λ z. c .put-rows .ensures ∙ rw (
-      c .before .before .before .before .shape-at .ensures,
-      c .before .before .declared-by .ensures,
-      c .before .declared-by2 .ensures,
-    ))
+returns-2 c = variable-read (c .before .before .before .before .before .before .before .before .before .before .before .pre .0)
+    (c .before .before .before .before .before .before .before .before .before .before .before .pre .1)
+    (c .before .before .before .before .before .before .before .before .before .before .before .pre .2)
+    (c .before .before .before .before .before .before .before .before .before .before .variable-word .ensures)
+    (c .before .before .before .before .before .before .before .before .before .names .ensures) (at-by
+    (c .before .before .before .before .before .before .before .before .before .names .result)
+    (c .before .before .before .before .before .before .before .before .expect .ensures))
+    (at-by (c .before .before .before .before .before .before .before .before .before .names .result)
+    (c .before .before .before .before .before .before .before .tail .ensures)) (moved-by
+    (c .before .before .before .before .before .before .before .before .before .names .result) (c .before .before .before .before .before .moved .ensures)
+    (c .before .before .before .before .before .before .expect2 .ensures)) (λ z. c .put-group .ensures)
 
 pub variable-group-spec : {M : Type 1} → statement M
 variable-group-spec = tie.close (tie.spec variable-word-requires names-requires expect-requires tail-requires expect-requires-2
-    (λ c κs. search needs) returns shape-at-requires declared-by-requires declared-by-requires-2 put-rows-requires returns-2)
+    (λ c κs. search needs) returns put-group-requires returns-2)

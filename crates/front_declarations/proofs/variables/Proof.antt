@@ -1,4 +1,5 @@
--- `front_declarations::variables` meets its contract: the loop's invariant is that the groups have only grown; a turn gets further, or refuses. Assumes nothing.
+-- `front_declarations::variables` meets its contract: the loop's invariant is that the groups have only grown; a turn gets further, or refuses. Assumes
+-- nothing.
 use mathlib.Core.Path.{sym, _∙_}
 use Prim.Native.Nat.{_+_, _-_}
 use Rattle.front_layout.specs.Tokens.{kindIn}

@@ -16,7 +16,10 @@ use Rattle.front_layout.specs.Items.{arrays}
 use Rattle.front_expressions.specs.Readers.{sum, product as productTail, operatorOf, TurnOver}
 use Rattle.front_expressions.proofs.Behind.{first-moves, operand-asks, put-room, behind-over}
 use Rattle.front_expressions.proofs.Primaries.{reads-stays, primary-refused, parens-full, parens-read}
-use Rattle.front_expressions.proofs.Sums.{asks-after, adding-kind, multiplying-kind, relational-kind, logical-kind, denied, affirmed, operand-not, loop-falls, Chained, chained-none, chained-again, chained-falls, factor-plain, factor-not, signed-plain, signed-sign, list-turn, joined-turn, turn-none, turn-then, more-terms-true, more-factors-true, sum-read, product-read, relation-plain, relation-compared, expression-plain, expression-chain}
+use Rattle.front_expressions.proofs.Sums.{asks-after, adding-kind, multiplying-kind, relational-kind, logical-kind, denied, affirmed, operand-not}
+use Rattle.front_expressions.proofs.Sums.{loop-falls, Chained, chained-none, chained-again, chained-falls, factor-plain, factor-not, signed-plain}
+use Rattle.front_expressions.proofs.Sums.{signed-sign, list-turn, joined-turn, turn-none, turn-then, more-terms-true, more-factors-true, sum-read}
+use Rattle.front_expressions.proofs.Sums.{product-read, relation-plain, relation-compared, expression-plain, expression-chain}
 use Rattle.base_codes.specs.Token.{oneOf, operands, adding, multiplying, relational, logical}
 use borrow.Fn.Kinds.{In}
 use borrow.Fn.PlainCycle.{Measures, is, falls, and}
@@ -193,10 +196,12 @@ factor-calls t = (
   leaf-reads.Learnt,
   again-reads.Asked,
   again-reads.Learnt,
-  primary-below t,
-  primary.Post,
+  parenthesised-below t,
+  parenthesised.Post,
   item-reads.Asked,
   item-reads.Learnt,
+  primary-below t,
+  primary.Post,
   put-reads.Asked,
   put-reads.Learnt,
 )
@@ -230,20 +235,29 @@ multiplied-calls t = (
 )
 
 abbrev parenthesised-calls : ℕ → parenthesised-lts.Claims
-parenthesised-calls t = (refused-reads.Asked, refused-reads.Learnt, expression-below t, expression.Post, expect-reads.Asked, expect-reads.Learnt)
+parenthesised-calls t = (
+  kind-at-reads.Asked,
+  kind-at-reads.Learnt,
+  refused-reads.Asked,
+  refused-reads.Learnt,
+  expression-below t,
+  expression.Post,
+  expect-reads.Asked,
+  expect-reads.Learnt,
+)
 
 abbrev primary-calls : ℕ → primary-lts.Claims
 primary-calls t = (
   kind-at-reads.Asked,
   kind-at-reads.Learnt,
-  parenthesised-below t,
-  parenthesised.Post,
   is-operand-reads.Asked,
   is-operand-reads.Learnt,
   leaf-reads.Asked,
   leaf-reads.Learnt,
-  refused-reads.Asked,
-  refused-reads.Learnt,
+  again-reads.Asked,
+  again-reads.Learnt,
+  parenthesised-below t,
+  parenthesised.Post,
 )
 
 abbrev product-calls : ℕ → product-lts.Claims
@@ -393,19 +407,29 @@ factor-returns t c = factor-plain (operand-not _
     (sym (c .before .before .before .before .is-operand .ensures) ∙ c .before .before .before .if1 .taken)))
     (c .leaf .ensures (c .before .before .before .before .before .before .args .parens) (c .before .before .before .before .before .before .pre .1 .0))
 
-factor-primary-requires : (t : ℕ) → factor-lts.Need-primary-requires (factor-calls t) (factor-at t) factor.Post
-factor-primary-requires t c κs = rw (c .before .before .again .ensures) (let p = c .before .before .before .before .before .before .before .pre in omega arith)
+factor-parenthesised-requires : (t : ℕ) → factor-lts.Need-parenthesised-requires (factor-calls t) (factor-at t) factor.Post
+factor-parenthesised-requires t c κs = rw (c .before .before .again .ensures) (
+  (let p = c .before .before .before .before .before .before .before .pre in omega arith),
+  (
+    c .before .before .before .before .before .before .before .pre .1 .0,
+    c .before .before .before .before .before .before .before .pre .1 .1,
+    subst
+        (λ (k : ℕ). oneOf k operands ≡ false) (c .before .before .before .before .before .before .kind-at .ensures)
+        (sym (c .before .before .before .before .before .is-operand .ensures) ∙ c .before .before .before .before .if1 .left),
+  ),
+)
 
 factor-returns-2 : (t : ℕ) → factor-lts.Need-returns-2 (factor-calls t) (factor-at t) factor.Post
 factor-returns-2 t c = factor-plain (λ z. c .before .before .before .before .if2 .taken
-    (c .before .before .before .before .before .before .before .kind-at .ensures ∙ z)) (rw (c .before .before .before .again .ensures) at (c .primary .ensures))
+    (c .before .before .before .before .before .before .before .kind-at .ensures ∙ z))
+    (rw (c .before .before .before .again .ensures) at (c .parenthesised .ensures))
 
 factor-item-requires : (t : ℕ) → factor-lts.Need-item-requires (factor-calls t) (factor-at t) factor.Post
 factor-item-requires t c κs = let s = c .before .before .before .before .args in
     let i = (kind-inside (s .kinds .now) (s .n) (s .q .at) 22 (sym (c .before .before .before .kind-at .ensures) ∙ c .if2 .left) (lit< tt)) in omega arith
 
-factor-primary-requires-2 : (t : ℕ) → factor-lts.Need-primary-requires-2 (factor-calls t) (factor-at t) factor.Post
-factor-primary-requires-2 t c κs = let s = c .before .before .before .before .before .before .before .args in
+factor-primary-requires : (t : ℕ) → factor-lts.Need-primary-requires (factor-calls t) (factor-at t) factor.Post
+factor-primary-requires t c κs = let s = c .before .before .before .before .before .before .before .args in
     let i = (kind-inside (s .kinds .now) (s .n) (s .q .at) 22
     (sym (c .before .before .before .before .before .before .kind-at .ensures) ∙ c .before .before .before .if2 .left) (lit< tt)) in
     let a = operand-asks (s .n) (s .q) (c .before .before .item .result) (s .q) (s .q) (flagIn (s .long .now) (s .q .at))
@@ -418,9 +442,9 @@ factor-put-requires t c κs = let s = c .before .before .before .before .before 
     let i = (kind-inside (s .kinds .now) (s .n) (s .q .at) 22
     (sym (c .before .before .before .before .before .before .before .before .before .kind-at .ensures)
     ∙ c .before .before .before .before .before .before .if2 .left) (lit< tt)) in (
-      put-room (s .n) (s .q) (c .before .before .before .before .before .item .result) (c .before .before .primary2 .result) (s .q)
+      put-room (s .n) (s .q) (c .before .before .before .before .before .item .result) (c .before .before .primary .result) (s .q)
           (flagIn (s .long .now) (s .q .at)) (c .before .before .before .before .before .before .before .before .before .before .pre .1 .1) i
-          (c .before .before .before .before .before .item .ensures) (c .before .before .primary2 .ensures .moves),
+          (c .before .before .before .before .before .item .ensures) (c .before .before .primary .ensures .moves),
       omega arith,
     )
 
@@ -430,7 +454,7 @@ factor-returns-3 t c = let e = sym (c .before .before .before .before .before .b
     factor-not e (behind-over primaryPart postfix 22 (lit< tt)
     (c .before .before .before .before .before .before .before .before .before .before .before .pre .1 .1)
     (c .before .before .before .before .before .before .before .before .before .before .before .pre .1 .0) e
-    (c .before .before .before .before .before .before .item .ensures) (c .before .before .before .primary2 .ensures) (c .put .ensures))
+    (c .before .before .before .before .before .before .item .ensures) (c .before .before .before .primary .ensures) (c .put .ensures))
 
 joined-item-requires : (t : ℕ) → joined-lts.Need-item-requires (joined-calls t) (joined-at t) joined.Post
 joined-item-requires t c κs = let s = c .before .before .args in let w = c .before .before .pre .1 .2 in
@@ -501,56 +525,68 @@ multiplied-returns t c = let s = c .before .before .before .before .before .befo
     (c .before .before .before .before .before .before .item .ensures) (c .before .before .before .factor .ensures) (c .put .ensures))
 
 parenthesised-returns : (t : ℕ) → parenthesised-lts.Need-returns (parenthesised-calls t) (parenthesised-at t) parenthesised.Post
-parenthesised-returns t c = rw (c .refused .ensures)
-    (parens-full (c .before .before .pre .1 .1) (c .before .before .pre .1 .0) (c .before .before .pre .1 .2) _ (c .before .if1 .taken)
-    (c .before .before .pre .1 .3))
-
-parenthesised-add-expression : (t : ℕ) → parenthesised-lts.Need-add-expression (parenthesised-calls t) (parenthesised-at t) parenthesised.Post
-parenthesised-add-expression t c = let s = c .before .before .args in
-    let i = (kind-inside (s .kinds .now) (s .n) (s .q .at) 5 (c .before .before .pre .1 .3) (lit< tt)) in omega arith
-
-parenthesised-expression-requires : (t : ℕ) → parenthesised-lts.Need-expression-requires (parenthesised-calls t) (parenthesised-at t) parenthesised.Post
-parenthesised-expression-requires t c κs = let s = c .before .before .before .before .args in
-    let i = (kind-inside (s .kinds .now) (s .n) (s .q .at) 5 (c .before .before .before .before .pre .1 .3) (lit< tt)) in omega arith
-
-parenthesised-expect-requires : (t : ℕ) → parenthesised-lts.Need-expect-requires (parenthesised-calls t) (parenthesised-at t) parenthesised.Post
-parenthesised-expect-requires t c κs = let s = c .before .before .before .before .before .args in
-    let i = (kind-inside (s .kinds .now) (s .n) (s .q .at) 5 (c .before .before .before .before .before .pre .1 .3) (lit< tt)) in
-    let m = c .expression .ensures .moves in omega arith
+parenthesised-returns t c = reads-stays primaryPart postfix (number noToken) _ (c .before .before .pre .1 .1) (c .if1 .taken)
 
 parenthesised-returns-2 : (t : ℕ) → parenthesised-lts.Need-returns-2 (parenthesised-calls t) (parenthesised-at t) parenthesised.Post
-parenthesised-returns-2 t c = parens-read (c .before .before .before .before .before .before .pre .1 .1)
-    (c .before .before .before .before .before .before .pre .1 .0) (c .before .before .before .before .before .before .pre .1 .2)
-    (c .before .before .before .before .before .if1 .left) (c .before .before .before .before .before .before .pre .1 .3) _ _ _ refl
+parenthesised-returns-2 t c = rw (c .refused .ensures)
+    (primary-refused (c .before .before .before .before .before .pre .1 .1) (c .before .before .before .before .before .pre .1 .0)
+    (c .before .before .before .if1 .left) _ (λ z. c .before .if2 .taken (c .before .before .kind-at .ensures ∙ z))
+    (c .before .before .before .before .before .pre .1 .2))
+
+parenthesised-returns-3 : (t : ℕ) → parenthesised-lts.Need-returns-3 (parenthesised-calls t) (parenthesised-at t) parenthesised.Post
+parenthesised-returns-3 t c = rw (c .refused2 .ensures)
+    (parens-full (c .before .before .before .before .before .before .pre .1 .1) (c .before .before .before .before .before .before .pre .1 .0)
+    (c .before .before .before .before .if1 .left) _ (c .before .if3 .taken) (sym (c .before .before .before .kind-at .ensures) ∙ c .before .before .if2 .left))
+
+parenthesised-add-expression : (t : ℕ) → parenthesised-lts.Need-add-expression (parenthesised-calls t) (parenthesised-at t) parenthesised.Post
+parenthesised-add-expression t c = let s = c .before .before .before .before .before .before .args in
+    let i = (kind-inside (s .kinds .now) (s .n) (s .q .at) 5 (sym (c .before .before .before .kind-at .ensures) ∙ c .before .before .if2 .left) (lit< tt)) in
+    omega arith
+
+parenthesised-expression-requires : (t : ℕ) → parenthesised-lts.Need-expression-requires (parenthesised-calls t) (parenthesised-at t) parenthesised.Post
+parenthesised-expression-requires t c κs = let s = c .before .before .before .before .before .before .before .before .args in
+    let i = (kind-inside (s .kinds .now) (s .n) (s .q .at) 5
+    (sym (c .before .before .before .before .before .kind-at .ensures) ∙ c .before .before .before .before .if2 .left) (lit< tt)) in omega arith
+
+parenthesised-expect-requires : (t : ℕ) → parenthesised-lts.Need-expect-requires (parenthesised-calls t) (parenthesised-at t) parenthesised.Post
+parenthesised-expect-requires t c κs = let s = c .before .before .before .before .before .before .before .before .before .args in
+    let i = (kind-inside (s .kinds .now) (s .n) (s .q .at) 5
+    (sym (c .before .before .before .before .before .before .kind-at .ensures) ∙ c .before .before .before .before .before .if2 .left) (lit< tt)) in
+    let m = c .expression .ensures .moves in omega arith
+
+parenthesised-returns-4 : (t : ℕ) → parenthesised-lts.Need-returns-4 (parenthesised-calls t) (parenthesised-at t) parenthesised.Post
+parenthesised-returns-4 t c = parens-read (c .before .before .before .before .before .before .before .before .before .before .pre .1 .1)
+    (c .before .before .before .before .before .before .before .before .before .before .pre .1 .0)
+    (c .before .before .before .before .before .before .before .before .if1 .left) (c .before .before .before .before .before .if3 .left)
+    (sym (c .before .before .before .before .before .before .before .kind-at .ensures)
+    ∙ c .before .before .before .before .before .before .if2 .left) _ _ _ refl
     (c .before .expression .ensures) (c .expect .ensures)
-
-primary-returns : (t : ℕ) → primary-lts.Need-returns (primary-calls t) (primary-at t) primary.Post
-primary-returns t c = reads-stays primaryPart postfix (number noToken) _ (c .before .before .pre .1 .1) (c .if1 .taken)
-
-primary-parenthesised-requires : (t : ℕ) → primary-lts.Need-parenthesised-requires (primary-calls t) (primary-at t) primary.Post
-primary-parenthesised-requires t c κs = let e = c .before .before .before .kind-at .ensures in omega arith
-
-primary-returns-2 : (t : ℕ) → primary-lts.Need-returns-2 (primary-calls t) (primary-at t) primary.Post
-primary-returns-2 t c = c .parenthesised .ensures
-
-primary-returns-3 : (t : ℕ) → primary-lts.Need-returns-3 (primary-calls t) (primary-at t) primary.Post
-primary-returns-3 t c = c .leaf .ensures (c .before .before .before .before .before .before .before .before .before .args .parens)
-    (c .before .before .before .before .before .before .before .before .before .pre .1 .0)
 
 primary-leaf-requires : (t : ℕ) → primary-lts.Need-leaf-requires (primary-calls t) (primary-at t) primary.Post
 primary-leaf-requires t c κs = (
-  c .before .before .before .before .before .before .before .before .pre .1 .1,
-  subst (λ (k : ℕ). oneOf k operands ≡ true)
-      (c .before .before .before .before .before .kind-at .ensures) (sym (c .before .before .before .is-operand .ensures) ∙ c .before .before .if3 .taken),
+  c .before .before .before .before .before .pre .1 .1,
+  subst (λ (k : ℕ). oneOf k operands ≡ true) (c .before .before .before .before .kind-at .ensures)
+      (sym (c .before .before .before .is-operand .ensures) ∙ c .before .before .if1 .taken),
 )
 
-primary-returns-4 : (t : ℕ) → primary-lts.Need-returns-4 (primary-calls t) (primary-at t) primary.Post
-primary-returns-4 t c = rw (c .refused .ensures)
-    (primary-refused (c .before .before .before .before .before .before .before .pre .1 .1)
-    (c .before .before .before .before .before .before .before .pre .1 .0) (c .before .before .before .before .before .if1 .left) _
-    (λ z. c .before .before .before .if2 .left (c .before .before .before .before .kind-at .ensures ∙ z))
-    (subst (λ (k : ℕ). oneOf k operands ≡ false) (c .before .before .before .before .kind-at .ensures)
-    (sym (c .before .before .is-operand .ensures) ∙ c .before .if3 .left)))
+primary-returns : (t : ℕ) → primary-lts.Need-returns (primary-calls t) (primary-at t) primary.Post
+primary-returns t c = c .leaf .ensures (c .before .before .before .before .before .before .args .parens)
+    (c .before .before .before .before .before .before .pre .1 .0)
+
+primary-parenthesised-requires : (t : ℕ) → primary-lts.Need-parenthesised-requires (primary-calls t) (primary-at t) primary.Post
+primary-parenthesised-requires t c κs = rw (c .before .before .again .ensures) (
+  (let p = c .before .before .before .before .before .before .pre in omega arith),
+  (
+    c .before .before .before .before .before .before .pre .1 .0,
+    c .before .before .before .before .before .before .pre .1 .1,
+    subst
+        (λ (k : ℕ). oneOf k operands ≡ false) (c .before .before .before .before .before .kind-at .ensures)
+        (sym (c .before .before .before .before .is-operand .ensures) ∙ c .before .before .before .if1 .left),
+  ),
+)
+
+primary-returns-2 : (t : ℕ) → primary-lts.Need-returns-2 (primary-calls t) (primary-at t) primary.Post
+primary-returns-2 t c = rw (c .before .before .before .again .ensures) at (c .parenthesised .ensures)
 
 product-loop-holds : (t : ℕ) → product-lts.Need-loop-holds (product-calls t) (product-at t) product.Post product-Inv-loop product-μ-loop
 product-loop-holds t c = turn-none productTail _ (asks-after (c .before .before .before .pre .1 .1) (c .factor .ensures .moves))
@@ -749,16 +785,17 @@ pub +expression+factor+joined+multiplied+parenthesised+primary+product+relation+
     (λ c κs. omega arith) (λ c κs. search needs) (expression-returns t) (expression-loop-holds t) (λ c κs. omega arith) (expression-joined-requires t)
     (expression-loop-less t) (expression-loop-again t) (expression-returns-2 t))
     (λ t. factor-lts.spec (factor-calls t) (factor-at t) factor.Post (λ c κs. omega arith) (λ c κs. search needs) (factor-leaf-requires t) (factor-returns t)
-    (λ c κs. search needs) (factor-primary-requires t) (factor-returns-2 t) (factor-item-requires t) (factor-primary-requires-2 t) (factor-put-requires t)
-    (factor-returns-3 t))
+    (λ c κs. search needs) (factor-parenthesised-requires t) (factor-returns-2 t) (factor-item-requires t) (factor-primary-requires t)
+    (factor-put-requires t) (factor-returns-3 t))
     (λ t. joined-lts.spec (joined-calls t) (joined-at t) joined.Post (λ c κs. omega arith) (λ c κs. search needs) (joined-item-requires t)
     (joined-relation-requires t) (joined-put-requires t) (joined-returns t))
     (λ t. multiplied-lts.spec (multiplied-calls t) (multiplied-at t) multiplied.Post (λ c κs. omega arith) (λ c κs. search needs) (multiplied-item-requires t)
     (multiplied-factor-requires t) (multiplied-put-requires t) (multiplied-returns t))
-    (λ t. parenthesised-lts.spec (parenthesised-calls t) (parenthesised-at t) parenthesised.Post (λ c κs. search needs) (parenthesised-returns t)
-    (parenthesised-add-expression t) (λ c. omega arith) (parenthesised-expression-requires t) (parenthesised-expect-requires t) (parenthesised-returns-2 t))
-    (λ t. primary-lts.spec (primary-calls t) (primary-at t) primary.Post (primary-returns t) (λ c κs. omega arith) (primary-parenthesised-requires t)
-    (primary-returns-2 t) (λ c κs. search needs) (primary-leaf-requires t) (primary-returns-3 t) (λ c κs. search needs) (primary-returns-4 t))
+    (λ t. parenthesised-lts.spec (parenthesised-calls t) (parenthesised-at t) parenthesised.Post (parenthesised-returns t) (λ c κs. omega arith)
+    (λ c κs. search needs) (parenthesised-returns-2 t) (λ c κs. search needs) (parenthesised-returns-3 t) (parenthesised-add-expression t) (λ c. omega arith)
+    (parenthesised-expression-requires t) (parenthesised-expect-requires t) (parenthesised-returns-4 t))
+    (λ t. primary-lts.spec (primary-calls t) (primary-at t) primary.Post (λ c κs. omega arith) (λ c κs. search needs) (primary-leaf-requires t)
+    (primary-returns t) (λ c κs. search needs) (primary-parenthesised-requires t) (primary-returns-2 t))
     (λ t. product-lts.spec (product-calls t) (product-at t) product.Post product-Inv-loop product-μ-loop (λ c κs. omega arith) (product-loop-holds t)
     (λ c κs. omega arith) (product-multiplied-requires t) (product-loop-less t) (product-loop-again t) (product-returns t))
     (λ t. relation-lts.spec (relation-calls t) (relation-at t) relation.Post (λ c κs. omega arith) (λ c κs. omega arith) (λ c κs. search needs)

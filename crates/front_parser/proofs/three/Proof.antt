@@ -16,7 +16,8 @@ expect-requires-3 : tie.Need-expect-requires-3
 expect-requires-3 c κs = let s = c .before .before .args in (
   c .before .before .pre .2,
   one-asks (s .kinds .now) (s .long .now) (s .b) (c .before .before .pre .1)
-      (one-asks (s .kinds .now) (s .long .now) (s .a) (c .before .before .pre .0) (c .before .before .pre .3) (c .before .expect .ensures)) (c .expect2 .ensures),
+      (one-asks (s .kinds .now) (s .long .now) (s .a) (c .before .before .pre .0) (c .before .before .pre .3) (c .before .expect .ensures))
+      (c .expect2 .ensures),
 )
 
 returns : tie.Need-returns

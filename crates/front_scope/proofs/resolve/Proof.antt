@@ -1,4 +1,5 @@
--- `front_scope::resolve` meets its contract. The invariant: what the rest makes of the array is what the whole makes of it; the law ties it to the tree. Assumes nothing.
+-- `front_scope::resolve` meets its contract. The invariant: what the rest makes of the array is what the whole makes of it; the law ties it to the tree.
+-- Assumes nothing.
 use mathlib.Core.Path.{_∙_, ap}
 use Prim.Native.Nat.{ℕ, _-_}
 use Rattle.front_scope.specs.Positions.{ownerIn, fillFrom}

@@ -10,10 +10,10 @@ use Rattle.front_layout.specs.Tokens.{kindIn, flagIn}
 use Rattle.front_cursor.proofs.Steps.{kind-inside}
 use Rattle.front_layout.specs.Items.{arrays}
 use Rattle.front_layout.specs.Rows.{output}
-use Rattle.front_statements.proofs.Steps.{cursor-asks, asks-listing, stepped-asks, took-steps, begin-steps, begin-depth}
-use Rattle.front_statements.proofs.Assignments.{expression-moves}
-use Rattle.front_statements.proofs.Bodies.{statement-stays, statement-refused, FurtherOver, further-none, further-again, more-true, body-read, body-falls}
-use Rattle.front_statements.proofs.Nested.{else-none, else-read, nested-refused, if-read, while-read}
+use Rattle.front_statements.proofs.Steps.{cursor-asks, asks-listing, stepped-asks, took-steps}
+use Rattle.front_statements.proofs.Bodies.{statement-stays, statement-refused, FurtherOver, further-none, further-again, more-true, body-read}
+use Rattle.front_statements.proofs.Bodies.{body-falls}
+use Rattle.front_statements.proofs.Nested.{else-none, else-read, if-refused, if-read, while-refused, while-read}
 use borrow.Fn.Kinds.{In}
 use borrow.Fn.PlainCycle.{Measures, is, falls, and}
 use Rattle.front_statements.proofs.body.Reads as body
@@ -33,9 +33,8 @@ use Rattle.front_statements.proofs.while_statement.Kinds as while-state
 use Rattle.front_statements.proofs.+body+else_part+if_statement+statement+while_statement.Lts-while_statement as while-statement-lts
 use Rattle.front_cursor.proofs.expect.Reads as expect-reads
 use Rattle.front_cursor.proofs.kind_at.Reads as kind-at-reads
-use Rattle.front_expressions.proofs.expression.Reads as expression-reads
 use Rattle.front_statements.proofs.assignment.Reads as assignment-reads
-use Rattle.front_statements.proofs.begin.Reads as begin-reads
+use Rattle.front_statements.proofs.opening.Reads as opening-reads
 use Rattle.front_statements.proofs.end_of.Reads as end-of-reads
 use Rattle.front_statements.proofs.finish.Reads as finish-reads
 use Rattle.front_statements.proofs.halted.Reads as halted-reads
@@ -98,12 +97,8 @@ else-part-calls t = (kind-at-reads.Asked, kind-at-reads.Learnt, expect-reads.Ask
 
 abbrev if-statement-calls : ℕ → if-statement-lts.Claims
 if-statement-calls t = (
-  begin-reads.Asked,
-  begin-reads.Learnt,
-  expression-reads.Asked,
-  expression-reads.Learnt,
-  expect-reads.Asked,
-  expect-reads.Learnt,
+  opening-reads.Asked,
+  opening-reads.Learnt,
   body-below t,
   body.Post,
   else-part-below t,
@@ -134,12 +129,8 @@ statement-calls t = (
 
 abbrev while-statement-calls : ℕ → while-statement-lts.Claims
 while-statement-calls t = (
-  begin-reads.Asked,
-  begin-reads.Learnt,
-  expression-reads.Asked,
-  expression-reads.Learnt,
-  expect-reads.Asked,
-  expect-reads.Learnt,
+  opening-reads.Asked,
+  opening-reads.Learnt,
   body-below t,
   body.Post,
   end-of-reads.Asked,
@@ -207,81 +198,67 @@ else-part-returns-2 t c = else-read (c .before .before .before .before .before .
     (sym (c .before .before .before .before .before .before .kind-at .ensures) ∙ c .before .before .before .before .before .if1 .left)
     (c .before .before .before .before .expect .ensures) (c .body .ensures)
 
-if-statement-begin-requires : (t : ℕ) → if-statement-lts.Need-begin-requires (if-statement-calls t) (if-statement-at t) if-statement.Post
-if-statement-begin-requires t c κs = let s = c .before .args in let h = c .before .pre .1 .1 in
-    let i = kind-inside (s .kinds .now) (s .n) (s .p .cursor .at) 37 (c .before .pre .1 .3) (lit< tt) in omega arith
+if-statement-opening-requires : (t : ℕ) → if-statement-lts.Need-opening-requires (if-statement-calls t) (if-statement-at t) if-statement.Post
+if-statement-opening-requires t c κs = let s = c .before .before .args in (
+  c .before .before .pre .1 .1,
+  kind-inside (s .kinds .now) (s .n) (s .p .cursor .at) 37 (c .before .before .pre .1 .3)
+      (lit< tt),
+  lit< tt,
+  c .before .before .pre .1 .3,
+)
 
 if-statement-returns : (t : ℕ) → if-statement-lts.Need-returns (if-statement-calls t) (if-statement-at t) if-statement.Post
-if-statement-returns t c = nested-refused _ 37 (c .before .before .before .before .before .pre .1 .1) (inl refl)
-    (c .before .before .before .before .before .pre .1 .3) (c .before .before .before .begin .ensures) (c .if1 .taken)
-
-if-statement-expression-requires : (t : ℕ) → if-statement-lts.Need-expression-requires (if-statement-calls t) (if-statement-at t) if-statement.Post
-if-statement-expression-requires t c κs = let s = c .before .before .before .before .before .before .before .args in
-    let h = c .before .before .before .before .before .before .before .pre .1 .1 in
-    let i = kind-inside (s .kinds .now) (s .n) (s .p .cursor .at) 37 (c .before .before .before .before .before .before .before .pre .1 .3) (lit< tt) in
-    let b = begin-steps (flagIn (s .long .now) (s .p .cursor .at)) (s .depth) 0 h i (lit≤ tt) (c .before .before .before .before .before .begin .ensures) in
-    let ha = stepped-asks h (b .steps) in (lit≤ tt, cursor-asks ha)
-
-if-statement-expect-requires : (t : ℕ) → if-statement-lts.Need-expect-requires (if-statement-calls t) (if-statement-at t) if-statement.Post
-if-statement-expect-requires t c κs = let s = c .before .before .before .before .before .before .before .before .args in
-    let h = c .before .before .before .before .before .before .before .before .pre .1 .1 in
-    let i = kind-inside (s .kinds .now) (s .n) (s .p .cursor .at) 37 (c .before .before .before .before .before .before .before .before .pre .1 .3) (lit< tt) in
-    let b = begin-steps (flagIn (s .long .now) (s .p .cursor .at)) (s .depth) 0 h i (lit≤ tt)
-    (c .before .before .before .before .before .before .begin .ensures) in let ha = stepped-asks h (b .steps) in
-    let mu = expression-moves ha (c .expression .ensures .moves) in let hu = asks-listing ha mu in (lit< tt, cursor-asks hu)
+if-statement-returns t c = if-refused _ (c .before .before .before .before .before .before .pre .1 .3) (c .before .before .before .opening .ensures)
+    (c .before .if1 .taken)
 
 if-statement-add-body : (t : ℕ) → if-statement-lts.Need-add-body (if-statement-calls t) (if-statement-at t) if-statement.Post
-if-statement-add-body t c = let d = c .before .before .before .before .before .before .before .before .before .pre .1 .0 in omega arith
+if-statement-add-body t c = let d = c .before .before .before .before .before .pre .1 .0 in omega arith
 
 if-statement-body-requires : (t : ℕ) → if-statement-lts.Need-body-requires (if-statement-calls t) (if-statement-at t) if-statement.Post
-if-statement-body-requires t c κs = let s = c .before .before .before .before .before .before .before .before .before .before .before .before .args in
-    let h = c .before .before .before .before .before .before .before .before .before .before .before .before .pre .1 .1 in
-    let i = kind-inside (s .kinds .now) (s .n) (s .p .cursor .at) 37
-    (c .before .before .before .before .before .before .before .before .before .before .before .before .pre .1 .3) (lit< tt) in
-    let b = begin-steps (flagIn (s .long .now) (s .p .cursor .at)) (s .depth) 0 h i (lit≤ tt)
-    (c .before .before .before .before .before .before .before .before .before .before .begin .ensures) in let ha = stepped-asks h (b .steps) in
-    let mu = expression-moves ha (c .before .before .before .before .expression .ensures .moves) in let hu = asks-listing ha mu in
-    let tb = took-steps (s .kinds .now) (s .long .now) 38 (lit< tt) hu (c .before .before .before .expect .ensures) in let hb = stepped-asks hu (tb .steps) in
-    let mt = tb .steps .moves in let one = b .one (c .before .before .before .before .before .before .before .if1 .left) in
-    let dp = begin-depth (s .p) (flagIn (s .long .now) (s .p .cursor .at)) (s .depth) 0
-    (c .before .before .before .before .before .before .before .before .before .before .begin .ensures)
-    (c .before .before .before .before .before .before .before .if1 .left) in
-    let t0 = c .before .before .before .before .before .before .before .before .before .before .before .before .pre .0 in (omega arith, (omega arith, hb))
+if-statement-body-requires t c κs = let op = c .before .before .before .before .before .opening .ensures in let h = asks-listing (op .asks) (op .moves) in
+    let x = op .opened (c .before .before .before .if1 .left) in
+    let f = x .further in let d = x .shallow in let t0 = c .before .before .before .before .before .before .before .before .pre .0 in
+    (omega arith, (omega arith, h))
 
 if-statement-add-else-part : (t : ℕ) → if-statement-lts.Need-add-else-part (if-statement-calls t) (if-statement-at t) if-statement.Post
-if-statement-add-else-part t c = let d = c .before .before .before .before .before .before .before .before .before .before .before .before .before .pre .1 .0 in
-    omega arith
+if-statement-add-else-part t c = let d = c .before .before .before .before .before .before .opening .ensures .opened
+    (c .before .before .before .before .if1 .left) .shallow in omega arith
 
 if-statement-else-part-requires : (t : ℕ) → if-statement-lts.Need-else-part-requires (if-statement-calls t) (if-statement-at t) if-statement.Post
-if-statement-else-part-requires t c κs = let s =
-    c .before .before .before .before .before .before .before .before .before .before .before .before .before .before .before .before .args in
-    let h = c .before .before .before .before .before .before .before .before .before .before .before .before .before .before .before .before .pre .1 .1 in
-    let i = kind-inside (s .kinds .now) (s .n) (s .p .cursor .at) 37
-    (c .before .before .before .before .before .before .before .before .before .before .before .before .before .before .before .before .pre .1 .3)
-    (lit< tt) in let b = begin-steps (flagIn (s .long .now) (s .p .cursor .at)) (s .depth) 0 h i (lit≤ tt)
-    (c .before .before .before .before .before .before .before .before .before .before .before .before .before .before .begin .ensures) in
-    let ha = stepped-asks h (b .steps) in let mu =
-    expression-moves ha (c .before .before .before .before .before .before .before .before .expression .ensures .moves) in let hu = asks-listing ha mu in
-    let tb = took-steps (s .kinds .now) (s .long .now) 38 (lit< tt) hu (c .before .before .before .before .before .before .before .expect .ensures) in
-    let hb = stepped-asks hu (tb .steps) in let mt = tb .steps .moves in let mb = c .before .before .before .body .ensures .moves in
-    let hc = asks-listing hb mb in let one =
-    b .one (c .before .before .before .before .before .before .before .before .before .before .before .if1 .left) in
-    let dp = begin-depth (s .p) (flagIn (s .long .now) (s .p .cursor .at)) (s .depth) 0
-    (c .before .before .before .before .before .before .before .before .before .before .before .before .before .before .begin .ensures)
-    (c .before .before .before .before .before .before .before .before .before .before .before .if1 .left) in
-    let t0 = c .before .before .before .before .before .before .before .before .before .before .before .before .before .before .before .before .pre .0 in (omega arith, (omega arith, hc))
+if-statement-else-part-requires t c κs = let op = c .before .before .before .before .before .before .before .before .before .opening .ensures in
+    let h = asks-listing (op .asks) (op .moves) in let x = op .opened (c .before .before .before .before .before .before .before .if1 .left) in
+    let mb = c .before .before .before .body .ensures .moves in let f = x .further in let d = x .shallow in
+    let t0 = c .before .before .before .before .before .before .before .before .before .before .before .before .pre .0 in
+    (omega arith, (omega arith, asks-listing h mb))
 
 if-statement-end-of-requires : (t : ℕ) → if-statement-lts.Need-end-of-requires (if-statement-calls t) (if-statement-at t) if-statement.Post
-if-statement-end-of-requires t c κs = let s =
-    c .before .before .before .before .before .before .before .before .before .before .before .before .before .before .before .before .before .before .args in
-    let h = c .before .before .before .before .before .before .before .before .before .before .before .before .before .before .before .before .before .before .pre .1 .1 in let i = kind-inside (s .kinds .now) (s .n) (s .p .cursor .at) 37 (c .before .before .before .before .before .before .before .before .before .before .before .before .before .before .before .before .before .before .pre .1 .3) (lit< tt) in let b = begin-steps (flagIn (s .long .now) (s .p .cursor .at)) (s .depth) 0 h i (lit≤ tt) (c .before .before .before .before .before .before .before .before .before .before .before .before .before .before .before .before .begin .ensures) in let ha = stepped-asks h (b .steps) in let mu = expression-moves ha (c .before .before .before .before .before .before .before .before .before .before .expression .ensures .moves) in let hu = asks-listing ha mu in let tb = took-steps (s .kinds .now) (s .long .now) 38 (lit< tt) hu (c .before .before .before .before .before .before .before .before .before .expect .ensures) in let hb = stepped-asks hu (tb .steps) in let mt = tb .steps .moves in let mb = c .before .before .before .before .before .body .ensures .moves in let hc = asks-listing hb mb in let md = c .before .else-part .ensures .moves in let hd = asks-listing hc md in (lit< tt, cursor-asks hd)
+if-statement-end-of-requires t c κs = let op = c .before .before .before .before .before .before .before .before .before .before .opening .ensures in
+    let h = asks-listing (op .asks) (op .moves) in
+    (lit< tt, cursor-asks (asks-listing (asks-listing h (c .before .before .before .before .body .ensures .moves)) (c .else-part .ensures .moves)))
 
 if-statement-finish-requires : (t : ℕ) → if-statement-lts.Need-finish-requires (if-statement-calls t) (if-statement-at t) if-statement.Post
-if-statement-finish-requires t c κs = let s =
-    c .before .before .before .before .before .before .before .before .before .before .before .before .before .before .before .before .before .before .before .before .args in let h = c .before .before .before .before .before .before .before .before .before .before .before .before .before .before .before .before .before .before .before .before .pre .1 .1 in let i = kind-inside (s .kinds .now) (s .n) (s .p .cursor .at) 37 (c .before .before .before .before .before .before .before .before .before .before .before .before .before .before .before .before .before .before .before .before .pre .1 .3) (lit< tt) in let b = begin-steps (flagIn (s .long .now) (s .p .cursor .at)) (s .depth) 0 h i (lit≤ tt) (c .before .before .before .before .before .before .before .before .before .before .before .before .before .before .before .before .before .before .begin .ensures) in let ha = stepped-asks h (b .steps) in let mu = expression-moves ha (c .before .before .before .before .before .before .before .before .before .before .before .before .expression .ensures .moves) in let hu = asks-listing ha mu in let tb = took-steps (s .kinds .now) (s .long .now) 38 (lit< tt) hu (c .before .before .before .before .before .before .before .before .before .before .before .expect .ensures) in let hb = stepped-asks hu (tb .steps) in let mt = tb .steps .moves in let mb = c .before .before .before .before .before .before .before .body .ensures .moves in let hc = asks-listing hb mb in let md = c .before .before .before .else-part .ensures .moves in let hd = asks-listing hc md in let one = b .one (c .before .before .before .before .before .before .before .before .before .before .before .before .before .before .before .if1 .left) in let dp = begin-depth (s .p) (flagIn (s .long .now) (s .p .cursor .at)) (s .depth) 0 (c .before .before .before .before .before .before .before .before .before .before .before .before .before .before .before .before .before .before .begin .ensures) (c .before .before .before .before .before .before .before .before .before .before .before .before .before .before .before .if1 .left) in let ms = b .steps .moves in ((λ z. omega arith), (omega arith))
+if-statement-finish-requires t c κs =
+    let op = c .before .before .before .before .before .before .before .before .before .before .before .before .opening .ensures in
+    let a = op .asks in let m = op .moves in
+    let x = op .opened (c .before .before .before .before .before .before .before .before .before .before .if1 .left) in
+    let e = x .one in let w = x .written in let mb = c .before .before .before .before .before .before .body .ensures .moves in
+    let md = c .before .before .else-part .ensures .moves in (
+      (λ z. omega arith),
+      record {
+        index-fits = omega arith;
+        from-fits = omega arith;
+        to-fits = omega arith;
+        other-fits = omega arith;
+        end-fits = omega arith;
+      },
+    )
 
 if-statement-returns-2 : (t : ℕ) → if-statement-lts.Need-returns-2 (if-statement-calls t) (if-statement-at t) if-statement.Post
-if-statement-returns-2 t c = if-read (c .before .before .before .before .before .before .before .before .before .before .before .before .before .before .before .before .before .before .before .before .before .pre .1 .1) (c .before .before .before .before .before .before .before .before .before .before .before .before .before .before .before .before .before .before .before .before .before .pre .1 .3) (c .before .before .before .before .before .before .before .before .before .before .before .before .before .before .before .before .before .before .before .begin .ensures) (c .before .before .before .before .before .before .before .before .before .before .before .before .before .expression .ensures) (c .before .before .before .before .before .before .before .before .before .before .before .before .expect .ensures) (c .before .before .before .before .before .before .before .before .body .ensures) (c .before .before .before .before .else-part .ensures) refl refl (c .before .before .end-of .ensures) (c .finish .ensures)
+if-statement-returns-2 t c = if-read
+    (c .before .before .before .before .before .before .before .before .before .before .before .before .before .opening .ensures .first)
+    (c .before .before .before .before .before .before .before .before .before .before .before .before .before .opening .ensures)
+    (c .before .before .before .before .before .before .before .body .ensures) (c .before .before .before .else-part .ensures) refl refl
+    (c .before .before .end-of .ensures) (c .finish .ensures)
 
 statement-returns : (t : ℕ) → statement-lts.Need-returns (statement-calls t) (statement-at t) statement′.Post
 statement-returns t c = statement-stays _ (c .before .before .before .pre .1 .1) (c .if1 .taken)
@@ -329,87 +306,50 @@ statement-returns-7 t c = rw (c .halted .ensures)
     (c .before .before .before .before .before .if2 .left) (c .before .before .before .before .if3 .left) (c .before .before .before .if4 .left)
     (c .before .before .if5 .left) (c .before .if6 .left))
 
-while-statement-begin-requires : (t : ℕ) → while-statement-lts.Need-begin-requires (while-statement-calls t) (while-statement-at t) while-statement.Post
-while-statement-begin-requires t c κs = let s = c .before .args in let h = c .before .pre .1 .1 in
-    let i = kind-inside (s .kinds .now) (s .n) (s .p .cursor .at) 40 (c .before .pre .1 .3) (lit< tt) in omega arith
+while-statement-opening-requires : (t : ℕ) → while-statement-lts.Need-opening-requires (while-statement-calls t) (while-statement-at t) while-statement.Post
+while-statement-opening-requires t c κs = let s = c .before .before .args in (
+  c .before .before .pre .1 .1,
+  kind-inside (s .kinds .now) (s .n) (s .p .cursor .at) 40 (c .before .before .pre .1 .3)
+      (lit< tt),
+  lit< tt,
+  c .before .before .pre .1 .3,
+)
 
 while-statement-returns : (t : ℕ) → while-statement-lts.Need-returns (while-statement-calls t) (while-statement-at t) while-statement.Post
-while-statement-returns t c = nested-refused _ 40 (c .before .before .before .before .before .pre .1 .1) (inr refl)
-    (c .before .before .before .before .before .pre .1 .3) (c .before .before .before .begin .ensures) (c .if1 .taken)
-
-while-statement-expression-requires : (t : ℕ)
-    → while-statement-lts.Need-expression-requires (while-statement-calls t) (while-statement-at t) while-statement.Post
-while-statement-expression-requires t c κs = let s = c .before .before .before .before .before .before .before .args in
-    let h = c .before .before .before .before .before .before .before .pre .1 .1 in
-    let i = kind-inside (s .kinds .now) (s .n) (s .p .cursor .at) 40 (c .before .before .before .before .before .before .before .pre .1 .3) (lit< tt) in
-    let b = begin-steps (flagIn (s .long .now) (s .p .cursor .at)) (s .depth) 0 h i (lit≤ tt) (c .before .before .before .before .before .begin .ensures) in
-    let ha = stepped-asks h (b .steps) in (lit≤ tt, cursor-asks ha)
-
-while-statement-expect-requires : (t : ℕ) → while-statement-lts.Need-expect-requires (while-statement-calls t) (while-statement-at t) while-statement.Post
-while-statement-expect-requires t c κs = let s = c .before .before .before .before .before .before .before .before .args in
-    let h = c .before .before .before .before .before .before .before .before .pre .1 .1 in
-    let i = kind-inside (s .kinds .now) (s .n) (s .p .cursor .at) 40 (c .before .before .before .before .before .before .before .before .pre .1 .3) (lit< tt) in
-    let b = begin-steps (flagIn (s .long .now) (s .p .cursor .at)) (s .depth) 0 h i (lit≤ tt)
-    (c .before .before .before .before .before .before .begin .ensures) in let ha = stepped-asks h (b .steps) in
-    let mu = expression-moves ha (c .expression .ensures .moves) in let hu = asks-listing ha mu in (lit< tt, cursor-asks hu)
+while-statement-returns t c = while-refused _ (c .before .before .before .before .before .before .pre .1 .3) (c .before .before .before .opening .ensures)
+    (c .before .if1 .taken)
 
 while-statement-add-body : (t : ℕ) → while-statement-lts.Need-add-body (while-statement-calls t) (while-statement-at t) while-statement.Post
-while-statement-add-body t c = let d = c .before .before .before .before .before .before .before .before .before .pre .1 .0 in omega arith
+while-statement-add-body t c = let d = c .before .before .before .before .before .pre .1 .0 in omega arith
 
 while-statement-body-requires : (t : ℕ) → while-statement-lts.Need-body-requires (while-statement-calls t) (while-statement-at t) while-statement.Post
-while-statement-body-requires t c κs = let s = c .before .before .before .before .before .before .before .before .before .before .before .before .args in
-    let h = c .before .before .before .before .before .before .before .before .before .before .before .before .pre .1 .1 in
-    let i = kind-inside (s .kinds .now) (s .n) (s .p .cursor .at) 40
-    (c .before .before .before .before .before .before .before .before .before .before .before .before .pre .1 .3) (lit< tt) in
-    let b = begin-steps (flagIn (s .long .now) (s .p .cursor .at)) (s .depth) 0 h i (lit≤ tt)
-    (c .before .before .before .before .before .before .before .before .before .before .begin .ensures) in let ha = stepped-asks h (b .steps) in
-    let mu = expression-moves ha (c .before .before .before .before .expression .ensures .moves) in let hu = asks-listing ha mu in
-    let tb = took-steps (s .kinds .now) (s .long .now) 41 (lit< tt) hu (c .before .before .before .expect .ensures) in let hb = stepped-asks hu (tb .steps) in
-    let mt = tb .steps .moves in let one = b .one (c .before .before .before .before .before .before .before .if1 .left) in
-    let dp = begin-depth (s .p) (flagIn (s .long .now) (s .p .cursor .at)) (s .depth) 0
-    (c .before .before .before .before .before .before .before .before .before .before .begin .ensures)
-    (c .before .before .before .before .before .before .before .if1 .left) in
-    let t0 = c .before .before .before .before .before .before .before .before .before .before .before .before .pre .0 in (omega arith, (omega arith, hb))
+while-statement-body-requires t c κs = let op = c .before .before .before .before .before .opening .ensures in let h = asks-listing (op .asks) (op .moves) in
+    let x = op .opened (c .before .before .before .if1 .left) in
+    let f = x .further in let d = x .shallow in let t0 = c .before .before .before .before .before .before .before .before .pre .0 in
+    (omega arith, (omega arith, h))
 
 while-statement-end-of-requires : (t : ℕ) → while-statement-lts.Need-end-of-requires (while-statement-calls t) (while-statement-at t) while-statement.Post
-while-statement-end-of-requires t c κs = let s =
-    c .before .before .before .before .before .before .before .before .before .before .before .before .before .before .args in
-    let h = c .before .before .before .before .before .before .before .before .before .before .before .before .before .before .pre .1 .1 in
-    let i = kind-inside (s .kinds .now) (s .n) (s .p .cursor .at) 40
-    (c .before .before .before .before .before .before .before .before .before .before .before .before .before .before .pre .1 .3) (lit< tt) in
-    let b = begin-steps (flagIn (s .long .now) (s .p .cursor .at)) (s .depth) 0 h i (lit≤ tt)
-    (c .before .before .before .before .before .before .before .before .before .before .before .before .begin .ensures) in
-    let ha = stepped-asks h (b .steps) in let mu = expression-moves ha (c .before .before .before .before .before .before .expression .ensures .moves) in
-    let hu = asks-listing ha mu in let tb = took-steps (s .kinds .now) (s .long .now) 41 (lit< tt) hu
-    (c .before .before .before .before .before .expect .ensures) in let hb = stepped-asks hu (tb .steps) in let mt = tb .steps .moves in
-    let mb = c .before .body .ensures .moves in let hc = asks-listing hb mb in (lit< tt, cursor-asks hc)
+while-statement-end-of-requires t c κs = let op = c .before .before .before .before .before .before .opening .ensures in let h = asks-listing (op .asks)
+    (op .moves) in
+    (lit< tt, cursor-asks (asks-listing h (c .body .ensures .moves)))
 
 while-statement-finish-requires : (t : ℕ) → while-statement-lts.Need-finish-requires (while-statement-calls t) (while-statement-at t) while-statement.Post
-while-statement-finish-requires t c κs = let s =
-    c .before .before .before .before .before .before .before .before .before .before .before .before .before .before .before .before .args in
-    let h = c .before .before .before .before .before .before .before .before .before .before .before .before .before .before .before .before .pre .1 .1 in
-    let i = kind-inside (s .kinds .now) (s .n) (s .p .cursor .at) 40
-    (c .before .before .before .before .before .before .before .before .before .before .before .before .before .before .before .before .pre .1 .3)
-    (lit< tt) in let b = begin-steps (flagIn (s .long .now) (s .p .cursor .at)) (s .depth) 0 h i (lit≤ tt)
-    (c .before .before .before .before .before .before .before .before .before .before .before .before .before .before .begin .ensures) in
-    let ha = stepped-asks h (b .steps) in let mu =
-    expression-moves ha (c .before .before .before .before .before .before .before .before .expression .ensures .moves) in let hu = asks-listing ha mu in
-    let tb = took-steps (s .kinds .now) (s .long .now) 41 (lit< tt) hu (c .before .before .before .before .before .before .before .expect .ensures) in
-    let hb = stepped-asks hu (tb .steps) in let mt = tb .steps .moves in let mb = c .before .before .before .body .ensures .moves in
-    let hc = asks-listing hb mb in let one =
-    b .one (c .before .before .before .before .before .before .before .before .before .before .before .if1 .left) in
-    let dp = begin-depth (s .p) (flagIn (s .long .now) (s .p .cursor .at)) (s .depth) 0
-    (c .before .before .before .before .before .before .before .before .before .before .before .before .before .before .begin .ensures)
-    (c .before .before .before .before .before .before .before .before .before .before .before .if1 .left) in let ms = b .steps .moves in
-    ((λ z. omega arith), (omega arith))
+while-statement-finish-requires t c κs = let op = c .before .before .before .before .before .before .before .before .opening .ensures in let a = op .asks in
+    let m = op .moves in let x = op .opened (c .before .before .before .before .before .before .if1 .left) in
+    let e = x .one in let w = x .written in let mb = c .before .before .body .ensures .moves in (
+      (λ z. omega arith),
+      record {
+        index-fits = omega arith;
+        from-fits = omega arith;
+        to-fits = omega arith;
+        other-fits = omega arith;
+        end-fits = omega arith;
+      },
+    )
 
 while-statement-returns-2 : (t : ℕ) → while-statement-lts.Need-returns-2 (while-statement-calls t) (while-statement-at t) while-statement.Post
-while-statement-returns-2 t c = while-read
-    (c .before .before .before .before .before .before .before .before .before .before .before .before .before .before .before .before .before .pre .1 .1)
-    (c .before .before .before .before .before .before .before .before .before .before .before .before .before .before .before .before .before .pre .1 .3)
-    (c .before .before .before .before .before .before .before .before .before .before .before .before .before .before .before .begin .ensures)
-    (c .before .before .before .before .before .before .before .before .before .expression .ensures)
-    (c .before .before .before .before .before .before .before .before .expect .ensures) (c .before .before .before .before .body .ensures) refl refl
+while-statement-returns-2 t c = while-read (c .before .before .before .before .before .before .before .before .before .opening .ensures .first)
+    (c .before .before .before .before .before .before .before .before .before .opening .ensures) (c .before .before .before .body .ensures) refl refl
     (c .before .before .end-of .ensures) (c .finish .ensures)
 
 pub +body+else-part+if-statement+statement+while-statement-spec : {M : Type 1} → statement M
@@ -419,14 +359,13 @@ pub +body+else-part+if-statement+statement+while-statement-spec : {M : Type 1} �
     (body-statement-requires-2 t) (body-loop-less t) (body-loop-again t) (body-returns t))
     (λ t. else-part-lts.spec (else-part-calls t) (else-part-at t) else-part.Post (λ c κs. omega arith) (else-part-returns t) (λ c κs. omega arith)
     (else-part-body-requires t) (else-part-returns-2 t))
-    (λ t. if-statement-lts.spec (if-statement-calls t) (if-statement-at t) if-statement.Post (if-statement-begin-requires t) (if-statement-returns t)
-    (if-statement-expression-requires t) (if-statement-expect-requires t) (if-statement-add-body t) (if-statement-body-requires t)
-    (if-statement-add-else-part t) (if-statement-else-part-requires t) (if-statement-end-of-requires t) (if-statement-finish-requires t)
-    (if-statement-returns-2 t))
+    (λ t. if-statement-lts.spec (if-statement-calls t) (if-statement-at t) if-statement.Post (if-statement-opening-requires t) (if-statement-returns t)
+    (if-statement-add-body t) (if-statement-body-requires t) (if-statement-add-else-part t) (if-statement-else-part-requires t)
+    (if-statement-end-of-requires t) (if-statement-finish-requires t) (if-statement-returns-2 t))
     (λ t. statement-lts.spec (statement-calls t) (statement-at t) statement′.Post (statement-returns t) (λ c κs. omega arith) (statement-assignment-requires t)
     (statement-returns-2 t) (statement-null-statement-requires t) (statement-returns-3 t) (statement-wait-statement-requires t) (statement-returns-4 t)
     (statement-if-statement-requires t) (statement-returns-5 t) (statement-while-statement-requires t) (statement-returns-6 t) (λ c κs. search needs)
     (statement-returns-7 t))
-    (λ t. while-statement-lts.spec (while-statement-calls t) (while-statement-at t) while-statement.Post (while-statement-begin-requires t)
-    (while-statement-returns t) (while-statement-expression-requires t) (while-statement-expect-requires t) (while-statement-add-body t)
-    (while-statement-body-requires t) (while-statement-end-of-requires t) (while-statement-finish-requires t) (while-statement-returns-2 t))
+    (λ t. while-statement-lts.spec (while-statement-calls t) (while-statement-at t) while-statement.Post (while-statement-opening-requires t)
+    (while-statement-returns t) (while-statement-add-body t) (while-statement-body-requires t) (while-statement-end-of-requires t)
+    (while-statement-finish-requires t) (while-statement-returns-2 t))

@@ -1,4 +1,5 @@
--- `image_batch::advance_rows` meets its contract: a walk of its MIR, by hand. The borrow of the state is opened and its record is loaded, outputs and answers are
+-- `image_batch::advance_rows` meets its contract: a walk of its MIR, by hand. The borrow of the state is opened and its record is loaded, outputs and answers
+-- are
 -- passed on for good at their own lifetimes and names, `cycles` is called, the state of its answer is stored, only where a row was performed, and the borrow
 -- is closed at the record that the cell then has. The arms of the branch are walked each to the end. The two shared slices are copied: one copy goes to the
 -- callee, the other is had at exit; the facts of the count are made anew. All that the proof knows of `cycles` is that it meets its contract. Assumes nothing.
@@ -21,8 +22,10 @@ use ghost.Atoms.{Atoms}
 use contract.Monad.{Fun, fact}
 use contract.Running.{givenOf, tables, tablesOf}
 use contract.Lifetimes.{Lfts}
-use types.Kit.{atRet, Given, ‵, raw, given, _⊛_, ⋆, some, later, _$_, _∵_, !, qed, by, move, keep, drop, use1, use2, split, join, pick, learn, rewrite, fsplit, fsplit3, fjoin, fjoin3, feqL, feqI, suffices, frame, await, done}
-use types.Run.{look, init, forget, stop, hop, fld, from, load, addr, of-opd, and-then, no-more, assigns, assigns-last, first, branches, skips, exec, land, returns, enter, alloc1, alloc0, params1, pass1, pass0, free1, free0}
+use types.Kit.{atRet, Given, ‵, raw, given, _⊛_, ⋆, some, later, _$_, _∵_, !, qed, by, move, keep, drop, use1, use2, split, join, pick, learn, rewrite, fsplit}
+use types.Kit.{fsplit3, fjoin, fjoin3, feqL, feqI, suffices, frame, await, done}
+use types.Run.{look, init, forget, stop, hop, fld, from, load, addr, of-opd, and-then, no-more, assigns, assigns-last, first, branches, skips, exec, land}
+use types.Run.{returns, enter, alloc1, alloc0, params1, pass1, pass0, free1, free0}
 use types.Part.{agg, whole, sub, look-in, store-in}
 use types.SemTy.{Body}
 use sound.WpLaws.{FmC, fmOf, WpFn-mono}
@@ -45,7 +48,8 @@ use denote.Triple.Statement.{Contract, Triple}
 use denote.Triple.Call.{calls-at}
 use denote.Triple.Clauses.{Lasts, ensured, lasts}
 use denote.Triple.Table.{entered, cited}
-use denote.Triple.Walked.{says, Stays, stay-none, stay-none-slice, stay-ref, gave-slice, walkOf, AllGo, goes-none, goes-none-slice, goes-ref, goes-gave-slice, Walks, ends-at, walked, walk-meets}
+use denote.Triple.Walked.{says, Stays, stay-none, stay-none-slice, stay-ref, gave-slice, walkOf, AllGo, goes-none, goes-none-slice, goes-ref, goes-gave-slice}
+use denote.Triple.Walked.{Walks, ends-at, walked, walk-meets}
 use denote.Exit.{yes}
 use Rattle.base_answers.specs.Answers.{batchTold}
 use Rattle.base_answers.specs.declared.State.{State}
@@ -257,7 +261,8 @@ module _ {M : Type 1} (𝓤 : URA M) (H : Heap 𝓤) (A : Atoms 𝓤) (W : Given
         (own-open 𝓤 H A W D.the-type D′.the-laws (r .performed, (r .state, (r .answer, tt))) w) $ learn ! (λ ew.
         fsplit ! $ move ! (1 ∷ []) $ fsplit ! $ move ! (1 ∷ []) $ fsplit ! $ move ! (1 ∷ []) $ drop ! $ move ! (2 ∷ []) $ drop ! $
         rewrite ! 24 (λ (u : Val). ‵ (fat fullShare D′.mir l₇ 0 u)) (ap only ew) refl $
-        -- [the answer's; the new state's; the tokens; the last outputs; the last answers; …; inputs'; image's; the state's cell; the open borrow; obs; auth; _13; …; _0; …]
+        -- [the answer's; the new state's; the tokens; the last outputs; the last answers; …; inputs'; image's; the state's cell; the open borrow; obs; auth;
+        -- _13; …; _0; …]
         assigns ! (of-opd ! (load ! (from ! (fld ! refl (stop !))) (look-in ! 24 (sub ! 0 refl (whole !))))) (from ! (stop !)) (init ! 12 refl (tt, tt)) $
         first ! $ branches ! (load ! (from ! (stop !)) (look ! 12 refl))
         -- performed: the new state is stored

@@ -1,4 +1,5 @@
--- `image_batch::row` meets its contract: a cycle on the row's own part of inputs and outputs, its three numbers into their own part of the answers. Assumes nothing.
+-- `image_batch::row` meets its contract: a cycle on the row's own part of inputs and outputs, its three numbers into their own part of the answers. Assumes
+-- nothing.
 use mathlib.Core.Path.{_∙_}
 use native.Mathlib.Omega.{arith}
 use lib.ListN.{length}

@@ -1,4 +1,5 @@
--- `image_batch::rows` meets its contract. The invariant: what is written so far, and behind it what the rest from here leaves, is what all rows leave. Assumes nothing.
+-- `image_batch::rows` meets its contract. The invariant: what is written so far, and behind it what the rest from here leaves, is what all rows leave. Assumes
+-- nothing.
 use Prim.Native.Nat.{_<_}
 use native.Mathlib.Omega.{arith}
 use borrow.Author.Needs.{needs}

@@ -12,7 +12,8 @@ returns c = let d = design-of _ (c .before .before .before .before .before .befo
     (c .before .before .before .before .before .before .before .before .before .accept .ensures
     (record { ops-size = refl; args-size = refl; lines-size = refl })) (c .before .before .before .before .before .before .before .enum-told .given .1) in
     let e = c .before .before .write-image .ensures (d .process) (d .border .holds) (d .formed) in
-    rw (compiled-accepted d (c .before .before .before .before .before .before .before .before .before .before .before .before .before .before .before .args .image .now)) e
+    rw (compiled-accepted d
+    (c .before .before .before .before .before .before .before .before .before .before .before .before .before .before .before .args .image .now)) e
 
 returns-2 : tie.Need-returns-2
 returns-2 c = compiled-refused _ (c .before .before .before .accept .result) _ _

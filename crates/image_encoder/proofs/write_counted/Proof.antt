@@ -5,16 +5,33 @@ use Rattle.image_encoder.proofs.write_counted.Statement.{statement}
 use Rattle.image_encoder.proofs.write_counted.Tie as tie
 
 returns : tie.Need-returns
-returns c = write-short (c .before .before .before .before .before .args .codes .now) (c .before .before .before .before .before .args .args .now)
-    (c .before .before .before .before .before .args .rows .now) (c .before .before .before .before .before .args .d)
-    (c .before .before .before .before .before .args .image .now) (c .before .run-width .result) (c .before .before .before .signature-size .ensures)
-    (c .before .run-width .ensures .0) (c .if1 .taken)
+returns c =
+    let a = c .before .before .before .before .before .args in
+    write-short (a .codes .now) (a .args .now) (a .rows .now) (a .d) (a .image .now) (c .before .before .before .signature-size .ensures)
+    (c .before .before .run-width .ensures .0) (c .if1 .taken)
 
 returns-2 : tie.Need-returns-2
-returns-2 c = write-done (c .before .before .before .before .before .before .before .before .before .before .before .before .before .before .before .before .before .before .before .before .before .args .codes .now) (c .before .before .before .before .before .before .before .before .before .before .before .before .before .before .before .before .before .before .before .before .before .args .args .now) (c .before .before .before .before .before .before .before .before .before .before .before .before .before .before .before .before .before .before .before .before .before .args .rows .now) (c .before .before .before .before .before .before .before .before .before .before .before .before .before .before .before .before .before .before .before .before .before .args .d) (c .before .before .before .before .before .before .before .before .before .before .before .before .before .before .before .before .before .before .before .before .before .args .image .now) (c .before .before .before .before .before .before .before .before .before .before .before .before .before .before .before .before .before .run-width .result) (c .before .before .before .before .before .before .before .before .before .before .before .before .before .before .before .before .before .before .before .signature-size .ensures) (c .before .before .before .before .before .before .before .before .before .before .before .before .before .before .before .before .before .run-width .ensures .0) (c .before .before .before .before .before .before .before .before .before .before .before .before .before .before .before .before .if1 .left) (c .before .before .before .before .before .before .before .before .before .before .before .before .before .before .put-header .ensures) (c .before .before .before .before .before .before .before .before .before .before .put-signature .ensures) (c .before .before .before .before .before .before .put-body .ensures) (c .before .before .put-code .ensures)
+returns-2 c =
+    let a = c .before .before .before .before .before .before .before .before .before .before .before .before .before .args in
+    write-done (a .codes .now) (a .args .now) (a .rows .now) (a .d) (a .image .now)
+    (c .before .before .before .before .before .before .before .before .before .before .before .signature-size .ensures)
+    (c .before .before .before .before .before .before .before .before .before .before .run-width .ensures .0)
+    (c .before .before .before .before .before .before .before .before .if1 .left)
+    (c .before .before .before .before .before .before .put-front .ensures) (c .before .before .put-statements .ensures)
 
 pub write-counted-spec : {M : Type 1} → statement M
 write-counted-spec =
-    tie.close (tie.spec (λ c κs. search needs) (λ c. search needs) (λ c κs. search needs) (λ c. search needs) (λ c. search needs) (λ c. search needs) returns
-    (λ c κs. search needs) (λ c κs. search needs) (λ c. search needs) (λ c κs. search needs) (λ c. search needs) (λ c. search needs) (λ c κs. search needs)
-    (λ c. search needs) returns-2)
+    tie.close
+    (tie.spec
+    (λ c κs. search needs)
+    (λ c κs. search needs)
+    (λ c. search needs)
+    (λ c. search needs)
+    (λ c. search needs)
+    (λ c. search needs)
+    returns
+    (λ c κs. search needs)
+    (λ c. search needs)
+    (λ c κs. search needs)
+    (λ c. search needs)
+    returns-2)

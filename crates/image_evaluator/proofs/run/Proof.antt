@@ -1,4 +1,5 @@
--- `image_evaluator::run` meets its contract. The invariant: the rest of the run answers what the whole answers. The measure: the operations left. Assumes nothing.
+-- `image_evaluator::run` meets its contract. The invariant: the rest of the run answers what the whole answers. The measure: the operations left. Assumes
+-- nothing.
 use lib.ListN.{getD}
 use native.Mathlib.Omega.{arith}
 use lib.IntN.{pos}

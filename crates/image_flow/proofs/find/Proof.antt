@@ -11,10 +11,10 @@ returns c = record { followed = λ few. absurd (omega arith); reached = λ few. 
 returns-2 : tie.Need-returns-2
 returns-2 c =
     record {
-      followed = λ few. c .before .before .before .before .before .before .before .before .before .before .followers .ensures;
-      reached = λ few. c .before .before .reaches .ensures;
+      followed = λ few. c .before .before .before .before .before .before .followers .ensures;
+      reached = λ few. c .reaches .ensures;
       kept = λ many. absurd (omega arith);
     }
 
 pub find-spec : {M : Type 1} → statement M
-find-spec = tie.close (tie.spec returns (λ c κs. search needs) (λ c κs. search needs) (λ c. search needs) (λ c. search needs) (λ c. search needs) returns-2)
+find-spec = tie.close (tie.spec returns (λ c κs. search needs) (λ c κs. search needs) returns-2)

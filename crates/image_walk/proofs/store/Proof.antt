@@ -1,3 +1,4 @@
+-- `image_walk::store` meets its contract: the row of another kind, and a place that the row has not. Assumes nothing.
 use mathlib.Core.Path.{sym, ap}
 use lib.ListN.{set}
 use lib.Seq.{set-out}
@@ -7,16 +8,13 @@ use Rattle.image_walk.proofs.Steps.{other-kind, this-kind}
 use Rattle.image_walk.proofs.store.Statement.{statement}
 use Rattle.image_walk.proofs.store.Tie as tie
 
--- src/lib.rt:47:9
 returns : tie.Need-returns
 returns c = other-kind _ _ _ _ (c .if1 .taken)
 
--- src/lib.rt:43:1
 returns-2 : tie.Need-returns-2
 returns-2 c = this-kind _ _ _ _ _ (c .before .if1 .left)
     (ap (λ z. set (c .before .before .args .row .now) (c .before .before .args .n) z) (toZ-ofZ (c .before .before .fits .v)))
 
--- src/lib.rt:43:1
 returns-3 : tie.Need-returns-3
 returns-3 c = this-kind _ _ _ _ _ (c .before .if1 .left) (sym (set-out _ _ _ (search needs)))
 

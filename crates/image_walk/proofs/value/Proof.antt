@@ -1,16 +1,15 @@
-use borrow.Author.Needs.{needs}
+-- `image_walk::value` meets its contract: start and size of the code are the line's. Assumes nothing.
 use Rattle.image_walk.proofs.Steps.{part-read}
+use borrow.Author.Needs.{needs}
 use Rattle.image_walk.proofs.value.Statement.{statement}
 use Rattle.image_walk.proofs.value.Tie as tie
 
--- src/lib.rt:68:5
 evaluate-requires : tie.Need-evaluate-requires
 evaluate-requires c κs = c .before .before .before .before .before .before .before .before .pre
 
--- src/lib.rt:63:1
 returns : tie.Need-returns
 returns c = (
-  part-read _ _ _ _ _ _ _ _ _ _ (c .before .before .before .before .field .ensures .0) (c .before .before .before .field2 .ensures .0)
+  part-read _ _ _ _ _ _ _ _ _ _ (c .before .before .before .before .word2 .ensures .0) (c .before .before .before .word22 .ensures .0)
       (c .evaluate .ensures .0),
   c .evaluate .ensures .1,
 )

@@ -8,7 +8,11 @@ use Rattle.trace_lines.proofs.row_line.Tie as tie
 
 returns : tie.Need-returns
 returns c = row-known _ _ _ _ _ _ _ _ _ _
-    (read-values (decimals (c .before .before .before .before .before .before .before .before .before .before .before .before .before .before .before .args .line .now)) _ _ _ _ refl (c .before .before .before .before .before .before .before .before .before .before .read-row .ensures) (c .before .before .before .before .before .before .before .k .given .1)) (c .before .before .before .before .first-values .ensures) (c .before .before .call-row .ensures)
+    (read-values (decimals
+    (c .before .before .before .before .before .before .before .before .before .before .before .before .before .before .before .args .line .now)) _ _ _ _ refl
+    (c .before .before .before .before .before .before .before .before .before .before .read-row .ensures)
+    (c .before .before .before .before .before .before .before .k .given .1)) (c .before .before .before .before .first-values .ensures)
+    (c .before .before .call-row .ensures)
 
 returns-2 : tie.Need-returns-2
 returns-2 c = row-unknown _ _ _ _ _ _ _ _

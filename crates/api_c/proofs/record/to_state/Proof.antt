@@ -5,7 +5,7 @@ use lib.IntN.{pos}
 use mir.Syntax.{w32}
 use mir.Val.{SFits}
 use mir.Facts.{toZ-ofZ}
-use Rattle.spec_promises.specs.CInterface.{placeOfC}
+use Rattle.spec_interface.specs.CInterface.{placeOfC}
 use Rattle.api_c.proofs.RecordLaws.{state-of}
 use borrow.Author.Needs.{needs}
 use Rattle.api_c.proofs.record.to_state.Statement.{statement}

@@ -1,4 +1,5 @@
--- `api_rattle::calls::direct_fresh` meets its contract: a walk of its MIR, by hand. The borrow of the state is opened, `direct_start` is called, the state of its answer
+-- `api_rattle::calls::direct_fresh` meets its contract: a walk of its MIR, by hand. The borrow of the state is opened, `direct_start` is called, the state of
+-- its answer
 -- is stored, only where there is one, and the borrow is closed at the record that the cell then has. The arms of the branch are walked each to the end.
 -- The shared slice is copied: one copy goes to the callee, the other is had at exit. All that the proof knows of `direct_start` is that it meets its contract.
 -- Assumes nothing.
@@ -19,8 +20,10 @@ use ghost.Atoms.{Atoms, sem}
 use contract.Monad.{Fun, fact}
 use contract.Running.{givenOf, tables, tablesOf}
 use contract.Lifetimes.{Lfts}
-use types.Kit.{atRet, Given, ‵, raw, given, _⊛_, ⋆, some, later, _$_, _∵_, !, qed, by, move, keep, drop, use1, use2, split, join, pick, learn, rewrite, fsplit, fsplit3, fjoin, fjoin3, feqI, suffices, frame, await, done}
-use types.Run.{look, init, forget, stop, hop, fld, from, load, of-opd, and-then, no-more, assigns, assigns-last, first, branches, skips, exec, land, returns, enter, alloc1, alloc0, params1, pass1, pass0, free1, free0}
+use types.Kit.{atRet, Given, ‵, raw, given, _⊛_, ⋆, some, later, _$_, _∵_, !, qed, by, move, keep, drop, use1, use2, split, join, pick, learn, rewrite, fsplit}
+use types.Kit.{fsplit3, fjoin, fjoin3, feqI, suffices, frame, await, done}
+use types.Run.{look, init, forget, stop, hop, fld, from, load, of-opd, and-then, no-more, assigns, assigns-last, first, branches, skips, exec, land, returns}
+use types.Run.{enter, alloc1, alloc0, params1, pass1, pass0, free1, free0}
 use types.Part.{whole, sub, look-in, store-in}
 use types.SemTy.{Body}
 use sound.WpLaws.{FmC, fmOf, WpFn-mono}
@@ -50,7 +53,7 @@ use Rattle.base_answers.specs.Answers.{freshTold}
 use Rattle.spec_behaviour.specs.Direct.{directFresh}
 use Rattle.spec_semantics.specs.Advances.{freshAnswer}
 use Rattle.image_runtime.proofs.Stored.{is-false, is-true}
-use Rattle.spec_promises.specs.Entry.{stateAfter}
+use Rattle.spec_interface.specs.Entry.{stateAfter}
 use Rattle.api_rattle.specs.Calling.{Starting}
 use Rattle.api_rattle.specs.declared.calls.Start.{Start}
 use Rattle.base_answers.proofs.State as S

@@ -3,7 +3,7 @@ use mathlib.Core.Path.{_≡_}
 use native.Mathlib.Omega.{arith}
 use lib.ListN.{length}
 use Rattle.spec_semantics.proofs.Described.{parts}
-use Rattle.direct_cycle.proofs.CallLaws.{run-passed, run-reached, run-refused}
+use Rattle.direct_cycle.proofs.CallLaws.{run-concluded}
 use borrow.Author.Needs.{needs}
 use Rattle.direct_cycle.proofs.calls.run.Statement.{statement}
 use Rattle.direct_cycle.proofs.calls.run.Tie as tie
@@ -25,55 +25,15 @@ part-variables-end c = let lo : length (c .before .before .before .before .befor
 returns-3 : tie.Need-returns-3
 returns-3 c =
     λ p d oc vc room f.
-    run-passed p (c .before .before .before .before .before .before .before .before .before .before .before .before .before .before .before .before .before .before .args .s) f (d .well-formed) (c .before .before .before .before .before .before .before .before .before .before .before .before .before .before .before .before .before .before .args .inputs .now) (c .before .before .before .before .before .before .before .before .before .before .before .before .before .before .before .before .before .before .args .row .now) room (c .before .before .before .before .before .before .before .before .before .before .before .before .before .before .before .before .before .before .args .output-count) (c .before .before .before .before .before .before .before .before .before .before .before .before .before .before .before .before .before .before .args .variable-count) oc vc _ _ (c .before .before .before .before .before .before .before .before .cycle .result) (record { lines = c .before .before .before .before .r .given .0 .0 }) (c .before .performed .result) _
-    (c .before .before .before .before .before .before .before .before .cycle .ensures (p .body) (d .body) (d .block)
-    (let b = d .well-formed .statements in let e = d .body .end in omega arith)
-    (parts p (c .before .before .before .before .before .before .before .before .before .before .before .before .before .before .before .before .before .before .args .s) f .0)) (c .before .before .before .before .r .given .1) (c .before .performed .ensures) (search needs) (search needs)
-
-returns-4 : tie.Need-returns-4
-returns-4 c =
-    λ p d oc vc room f.
-    run-reached p (c .before .before .before .before .before .before .before .before .before .before .before .before .before .before .before .before .before .before .args .s) f (d .well-formed) (c .before .before .before .before .before .before .before .before .before .before .before .before .before .before .before .before .before .before .args .inputs .now) (c .before .before .before .before .before .before .before .before .before .before .before .before .before .before .before .before .before .before .args .row .now) room (c .before .before .before .before .before .before .before .before .before .before .before .before .before .before .before .before .before .before .args .output-count) (c .before .before .before .before .before .before .before .before .before .before .before .before .before .before .before .before .before .before .args .variable-count) oc vc _ _ (c .before .before .before .before .before .before .before .before .cycle .result) (c .before .before .before .before .r2 .given .0 .0) (record { lines = c .before .before .before .before .r2 .given .0 .1 .0 }) (c .before .performed2 .result) _
-    (c .before .before .before .before .before .before .before .before .cycle .ensures (p .body) (d .body) (d .block)
-    (let b = d .well-formed .statements in let e = d .body .end in omega arith)
-    (parts p (c .before .before .before .before .before .before .before .before .before .before .before .before .before .before .before .before .before .before .args .s) f .0)) (c .before .before .before .before .r2 .given .1) (c .before .performed2 .ensures) (search needs) (search needs)
-
-returns-5 : tie.Need-returns-5
-returns-5 c =
-    let s = c .before .before .before .before .before .before .before .before .before .before .before .before .before .before .before .before .before .args in
-    λ p d oc vc room f.
-    run-refused p (s .s) f (d .well-formed) (s .inputs .now) (s .row .now) room (s .output-count) (s .variable-count) oc vc _ _
-    (c .before .before .before .before .before .before .before .cycle .result) (c .before .before .before .r3 .given .0 .0)
-    (c .before .before .before .r3 .given .0 .1 .0) (c .before .operator-refusal .result) (c .refused3 .result)
-    (c .before .before .before .before .before .before .before .cycle .ensures (p .body) (d .body) (d .block)
-    (let b = d .well-formed .statements in let e = d .body .end in omega arith) (parts p (s .s) f .0))
-    (c .before .before .before .r3 .given .1) (c .before .operator-refusal .ensures) (c .refused3 .ensures)
+    let a = c .before .before .before .before .before .before .before .before .before .before .before .before .before .before .before .args in
+    run-concluded p (a .s) f (d .well-formed) (a .inputs .now) (a .row .now) room (a .output-count) (a .variable-count) oc vc _ _
+    (c .before .before .before .before .before .cycle .result) (c .before .concluded .result) _
+    (c .before .before .before .before .before .cycle .ensures (p .body) (d .body) (d .block)
+    (let b = d .well-formed .statements in let e = d .body .end in omega arith) (parts p (a .s) f .0))
+    (c .before .concluded .ensures) (search needs) (search needs)
 
 pub run-spec : {M : Type 1} → statement M
 run-spec =
     tie.close
-    (tie.spec
-    (λ c κs. search needs)
-    returns
-    (λ c κs. search needs)
-    returns-2
-    (λ c. search needs)
-    (λ c. search needs)
-    (λ c. search needs)
-    part-outputs-end
-    (λ c. search needs)
-    (λ c. search needs)
-    part-variables-end
-    (λ c κs. search needs)
-    (λ c. search needs)
-    (λ c κs. search needs)
-    (λ c. search needs)
-    (λ c κs. search needs)
-    (λ c. search needs)
-    (λ c κs. search needs)
-    (λ c κs. search needs)
-    (λ c. search needs)
-    returns-3
-    (λ c. search needs)
-    returns-4
-    returns-5)
+    (tie.spec (λ c κs. search needs) returns (λ c κs. search needs) returns-2 (λ c. search needs) (λ c. search needs) (λ c. search needs) part-outputs-end
+    (λ c. search needs) (λ c. search needs) part-variables-end (λ c κs. search needs) (λ c κs. search needs) (λ c. search needs) returns-3)

@@ -1,4 +1,5 @@
--- `direct_cycle::checks::first_wrong` meets its contract: the values from an index on answer what the row answers; the measure is the values left. Assumes nothing.
+-- `direct_cycle::checks::first_wrong` meets its contract: the values from an index on answer what the row answers; the measure is the values left. Assumes
+-- nothing.
 use Prim.Native.Nat.{ℕ, _-_}
 use mathlib.Core.Path.{_≡_, refl, sym, ap, _∙_}
 use mathlib.Core.Option.{Option}

@@ -34,7 +34,8 @@ returns-2 c = (
 returns-3 : tie.Need-returns-3
 returns-3 c = (
   state-first (c .before .before .before .before .before .before .args .rows .now) (c .before .before .before .before .before .before .args .size)
-      (c .before .before .before .before .before .before .args .output-types .now) (c .before .before .before .before .before .before .args .variable-types .now)
+      (c .before .before .before .before .before .before .args .output-types .now)
+      (c .before .before .before .before .before .before .args .variable-types .now)
       (c .before .before .before .before .before .before .args .s) (c .before .place-right .result) (c .before .place-right .ensures) (c .if1 .left),
   (search needs, search needs),
 )

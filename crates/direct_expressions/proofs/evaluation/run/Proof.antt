@@ -1,4 +1,5 @@
--- `direct_expressions::evaluation::run` meets its contract: the rest of the operations leaves what all leave; the measure is the operations left. Assumes nothing.
+-- `direct_expressions::evaluation::run` meets its contract: the rest of the operations leaves what all leave; the measure is the operations left. Assumes
+-- nothing.
 use mir.Syntax.{w32}
 use mir.Val.{SFits}
 use Prim.Native.Nat.{_-_}

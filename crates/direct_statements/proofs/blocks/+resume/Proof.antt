@@ -1,4 +1,5 @@
--- `direct_statements::blocks::resume` meets its contract: the wait is found, its part resumed, then come the statements behind it. The measure is the rows left.
+-- `direct_statements::blocks::resume` meets its contract: the wait is found, its part resumed, then come the statements behind it. The measure is the rows
+-- left.
 -- Assumes nothing.
 use native.Mathlib.Omega.{arith}
 use borrow.Author.Needs.{needs}

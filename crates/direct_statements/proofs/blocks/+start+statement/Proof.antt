@@ -91,7 +91,8 @@ start-returns t c =
           (c .before .before .before .before .before .before .args .args .now) (c .before .before .before .before .before .before .args .rows .now)
           (c .before .before .before .before .before .before .args .inputs .now) (c .before .before .before .before .before .before .args .end)
           (startRest q (c .before .before .before .before .before .before .args .first) (c .before .before .before .before .before .before .args .inputs .now)
-          (run w (c .before .before .before .before .before .before .args .outputs .now) (c .before .before .before .before .before .before .args .variables .now)))
+          (run w (c .before .before .before .before .before .before .args .outputs .now)
+          (c .before .before .before .before .before .before .args .variables .now)))
           (c .before .before .before .loop .at) (c .before .before .before .loop .n) (c .before .entry .result) (c .before .before .before .loop .outputs)
           (c .before .before .before .loop .variables) (c .before .before .before .loop .outputs) (c .before .before .before .loop .variables) (Passed 0)
           (c .before .before .before .loop .inv .going q w h l) (c .before .before .loop-test .taken) (c .before .entry .ensures .0) in
@@ -110,7 +111,8 @@ start-returns-2 t c =
     let h = c .before .before .before .loop-test .taken in (
       omega arith,
       (λ q w h l. let p = going-inside (c .before .before .before .before .before .before .before .args .codes .now)
-          (c .before .before .before .before .before .before .before .args .args .now) (c .before .before .before .before .before .before .before .args .rows .now)
+          (c .before .before .before .before .before .before .before .args .args .now)
+          (c .before .before .before .before .before .before .before .args .rows .now)
           (c .before .before .before .before .before .before .before .args .inputs .now) (c .before .before .before .before .before .before .before .args .end)
           (startRest q (c .before .before .before .before .before .before .before .args .first)
           (c .before .before .before .before .before .before .before .args .inputs .now)
@@ -151,7 +153,27 @@ start-loop-again t c =
       low = omega arith;
       high = omega arith;
       few = omega arith;
-      going = λ q w h l. going-again (c .before .before .before .before .before .before .before .before .before .before .before .before .before .before .before .args .codes .now) (c .before .before .before .before .before .before .before .before .before .before .before .before .before .before .before .args .args .now) (c .before .before .before .before .before .before .before .before .before .before .before .before .before .before .before .args .rows .now) (c .before .before .before .before .before .before .before .before .before .before .before .before .before .before .before .args .inputs .now) (c .before .before .before .before .before .before .before .before .before .before .before .before .before .before .before .args .end) (startRest q (c .before .before .before .before .before .before .before .before .before .before .before .before .before .before .before .args .first) (c .before .before .before .before .before .before .before .before .before .before .before .before .before .before .before .args .inputs .now) (run w (c .before .before .before .before .before .before .before .before .before .before .before .before .before .before .before .args .outputs .now) (c .before .before .before .before .before .before .before .before .before .before .before .before .before .before .before .args .variables .now))) (c .before .before .before .before .before .before .before .before .before .before .before .before .loop .at) (c .before .before .before .before .before .before .before .before .before .before .before .before .loop .n) (c .before .before .before .before .before .before .before .before .before .before .entry .result) (c .before .before .before .before .before .before .before .before .before .before .before .before .loop .outputs) (c .before .before .before .before .before .before .before .before .before .before .before .before .loop .variables) _ _ (c .before .before .before .before .before .statement .result) (c .before .r .given .0 .0) (c .before .before .before .before .before .before .before .before .before .before .before .before .loop .inv .going q w h l) (c .before .before .before .before .before .before .before .before .before .before .before .loop-test .taken) (c .before .before .before .before .before .before .before .before .before .before .entry .ensures .0) (c .before .before .before .before .before .statement .ensures .1) (c .before .r .given .1);
+      going = λ q w h l. going-again
+          (c .before .before .before .before .before .before .before .before .before .before .before .before .before .before .before .args .codes .now)
+          (c .before .before .before .before .before .before .before .before .before .before .before .before .before .before .before .args .args .now)
+          (c .before .before .before .before .before .before .before .before .before .before .before .before .before .before .before .args .rows .now)
+          (c .before .before .before .before .before .before .before .before .before .before .before .before .before .before .before .args .inputs .now)
+          (c .before .before .before .before .before .before .before .before .before .before .before .before .before .before .before .args .end)
+          (startRest q (c .before .before .before .before .before .before .before .before .before .before .before .before .before .before .before .args .first)
+          (c .before .before .before .before .before .before .before .before .before .before .before .before .before .before .before .args .inputs .now)
+          (run w
+          (c .before .before .before .before .before .before .before .before .before .before .before .before .before .before .before .args .outputs .now)
+          (c .before .before .before .before .before .before .before .before .before .before .before .before .before .before .before .args .variables .now)))
+          (c .before .before .before .before .before .before .before .before .before .before .before .before .loop .at)
+          (c .before .before .before .before .before .before .before .before .before .before .before .before .loop .n)
+          (c .before .before .before .before .before .before .before .before .before .before .entry .result)
+          (c .before .before .before .before .before .before .before .before .before .before .before .before .loop .outputs)
+          (c .before .before .before .before .before .before .before .before .before .before .before .before .loop .variables) _ _
+          (c .before .before .before .before .before .statement .result) (c .before .r .given .0 .0)
+          (c .before .before .before .before .before .before .before .before .before .before .before .before .loop .inv .going q w h l)
+          (c .before .before .before .before .before .before .before .before .before .before .before .loop-test .taken)
+          (c .before .before .before .before .before .before .before .before .before .before .entry .ensures .0)
+          (c .before .before .before .before .before .statement .ensures .1) (c .before .r .given .1);
       outputs = search needs;
       variables = search needs;
     }
@@ -172,7 +194,26 @@ start-returns-3 t c =
     let y = c .before .before .before .before .before .before .before .before .if2 .left in
     let u = rw (c .before .r2 .given .1) at (c .before .before .before .before .before .statement .ensures .0) in (
       omega arith,
-      (λ q w h l. going-reached (c .before .before .before .before .before .before .before .before .before .before .before .before .before .before .before .args .codes .now) (c .before .before .before .before .before .before .before .before .before .before .before .before .before .before .before .args .args .now) (c .before .before .before .before .before .before .before .before .before .before .before .before .before .before .before .args .rows .now) (c .before .before .before .before .before .before .before .before .before .before .before .before .before .before .before .args .inputs .now) (c .before .before .before .before .before .before .before .before .before .before .before .before .before .before .before .args .end) (startRest q (c .before .before .before .before .before .before .before .before .before .before .before .before .before .before .before .args .first) (c .before .before .before .before .before .before .before .before .before .before .before .before .before .before .before .args .inputs .now) (run w (c .before .before .before .before .before .before .before .before .before .before .before .before .before .before .before .args .outputs .now) (c .before .before .before .before .before .before .before .before .before .before .before .before .before .before .before .args .variables .now))) (c .before .before .before .before .before .before .before .before .before .before .before .before .loop .at) (c .before .before .before .before .before .before .before .before .before .before .before .before .loop .n) (c .before .before .before .before .before .before .before .before .before .before .entry .result) (c .before .before .before .before .before .before .before .before .before .before .before .before .loop .outputs) (c .before .before .before .before .before .before .before .before .before .before .before .before .loop .variables) _ _ (c .before .before .before .before .before .statement .result) (c .before .r2 .given .0 .0) (c .before .r2 .given .0 .1 .0) (c .before .before .before .before .before .before .before .before .before .before .before .before .loop .inv .going q w h l) (c .before .before .before .before .before .before .before .before .before .before .before .loop-test .taken) (c .before .before .before .before .before .before .before .before .before .before .entry .ensures .0) (c .before .before .before .before .before .statement .ensures .1) (c .before .r2 .given .1)),
+      (λ q w h l. going-reached
+          (c .before .before .before .before .before .before .before .before .before .before .before .before .before .before .before .args .codes .now)
+          (c .before .before .before .before .before .before .before .before .before .before .before .before .before .before .before .args .args .now)
+          (c .before .before .before .before .before .before .before .before .before .before .before .before .before .before .before .args .rows .now)
+          (c .before .before .before .before .before .before .before .before .before .before .before .before .before .before .before .args .inputs .now)
+          (c .before .before .before .before .before .before .before .before .before .before .before .before .before .before .before .args .end)
+          (startRest q (c .before .before .before .before .before .before .before .before .before .before .before .before .before .before .before .args .first)
+          (c .before .before .before .before .before .before .before .before .before .before .before .before .before .before .before .args .inputs .now)
+          (run w (c .before .before .before .before .before .before .before .before .before .before .before .before .before .before .before .args .outputs .now)
+          (c .before .before .before .before .before .before .before .before .before .before .before .before .before .before .before .args .variables .now)))
+          (c .before .before .before .before .before .before .before .before .before .before .before .before .loop .at)
+          (c .before .before .before .before .before .before .before .before .before .before .before .before .loop .n)
+          (c .before .before .before .before .before .before .before .before .before .before .entry .result)
+          (c .before .before .before .before .before .before .before .before .before .before .before .before .loop .outputs)
+          (c .before .before .before .before .before .before .before .before .before .before .before .before .loop .variables) _ _
+          (c .before .before .before .before .before .statement .result) (c .before .r2 .given .0 .0) (c .before .r2 .given .0 .1 .0)
+          (c .before .before .before .before .before .before .before .before .before .before .before .before .loop .inv .going q w h l)
+          (c .before .before .before .before .before .before .before .before .before .before .before .loop-test .taken)
+          (c .before .before .before .before .before .before .before .before .before .before .entry .ensures .0)
+          (c .before .before .before .before .before .statement .ensures .1) (c .before .r2 .given .1)),
     )
 
 start-enum-known-r-3 : (t : ℕ) → start-lts.Need-enum-known-r-3 (start-calls t) (start-at t) start.Post start-Inv-loop start-μ-loop
@@ -187,7 +228,26 @@ start-same-length-8 t c = search needs
 start-returns-4 : (t : ℕ) → start-lts.Need-returns-4 (start-calls t) (start-at t) start.Post start-Inv-loop start-μ-loop
 start-returns-4 t c = (
   omega arith,
-  (λ q w h l. going-refused (c .before .before .before .before .before .before .before .before .before .before .before .before .before .before .before .args .codes .now) (c .before .before .before .before .before .before .before .before .before .before .before .before .before .before .before .args .args .now) (c .before .before .before .before .before .before .before .before .before .before .before .before .before .before .before .args .rows .now) (c .before .before .before .before .before .before .before .before .before .before .before .before .before .before .before .args .inputs .now) (c .before .before .before .before .before .before .before .before .before .before .before .before .before .before .before .args .end) (startRest q (c .before .before .before .before .before .before .before .before .before .before .before .before .before .before .before .args .first) (c .before .before .before .before .before .before .before .before .before .before .before .before .before .before .before .args .inputs .now) (run w (c .before .before .before .before .before .before .before .before .before .before .before .before .before .before .before .args .outputs .now) (c .before .before .before .before .before .before .before .before .before .before .before .before .before .before .before .args .variables .now))) (c .before .before .before .before .before .before .before .before .before .before .before .before .loop .at) (c .before .before .before .before .before .before .before .before .before .before .before .before .loop .n) (c .before .before .before .before .before .before .before .before .before .before .entry .result) (c .before .before .before .before .before .before .before .before .before .before .before .before .loop .outputs) (c .before .before .before .before .before .before .before .before .before .before .before .before .loop .variables) _ _ (c .before .before .before .before .before .statement .result) (c .before .r3 .given .0 .0) (c .before .r3 .given .0 .1 .0) (c .before .before .before .before .before .before .before .before .before .before .before .before .loop .inv .going q w h l) (c .before .before .before .before .before .before .before .before .before .before .before .loop-test .taken) (c .before .before .before .before .before .before .before .before .before .before .entry .ensures .0) (c .before .before .before .before .before .statement .ensures .1) (c .before .r3 .given .1)),
+  (λ q w h l. going-refused
+      (c .before .before .before .before .before .before .before .before .before .before .before .before .before .before .before .args .codes .now)
+      (c .before .before .before .before .before .before .before .before .before .before .before .before .before .before .before .args .args .now)
+      (c .before .before .before .before .before .before .before .before .before .before .before .before .before .before .before .args .rows .now)
+      (c .before .before .before .before .before .before .before .before .before .before .before .before .before .before .before .args .inputs .now)
+      (c .before .before .before .before .before .before .before .before .before .before .before .before .before .before .before .args .end)
+      (startRest q (c .before .before .before .before .before .before .before .before .before .before .before .before .before .before .before .args .first)
+      (c .before .before .before .before .before .before .before .before .before .before .before .before .before .before .before .args .inputs .now)
+      (run w (c .before .before .before .before .before .before .before .before .before .before .before .before .before .before .before .args .outputs .now)
+      (c .before .before .before .before .before .before .before .before .before .before .before .before .before .before .before .args .variables .now)))
+      (c .before .before .before .before .before .before .before .before .before .before .before .before .loop .at)
+      (c .before .before .before .before .before .before .before .before .before .before .before .before .loop .n)
+      (c .before .before .before .before .before .before .before .before .before .before .entry .result)
+      (c .before .before .before .before .before .before .before .before .before .before .before .before .loop .outputs)
+      (c .before .before .before .before .before .before .before .before .before .before .before .before .loop .variables) _ _
+      (c .before .before .before .before .before .statement .result) (c .before .r3 .given .0 .0) (c .before .r3 .given .0 .1 .0)
+      (c .before .before .before .before .before .before .before .before .before .before .before .before .loop .inv .going q w h l)
+      (c .before .before .before .before .before .before .before .before .before .before .before .loop-test .taken)
+      (c .before .before .before .before .before .before .before .before .before .before .entry .ensures .0)
+      (c .before .before .before .before .before .statement .ensures .1) (c .before .r3 .given .1)),
 )
 
 start-same-length-9 : (t : ℕ) → start-lts.Need-same-length-9 (start-calls t) (start-at t) start.Post start-Inv-loop start-μ-loop
@@ -201,7 +261,8 @@ start-returns-5 t c =
     let k = c .before .loop .inv in (
       omega arith,
       (λ q w h l. going-end (c .before .before .before .before .args .codes .now) (c .before .before .before .before .args .args .now)
-          (c .before .before .before .before .args .rows .now) (c .before .before .before .before .args .inputs .now) (c .before .before .before .before .args .end)
+          (c .before .before .before .before .args .rows .now) (c .before .before .before .before .args .inputs .now)
+          (c .before .before .before .before .args .end)
           (startRest q (c .before .before .before .before .args .first) (c .before .before .before .before .args .inputs .now)
           (run w (c .before .before .before .before .args .outputs .now) (c .before .before .before .before .args .variables .now))) (c .before .loop .at)
           (c .before .loop .n) (c .before .loop .outputs) (c .before .loop .variables) (c .before .loop .inv .going q w h l) (c .loop-test .left)),
@@ -329,7 +390,8 @@ statement-returns-4 t c =
           (c .before .before .before .before .before .before .before .before .before .before .before .before .args .outputs .now)
           (c .before .before .before .before .before .before .before .before .before .before .before .before .args .variables .now) _ _
           (c .before .before .before .before .before .before .before .perform .result) w (c .before .before .before .m2 .given .0 .0)
-          (c .before .before .before .m2 .given .0 .1 .0) (c .before .nested .result) (c .before .before .before .before .before .before .before .perform .ensures)
+          (c .before .before .before .m2 .given .0 .1 .0) (c .before .nested .result)
+          (c .before .before .before .before .before .before .before .perform .ensures)
           (c .before .before .before .m2 .given .1) (c .before .nested .ensures) (c .if1 .left) s h)),
     )
 

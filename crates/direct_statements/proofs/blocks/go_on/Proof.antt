@@ -50,7 +50,8 @@ returns-3 c = (
       (c .before .before .before .before .before .args .rows .now) (c .before .before .before .before .before .args .inputs .now)
       (c .before .before .before .before .before .args .from) (c .before .before .before .before .before .args .end) R q
       (c .before .before .before .before .before .args .r) (c .before .before .before .before .before .args .outputs .now)
-      (c .before .before .before .before .before .args .variables .now) (c .before .r3 .given .0 .0) (c .before .r3 .given .0 .1 .0) s (c .before .r3 .given .1)),
+      (c .before .before .before .before .before .args .variables .now) (c .before .r3 .given .0 .0) (c .before .r3 .given .0 .1 .0) s
+      (c .before .r3 .given .1)),
 )
 
 pub go-on-spec : {M : Type 1} → statement M

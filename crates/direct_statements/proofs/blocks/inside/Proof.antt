@@ -52,7 +52,8 @@ returns-5 c = (
   tt,
   (λ codes args s h b x. within-nested codes args _ s _ _ _ _
       (c .before .before .before .before .before .before .before .before .before .before .part .ensures .1 codes args s h b x) _
-      (part-within codes args _ s _ _ _ _ (c .before .before .before .before .before .before .before .before .before .before .part .ensures .1 codes args s h b x)
+      (part-within codes args _ s _ _ _ _
+      (c .before .before .before .before .before .before .before .before .before .before .part .ensures .1 codes args s h b x)
       (c .before .before .before .before .before .before .before .before .before .entry .ensures .0)
       (c .before .before .before .before .before .before .entry2 .ensures .0) (c .before .before .before .before .before .if3 .left)
       (c .before .before .before .before .entry3 .ensures .0) (c .before .before .before .pick .ensures) (c .before .before .pick2 .ensures) refl)

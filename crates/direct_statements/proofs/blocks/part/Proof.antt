@@ -70,7 +70,8 @@ loop-again c =
         λ codes args s h b x. later-again codes args
             (c .before .before .before .before .before .before .args .rows .now) s (c .before .before .before .before .before .before .args .first)
             (c .before .before .before .before .before .before .args .end) (c .before .before .before .before .before .before .args .place)
-            (c .before .before .before .before .loop .at) (c .before .before .entry .result) (c .before .before .before .before .loop .inv .1 .1 codes args s h b x)
+            (c .before .before .before .before .loop .at) (c .before .before .entry .result)
+            (c .before .before .before .before .loop .inv .1 .1 codes args s h b x)
             (c .before .before .entry .ensures .0) (c .before .if1 .left) .1,
       ),
     )

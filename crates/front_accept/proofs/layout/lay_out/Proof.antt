@@ -6,13 +6,10 @@ use Rattle.front_accept.proofs.layout.lay_out.Tie as tie
 returns : tie.Need-returns
 returns c = record {
   slots = _;
-  indexed =
-      c .before .before .before .before .before .before .before .before .before .before .before .before .before .before .slots2 .ensures;
+  indexed = c .before .before .before .before .before .before .before .before .before .before .before .before .before .before .before .slots2 .ensures;
   bare = _;
-  placed =
-      c .before .before .before .before .before .before .before .before .before .before .place .ensures;
-  lines =
-      c .before .before .before .before .before .before .before .statements .ensures;
+  placed = c .before .before .before .before .before .before .before .before .before .before .before .place .ensures;
+  lines = c .before .before .before .before .before .before .before .statements .ensures;
   told = c .tell .ensures;
 }
 

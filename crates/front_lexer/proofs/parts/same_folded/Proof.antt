@@ -5,7 +5,8 @@ use Prim.Native.Nat.{_-_}
 use lib.ListN.{length, drop}
 use Rattle.spec_language.specs.Bytes.{lower}
 use Rattle.spec_language.specs.Lexing.{equal}
-use Rattle.front_lexer.proofs.PartLaws.{same-again, same-differs, same-end, same-lengths}
+use Rattle.spec_language.proofs.Facts.{not-true}
+use Rattle.front_lexer.proofs.PartLaws.{same-again, same-differs, same-end, same-lengths, not-false}
 use borrow.Author.Needs.{needs}
 use Rattle.front_lexer.proofs.parts.same_folded.Statement.{statement}
 use Rattle.front_lexer.proofs.parts.same_folded.Tie as tie
@@ -23,17 +24,14 @@ loop-holds : tie.Need-loop-holds Inv-loop μ-loop
 loop-holds c = refl
 
 returns-2 : tie.Need-returns-2 Inv-loop μ-loop
-returns-2 c =
-    sym (same-differs (c .before .before .before .before .before .before .before .before .before .before .args .a .now)
-    (c .before .before .before .before .before .before .before .before .before .before .args .b .now) _ (search needs) (search needs)
-    (λ e. c .if2 .taken (c .before .before .before .lower-case .ensures ∙ (e ∙ sym (c .before .lower-case2 .ensures)))))
-    ∙ c .before .before .before .before .before .before .loop .inv
+returns-2 c = sym (same-differs (c .before .before .before .before .before .before .before .before .before .args .a .now)
+    (c .before .before .before .before .before .before .before .before .before .args .b .now) _ (search needs) (search needs)
+    (sym (c .before .same-byte .ensures) ∙ not-true (c .before .same-byte .result) (c .if2 .taken))) ∙ c .before .before .before .before .before .loop .inv
 
 loop-again : tie.Need-loop-again Inv-loop μ-loop
-loop-again c = same-again (c .before .before .before .before .before .before .before .before .before .before .args .a .now)
-    (c .before .before .before .before .before .before .before .before .before .before .args .b .now) _ (search needs) (search needs)
-    (sym (c .before .before .before .lower-case .ensures) ∙ (c .if2 .left ∙ (c .before .lower-case2 .ensures)))
-    ∙ c .before .before .before .before .before .before .loop .inv
+loop-again c = same-again (c .before .before .before .before .before .before .before .before .before .args .a .now)
+    (c .before .before .before .before .before .before .before .before .before .args .b .now) _ (search needs) (search needs)
+    (sym (c .before .same-byte .ensures) ∙ not-false (c .before .same-byte .result) (c .if2 .left)) ∙ c .before .before .before .before .before .loop .inv
 
 returns-3 : tie.Need-returns-3 Inv-loop μ-loop
 returns-3 c =
@@ -41,19 +39,5 @@ returns-3 c =
     (c .before .loop .i) (search needs) (search needs)) ∙ c .before .loop .inv
 
 pub same-folded-spec : {M : Type 1} → statement M
-same-folded-spec =
-    tie.close
-    (tie.spec
-    Inv-loop
-    μ-loop
-    returns
-    loop-holds
-    (λ c. search needs)
-    (λ c κs. search needs)
-    (λ c. search needs)
-    (λ c κs. search needs)
-    returns-2
-    (λ c. search needs)
-    (λ c. search needs)
-    loop-again
-    returns-3)
+same-folded-spec = tie.close (tie.spec Inv-loop μ-loop returns loop-holds (λ c. search needs) (λ c. search needs) (λ c κs. search needs) returns-2
+    (λ c. search needs) (λ c. search needs) loop-again returns-3)

@@ -1,4 +1,5 @@
--- `front_token::words::well_made` meets its contract. The invariant: the rest is well made, after the underscore or not, exactly when the whole is. Assumes nothing.
+-- `front_token::words::well_made` meets its contract. The invariant: the rest is well made, after the underscore or not, exactly when the whole is. Assumes
+-- nothing.
 use mathlib.Core.Path.{_≡_, refl, sym, _∙_}
 use mathlib.Core.Bool.{false}
 use Prim.Native.Nat.{_-_}

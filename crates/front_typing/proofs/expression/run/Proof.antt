@@ -1,4 +1,5 @@
--- `front_typing::expression::run` meets its contract. The invariant: the items from `m` on make of the stack what the whole makes. The measure is what is left. Assumes nothing.
+-- `front_typing::expression::run` meets its contract. The invariant: the items from `m` on make of the stack what the whole makes. The measure is what is left.
+-- Assumes nothing.
 use Prim.Native.Nat.{_-_}
 use borrow.Author.Needs.{needs}
 use Rattle.front_typing.specs.Expressions.{sources}

@@ -1,4 +1,5 @@
--- `image_checks::states::unused_ok` meets its contract. The loop's invariant: the slots from `k` on answer what those from the n-th on answer. The measure is what is
+-- `image_checks::states::unused_ok` meets its contract. The loop's invariant: the slots from `k` on answer what those from the n-th on answer. The measure is
+-- what is
 -- left of the slots. Assumes nothing.
 use Prim.Native.Nat.{_-_}
 use mathlib.Core.Path.{_≡_, refl, sym, _∙_}

@@ -25,43 +25,28 @@ abbrev μ-loop : tie.MeasureT-loop
 loop-holds : tie.Need-loop-holds Inv-loop μ-loop
 loop-holds c = (omega arith, (omega arith, (refl, refl)))
 
-element-copy-out-code : tie.Need-element-copy-out-code Inv-loop μ-loop
-element-copy-out-code c = omega arith
-
-mul-put-op : tie.Need-mul-put-op Inv-loop μ-loop
-mul-put-op c = omega arith
-
-element-copy-out-put-op : tie.Need-element-copy-out-put-op Inv-loop μ-loop
-element-copy-out-put-op c = omega arith
-
 put-op-requires : tie.Need-put-op-requires Inv-loop μ-loop
 put-op-requires c κs = omega arith
 
 add-p : tie.Need-add-p Inv-loop μ-loop
-add-p c = omega (arith, c .width .ensures .1)
-
-add-i : tie.Need-add-i Inv-loop μ-loop
-add-i c = omega arith
-
-loop-less : tie.Need-loop-less Inv-loop μ-loop
-loop-less c = omega arith
+add-p c = omega (arith, c .before .before .put-op .ensures .1)
 
 loop-again : tie.Need-loop-again Inv-loop μ-loop
 loop-again c =
-    let h : SFits w32 (getD (c .before .before .before .before .before .before .before .before .before .before .args .args .now)
-    (c .before .before .before .before .before .before .before .before .loop .i) (pos 0)) = search needs in (
+    let h : SFits w32 (getD (c .before .before .before .before .before .before .before .before .before .args .args .now)
+    (c .before .before .before .before .before .before .before .loop .i) (pos 0)) = search needs in (
       omega arith,
       (
-        omega (arith, c .width .ensures .1),
+        omega (arith, c .before .before .put-op .ensures .1),
         (
           search needs,
-          code-again (c .before .before .before .before .before .before .before .before .before .before .args .codes .now)
-              (c .before .before .before .before .before .before .before .before .before .before .args .args .now)
-              (c .before .before .before .before .before .before .before .before .loop .image)
-              (c .before .before .before .before .before .before .before .before .loop .p) (c .before .before .before .before .before .before .before .before .loop .i)
-              (c .before .before .before .before .before .before .before .before .before .before .args .k)
-              (c .before .before .before .before .before .before .before .loop-test .taken) refl (toZ-ofZ h) (c .before .before .before .put-op .ensures)
-              (c .width .ensures .0) ∙ c .before .before .before .before .before .before .before .before .loop .inv .1 .1 .1,
+          code-again (c .before .before .before .before .before .before .before .before .before .args .codes .now)
+              (c .before .before .before .before .before .before .before .before .before .args .args .now)
+              (c .before .before .before .before .before .before .before .loop .image) (c .before .before .before .before .before .before .before .loop .p)
+              (c .before .before .before .before .before .before .before .loop .i)
+              (c .before .before .before .before .before .before .before .before .before .args .k)
+              (c .before .before .before .before .before .before .loop-test .taken) refl (toZ-ofZ h) (c .before .before .put-op .ensures .2)
+              (c .before .before .put-op .ensures .0) ∙ c .before .before .before .before .before .before .before .loop .inv .1 .1 .1,
         ),
       ),
     )
@@ -78,14 +63,13 @@ put-code-spec =
     Inv-loop
     μ-loop
     loop-holds
-    element-copy-out-code
-    mul-put-op
-    element-copy-out-put-op
+    (λ c. omega arith)
+    (λ c. omega arith)
+    (λ c. omega arith)
     put-op-requires
-    (λ c κs. search needs)
     add-p
-    add-i
-    loop-less
+    (λ c. omega arith)
+    (λ c. omega arith)
     loop-again
     (λ c. search needs)
     returns)

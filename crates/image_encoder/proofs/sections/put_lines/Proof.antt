@@ -24,62 +24,37 @@ abbrev μ-loop : tie.MeasureT-loop
 loop-holds : tie.Need-loop-holds Inv-loop μ-loop
 loop-holds c = (omega arith, (omega arith, (refl, refl)))
 
-mul-number : tie.Need-mul-number Inv-loop μ-loop
-mul-number c = omega arith
-
-add-number : tie.Need-add-number Inv-loop μ-loop
-add-number c = omega arith
-
-mul-number-2 : tie.Need-mul-number-2 Inv-loop μ-loop
-mul-number-2 c = omega arith
-
-add-number-2 : tie.Need-add-number-2 Inv-loop μ-loop
-add-number-2 c = omega arith
-
-mul-put-row : tie.Need-mul-put-row Inv-loop μ-loop
-mul-put-row c = omega arith
-
-add-put-row : tie.Need-add-put-row Inv-loop μ-loop
-add-put-row c = omega arith
-
 put-row-requires : tie.Need-put-row-requires Inv-loop μ-loop
-put-row-requires c κs = (omega arith, omega arith, omega arith, omega (arith, c .before .before .before .before .run-width .ensures .1))
+put-row-requires c κs = (omega arith, omega arith, omega arith, omega (arith, c .before .before .before .before .before .before .before .code-size .ensures .1))
 
 add-p : tie.Need-add-p Inv-loop μ-loop
-add-p c = omega (arith, c .before .before .before .before .before .before .before .run-width .ensures .1)
-
-add-j : tie.Need-add-j Inv-loop μ-loop
-add-j c = omega arith
-
-loop-less : tie.Need-loop-less Inv-loop μ-loop
-loop-less c = omega arith
+add-p c = omega (arith, c .before .before .before .before .before .before .before .before .before .before .code-size .ensures .1)
 
 loop-again : tie.Need-loop-again Inv-loop μ-loop
 loop-again c =
-    let a = c .before .before .before .before .before .before .before .before .before .before .before .before .before .before .before .before .before .before .args in
-    let l = c .before .before .before .before .before .before .before .before .before .before .before .before .before .loop in (
+    let a = c .before .before .before .before .before .before .before .before .before .before .before .before .before .before .args in
+    let l = c .before .before .before .before .before .before .before .before .before .before .before .before .loop in (
       omega arith,
       (
-        omega (arith, c .before .before .before .before .before .before .before .run-width .ensures .1),
+        omega (arith, c .before .before .before .before .before .before .before .before .before .before .code-size .ensures .1),
         (
           search needs,
           lines-again (a .codes .now) (a .rows .now) (a .next .now) (a .other .now) (a .reaches .now) (l .image) (a .at) (l .j) (a .n) (l .p)
-              (c .before .before .before .before .before .before .before .before .before .before .before .before .loop-test .taken)
-              (c .before .before .before .before .before .before .before .before .before .before .number .ensures)
-              (c .before .before .before .before .before .before .before .before .number2 .ensures)
-              (c .before .before .before .before .before .before .before .run-width .ensures .0) (c .before .before .before .before .before .number3 .ensures)
-              (c .before .before .before .before .number4 .ensures) (c .before .before .before .number5 .ensures) (c .before .before .put-row .ensures)
+              (c .before .before .before .before .before .before .before .before .before .before .before .loop-test .taken)
+              (c .before .before .before .before .before .before .before .before .before .before .code-size .ensures .0)
+              (c .before .before .before .before .before .before .before .number .ensures) (c .before .before .before .before .before .number2 .ensures)
+              (c .before .before .before .number3 .ensures) (c .before .before .put-row .ensures)
               ∙ l .inv .1 .1 .1,
         ),
       ),
     )
 
 returns : tie.Need-returns Inv-loop μ-loop
-returns c = lines-done (c .before .before .before .before .before .before .args .codes .now)
-    (c .before .before .before .before .before .before .args .rows .now) (c .before .before .before .before .before .before .args .next .now)
-    (c .before .before .before .before .before .before .args .other .now) (c .before .before .before .before .before .before .args .reaches .now)
-    (c .before .loop .image) (c .before .before .before .before .before .before .args .image .now) (c .before .before .before .before .before .before .args .at)
-    (c .before .loop .j) (c .before .before .before .before .before .before .args .n) (c .before .loop .p) (c .loop-test .left) (c .before .loop .inv .1 .1 .1)
+returns c =
+    let a = c .before .before .before .args in
+    let l = c .before .loop in
+    lines-done (a .codes .now) (a .rows .now) (a .next .now) (a .other .now) (a .reaches .now) (l .image) (a .image .now) (a .at) (l .j) (a .n) (l .p)
+    (c .loop-test .left) (l .inv .1 .1 .1)
 
 pub put-lines-spec : {M : Type 1} → statement M
 put-lines-spec =
@@ -88,24 +63,16 @@ put-lines-spec =
     Inv-loop
     μ-loop
     loop-holds
-    mul-number
-    add-number
     (λ c κs. search needs)
-    (λ c. search needs)
-    mul-number-2
-    add-number-2
-    (λ c κs. search needs)
-    (λ c. search needs)
-    (λ c κs. search needs)
-    mul-put-row
-    add-put-row
+    (λ c. omega arith)
+    (λ c. omega arith)
     (λ c κs. search needs)
     (λ c κs. search needs)
     (λ c κs. search needs)
     put-row-requires
     add-p
-    add-j
-    loop-less
+    (λ c. omega arith)
+    (λ c. omega arith)
     loop-again
     (λ c. search needs)
     returns)

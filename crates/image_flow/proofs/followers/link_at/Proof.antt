@@ -7,5 +7,4 @@ returns : tie.Need-returns
 returns c = cc
 
 pub link-at-spec : {M : Type 1} → statement M
-link-at-spec =
-    tie.close (tie.spec (λ c κs. search needs) (λ c κs. search needs) (λ c. search needs) (λ c. search needs) returns)
+link-at-spec = tie.close (tie.spec (λ c κs. search needs) (λ c κs. search needs) returns)

@@ -27,7 +27,8 @@ loop-again c = (
   sweeps-next (c .before .before .before .before .before .before .before .before .before .before .args .rows .now)
       (links (c .before .before .before .before .before .before .before .before .before .before .args .next .now)
       (c .before .before .before .before .before .before .before .before .before .before .args .other .now))
-      (c .before .before .before .before .before .before .before .before .before .before .args .n) (c .before .before .before .before .before .before .loop .k) _
+      (c .before .before .before .before .before .before .before .before .before .before .args .n)
+      (c .before .before .before .before .before .before .loop .k) _
       (c .before .before .before .before .before .before .loop .reaches) _ (c .before .before .before .sweep .result)
       (c .before .before .before .before .before .loop-test .taken) (c .left .ensures) (c .before .before .before .sweep .ensures .are)
       (c .before .before .before .sweep .ensures .still) ∙ c .before .before .before .before .before .before .loop .inv .0,

@@ -26,7 +26,22 @@ loop-less : tie.Need-loop-less Inv-loop μ-loop
 loop-less c = omega arith
 
 loop-again : tie.Need-loop-again Inv-loop μ-loop
-loop-again c = (sweeping-again (c .before .before .before .before .before .before .before .before .before .before .before .before .before .before .args .rows .now) (links (c .before .before .before .before .before .before .before .before .before .before .before .before .before .before .args .next .now) (c .before .before .before .before .before .before .before .before .before .before .before .before .before .before .args .other .now)) (c .before .before .before .before .before .before .before .before .before .before .before .before .before .before .args .n) (c .before .before .before .before .before .before .before .before .before .before .loop .j) (c .before .before .before .before .before .before .before .before .before .before .before .before .before .before .args .reaches .now) (c .before .before .before .before .before .before .before .before .before .before .loop .reaches) _ (c .before .before .before .before .before .before .before .before .before .before .loop .changed) _ _ _ (c .before .before .before .before .before .before .before .before .before .loop-test .taken) (c .before .before .before .before .before .before .before .before .before .before .loop .inv .0) (c .before .before .before .before .before .before .before .reach-at .ensures) (c .before .before .before .before .before .number .ensures) (c .before .before .before .before .changes .ensures) (c .before .before .store .ensures), (search needs, omega arith))
+loop-again c = (
+  sweeping-again
+      (c .before .before .before .before .before .before .before .before .before .before .before .before .before .before .args .rows .now)
+      (links (c .before .before .before .before .before .before .before .before .before .before .before .before .before .before .args .next .now)
+      (c .before .before .before .before .before .before .before .before .before .before .before .before .before .before .args .other .now))
+      (c .before .before .before .before .before .before .before .before .before .before .before .before .before .before .args .n)
+      (c .before .before .before .before .before .before .before .before .before .before .loop .j)
+      (c .before .before .before .before .before .before .before .before .before .before .before .before .before .before .args .reaches .now)
+      (c .before .before .before .before .before .before .before .before .before .before .loop .reaches) _
+      (c .before .before .before .before .before .before .before .before .before .before .loop .changed) _ _ _
+      (c .before .before .before .before .before .before .before .before .before .loop-test .taken)
+      (c .before .before .before .before .before .before .before .before .before .before .loop .inv .0)
+      (c .before .before .before .before .before .before .before .reach-at .ensures) (c .before .before .before .before .before .number .ensures)
+      (c .before .before .before .before .changes .ensures) (c .before .before .store .ensures),
+  (search needs, omega arith),
+)
 
 returns : tie.Need-returns Inv-loop μ-loop
 returns c = sweeping-end (c .before .before .before .before .before .args .rows .now)

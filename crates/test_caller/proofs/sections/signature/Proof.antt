@@ -1,4 +1,5 @@
--- `test_caller::sections::signature` is safe: a walk of its MIR, by hand. The `Image` that `open` returns is held in a local and passed to `signature`, whose answer is
+-- `test_caller::sections::signature` is safe: a walk of its MIR, by hand. The `Image` that `open` returns is held in a local and passed to `signature`, whose
+-- answer is
 -- handed back. In a local MIR erases the lifetime of the struct's type: what the struct owns does not say the lifetime's name. Assumes nothing.
 use mathlib.Core.Path.{refl}
 use Prim.Native.Nat.{ℕ}

@@ -5,19 +5,11 @@ use Rattle.trace_lines.proofs.printing.performed_line.Statement.{statem
 use Rattle.trace_lines.proofs.printing.performed_line.Tie as tie
 
 returns : tie.Need-returns
-returns c = performed-puts _ _ _ _ _ _ _ _ _ _ _ _ _ _ _ _ _ _ _
-    (c .before .before .before .before .before .before .before .before .before .before .before .before .before .before .before .before .before .before .before .before .before .before .before .before .before .before .put-number .ensures) (c .before .before .before .before .before .before .before .before .before .before .before .before .before .before .before .before .before .before .before .before .before .before .put .ensures) (c .before .before .before .before .before .before .before .before .before .before .before .before .before .before .before .before .before .before .put-number2 .ensures) (c .before .before .before .before .before .before .before .before .before .before .before .before .before .before .put2 .ensures) (c .before .before .before .before .before .before .before .before .before .before .put-number3 .ensures) (c .before .before .before .before .before .before .put-integers .ensures) (c .before .before .put3 .ensures)
+returns c = performed-puts _ _ _ _ _ _ _ _ _ _ _ _ _
+    (c .before .before .before .before .before .before .before .before .before .before .before .before .before .before .put-pair .ensures)
+    (c .before .before .before .before .before .before .before .before .before .before .put-spaced .ensures)
+    (c .before .before .before .before .before .before .put-integers .ensures) (c .before .before .put .ensures)
 
 pub performed-line-spec : {M : Type 1} → statement M
 performed-line-spec =
-    tie.close
-    (tie.spec
-    (λ c κs. search needs)
-    (λ c κs. search needs)
-    (λ c κs. search needs)
-    (λ c κs. search needs)
-    (λ c κs. search needs)
-    (λ c κs. search needs)
-    (λ c κs. search needs)
-    (λ c. search needs)
-    returns)
+    tie.close (tie.spec (λ c κs. search needs) (λ c κs. search needs) (λ c κs. search needs) (λ c κs. search needs) (λ c. search needs) returns)

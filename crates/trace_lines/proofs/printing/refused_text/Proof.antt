@@ -7,18 +7,9 @@ use Rattle.trace_lines.proofs.printing.refused_text.Tie as tie
 
 returns : tie.Need-returns
 unfolding bytes
-returns c = text-puts _ _ _ _ _ _ _ _ _ _ _ _ _
-    (c .before .before .before .before .before .before .before .before .before .before .before .before .before .before .before .before .before .before .put-text .ensures) (c .before .before .before .before .before .before .before .before .before .before .before .before .before .before .put-number .ensures) (c .before .before .before .before .before .before .before .before .before .before .put .ensures) (c .before .before .before .before .before .before .put-number2 .ensures) (c .before .before .put2 .ensures)
+returns c = text-puts _ _ _ _ _ _ _ _ _
+    (c .before .before .before .before .before .before .before .before .before .before .put-text .ensures)
+    (c .before .before .before .before .before .before .put-pair .ensures) (c .before .before .put .ensures)
 
 pub refused-text-spec : {M : Type 1} → statement M
-refused-text-spec =
-    tie.close
-    (tie.spec
-    (λ c. search needs)
-    (λ c κs. search needs)
-    (λ c κs. search needs)
-    (λ c κs. search needs)
-    (λ c κs. search needs)
-    (λ c κs. search needs)
-    (λ c. search needs)
-    returns)
+refused-text-spec = tie.close (tie.spec (λ c. search needs) (λ c κs. search needs) (λ c κs. search needs) (λ c κs. search needs) (λ c. search needs) returns)
