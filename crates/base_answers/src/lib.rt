@@ -1,3 +1,4 @@
+#![tactic(auto)]
 // What the public operations take and answer: the state record, the refusals of document 01's table, and one enum for each kind of answer.
 pub mod numbers;
 
@@ -8,7 +9,7 @@ ghost use Rattle.base_answers.specs.declared.Cycled.TheVariants.{NotPerformed};
 use base_codes::{limit, refusal};
 
 // "A place (512 for the beginning, else a wait's line), 16 output and 32 variable slots".
-#[derive(Drop)]
+#[derive(Clone, Copy)]
 pub struct State {
     pub place: u16,
     pub outputs: [i32; limit::OUTPUTS],
@@ -17,7 +18,7 @@ pub struct State {
 
 // Why a call was turned back: a variant for each row of the table, in its order, with the refusal's place where that is not always 0.
 // Later requests add their rows (19 to 24) at the end.
-#[derive(Drop)]
+#[derive(Clone, Copy)]
 pub enum Refusal {
     TextTooLong,
     NoToken(usize),
@@ -40,7 +41,7 @@ pub enum Refusal {
 }
 
 // Where the sections of an opened image start, and where the last ends: signature, lines, code.
-#[derive(Drop)]
+#[derive(Clone, Copy)]
 pub struct Sections {
     pub signature: usize,
     pub lines: usize,
@@ -49,55 +50,55 @@ pub struct Sections {
 }
 
 // A compile: the number of image bytes written.
-#[derive(Drop)]
+#[derive(Clone, Copy)]
 pub enum Compiled {
     Written(usize),
     NotCompiled(Refusal),
 }
 
 // An image opened: its sections.
-#[derive(Drop)]
+#[derive(Clone, Copy)]
 pub enum Opened {
     Image(Sections),
     NotOpened(Refusal),
 }
 
 // A fresh state asked for; the state itself stands beside the answer.
-#[derive(Drop)]
+#[derive(Clone, Copy)]
 pub enum Started {
     Fresh,
     NotStarted(Refusal),
 }
 
 // What a performed cycle counted: the lines, the wait it ends on included.
-#[derive(Drop)]
+#[derive(Clone, Copy)]
 pub struct Counts {
     pub lines: usize,
 }
 
 // A cycle, of an image or of a text: performed, with what it counted; or turned back.
-#[derive(Drop)]
+#[derive(Clone, Copy)]
 pub enum Cycled {
     Performed(Counts),
     NotPerformed(Refusal),
 }
 
 // Many rows in one call: all of them were run, each with an answer of its own; or none was.
-#[derive(Drop)]
+#[derive(Clone, Copy)]
 pub enum Batched {
     Taken,
     NotTaken(Refusal),
 }
 
 // A cycle's answer, and the state after it.
-#[derive(Drop)]
+#[derive(Clone, Copy)]
 pub struct Advanced {
     pub state: State,
     pub answer: Cycled,
 }
 
 // The answer to a fresh state asked for, and the state.
-#[derive(Drop)]
+#[derive(Clone, Copy)]
 pub struct FreshState {
     pub state: State,
     pub answer: Started,

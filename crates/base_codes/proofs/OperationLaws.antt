@@ -6,7 +6,7 @@ use Prim.Native.Nat.{ℕ, ◌<◌}
 use lib.Dec.{eqb}
 use native.Mathlib.Omega.{arith}
 use borrow.Author.Tests.{ne_eqb, eqb-true}
-use Rattle.spec_design.specs.Expression.{Unary, sign, invert, Binary, plus, minus, equal, unequal, less, at_most, greater, at_least_lem, and, or, xor, times}
+use Rattle.spec_design.specs.Expression.{Unary, sign, invert, Binary, plus, minus, equal, unequal, less, at_most, greater, at_least, and, or, xor, times}
 use Rattle.spec_design.specs.Expression.{divide, modulo, remainder}
 use Rattle.base_codes.specs.Operation.{PLUS, unary_code, binary_code, unary_for, binary_for, operator_of, code_or, operation_of, count_or, operands_of}
 use Rattle.base_codes.proofs.Finite.{all, answers}
@@ -48,7 +48,7 @@ binary_code_lem unequal = refl
 binary_code_lem less = refl
 binary_code_lem at_most = refl
 binary_code_lem greater = refl
-binary_code_lem at_least_lem = refl
+binary_code_lem at_least = refl
 binary_code_lem and = refl
 binary_code_lem or = refl
 binary_code_lem xor = refl
@@ -92,7 +92,7 @@ unary_is k o e = row unary_code 16 sign e refl (λ e. row unary_code 17 invert e
 pub binary_is : (k : ℕ) (o : Binary) → binary_for k ≡ some o → k ≡ binary_code o
 binary_is k o e =
     row binary_code 18 plus e refl (λ e. row binary_code 19 minus e refl (λ e. row binary_code 20 equal e refl (λ e. row binary_code 21 unequal e refl
-    (λ e. row binary_code 22 less e refl (λ e. row binary_code 23 at_most e refl (λ e. row binary_code 24 greater e refl (λ e. row binary_code 25 at_least_lem e refl
+    (λ e. row binary_code 22 less e refl (λ e. row binary_code 23 at_most e refl (λ e. row binary_code 24 greater e refl (λ e. row binary_code 25 at_least e refl
     (λ e. row binary_code 26 and e refl (λ e. row binary_code 27 or e refl (λ e. row binary_code 28 xor e refl
     (λ e. row binary_code 29 times e refl (λ e. row binary_code 30 divide e refl
     (λ e. row binary_code 31 modulo e refl (λ e. row binary_code 32 remainder e refl (λ e. no_row o e)))))))))))))))

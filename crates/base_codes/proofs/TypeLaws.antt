@@ -8,7 +8,7 @@ use native.Mathlib.Omega.{arith}
 use lib.Dec.{eqb}
 use borrow.Author.Tests.{eqb-true, ne_eqb}
 use Rattle.spec_design.specs.Types.{Ty, std_logic, integer, ExprTy, plain, boolean, same_ty, same_type, type_byte}
-use Rattle.spec_design.specs.Expression.{Unary, sign, invert, Binary, plus, minus, equal, unequal, less, at_most, greater, at_least_lem, and, or, xor, times}
+use Rattle.spec_design.specs.Expression.{Unary, sign, invert, Binary, plus, minus, equal, unequal, less, at_most, greater, at_least, and, or, xor, times}
 use Rattle.spec_design.specs.Expression.{divide, modulo, remainder, sum_type, order_type, equality_type, logical_type, type_of_unary, type_of_binary}
 use Rattle.base_codes.specs.Token.{one_of}
 use Rattle.base_codes.specs.Operation.{SIGN, NOT, unary_code, binary_code, unary_for, binary_for}
@@ -204,7 +204,7 @@ binary_result_lem unequal = result_by (binary_code unequal) (type_of_binary uneq
 binary_result_lem less = result_by (binary_code less) (type_of_binary less) refl
 binary_result_lem at_most = result_by (binary_code at_most) (type_of_binary at_most) refl
 binary_result_lem greater = result_by (binary_code greater) (type_of_binary greater) refl
-binary_result_lem at_least_lem = result_by (binary_code at_least_lem) (type_of_binary at_least_lem) refl
+binary_result_lem at_least = result_by (binary_code at_least) (type_of_binary at_least) refl
 binary_result_lem and = result_by (binary_code and) (type_of_binary and) refl
 binary_result_lem or = result_by (binary_code or) (type_of_binary or) refl
 binary_result_lem xor = result_by (binary_code xor) (type_of_binary xor) refl

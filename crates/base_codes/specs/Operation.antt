@@ -2,7 +2,7 @@
 -- a token stand for, how many operands an operation takes, how many bytes it has. Assumes nothing.
 use Rattle.std.specs.Prelude.{cond, ℕ, eqb}
 use Rattle.std.proofs.Math.Option.{Option, none, some}
-use Rattle.spec_design.specs.Expression.{Unary, sign, invert, Binary, plus, minus, equal, unequal, less, at_most, greater, at_least_lem, and, or, xor, times, divide, modulo, remainder}
+use Rattle.spec_design.specs.Expression.{Unary, sign, invert, Binary, plus, minus, equal, unequal, less, at_most, greater, at_least, and, or, xor, times, divide, modulo, remainder}
 use Rattle.base_codes.specs.Token as Token
 
 -- "1 integer (4 bytes), 2 std_logic (1 byte), 3 input, 4 variable (1-byte index)"
@@ -85,7 +85,7 @@ binary_code unequal = NE
 binary_code less = LT
 binary_code at_most = LE
 binary_code greater = GT
-binary_code at_least_lem = GE
+binary_code at_least = GE
 binary_code and = AND
 binary_code or = OR
 binary_code xor = XOR
@@ -101,7 +101,7 @@ unary_for k = cond (eqb k SIGN) (some sign) (cond (eqb k NOT) (some invert) none
 abbrev pub binary_for : ℕ → Option Binary
 binary_for k =
     cond (eqb k PLUS) (some plus) (cond (eqb k MINUS) (some minus) (cond (eqb k EQ) (some equal) (cond (eqb k NE) (some unequal)
-    (cond (eqb k LT) (some less) (cond (eqb k LE) (some at_most) (cond (eqb k GT) (some greater) (cond (eqb k GE) (some at_least_lem)
+    (cond (eqb k LT) (some less) (cond (eqb k LE) (some at_most) (cond (eqb k GT) (some greater) (cond (eqb k GE) (some at_least)
     (cond (eqb k AND) (some and) (cond (eqb k OR) (some or) (cond (eqb k XOR) (some xor)
     (cond (eqb k TIMES) (some times) (cond (eqb k DIVIDE) (some divide) (cond (eqb k MOD) (some modulo) (cond (eqb k REM) (some remainder) none))))))))))))))
 
@@ -109,7 +109,7 @@ binary_for k =
 unfoldable pub operator_of : ℕ → Option Binary
 operator_of k =
     cond (eqb k Token.PLUS) (some plus) (cond (eqb k Token.MINUS) (some minus) (cond (eqb k Token.EQ) (some equal) (cond (eqb k Token.NE) (some unequal)
-    (cond (eqb k Token.LT) (some less) (cond (eqb k Token.LE) (some at_most) (cond (eqb k Token.GT) (some greater) (cond (eqb k Token.GE) (some at_least_lem)
+    (cond (eqb k Token.LT) (some less) (cond (eqb k Token.LE) (some at_most) (cond (eqb k Token.GT) (some greater) (cond (eqb k Token.GE) (some at_least)
     (cond (eqb k Token.AND) (some and) (cond (eqb k Token.OR) (some or) (cond (eqb k Token.XOR) (some xor)
     (cond (eqb k Token.TIMES) (some times) (cond (eqb k Token.DIVIDE) (some divide)
     (cond (eqb k Token.MOD) (some modulo) (cond (eqb k Token.REM) (some remainder) none))))))))))))))

@@ -1,3 +1,4 @@
+#![tactic(auto)]
 // The numbers by which arrays and images hold things, each under one name. Where a definition speaks of such a number, specs/ has it under the same name.
 pub mod declaration; // rows of declared names
 pub mod image; // the bytes of an image

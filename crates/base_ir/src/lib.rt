@@ -1,9 +1,10 @@
+#![tactic(auto)]
 // The design of an accepted text between the front end and what comes behind it: what it declares, in a struct by value; its statements and operations in lent arrays.
 use base_codes::limit;
 
 // The declared names of one kind in declared order: how many there are; the type of each, its initial value, and where its name starts in the text and how many
 // bytes it has. The places behind the last are 0.
-#[derive(Drop)]
+#[derive(Clone, Copy)]
 pub struct Names {
     pub count: usize,
     pub types: [u8; limit::VARIABLES],
@@ -13,7 +14,7 @@ pub struct Names {
 }
 
 // What a design declares, the clock left out, and how many statements and operations its arrays hold.
-#[derive(Drop)]
+#[derive(Clone, Copy)]
 pub struct Declared {
     pub statements: usize,
     pub operations: usize,

@@ -15,7 +15,7 @@ use mir.Syntax.{w32}
 use mir.Val.{SFits, to_z, of_z}
 use mir.Facts.{to_z-of_z}
 use Rattle.spec_design.specs.Types.{std_logic, integer, ExprTy, plain, boolean}
-use Rattle.spec_design.specs.Expression.{Unary, sign, invert, Binary, plus, minus, equal, unequal, less, at_most, greater, at_least_lem, and, or, xor, times}
+use Rattle.spec_design.specs.Expression.{Unary, sign, invert, Binary, plus, minus, equal, unequal, less, at_most, greater, at_least, and, or, xor, times}
 use Rattle.spec_design.specs.Expression.{divide, modulo, remainder, leaf, int, unary, binary, Out, fine, fault, bind, fold}
 use Rattle.spec_design.specs.Expression.{sum_type, order_type, equality_type, logical_type, type_of_unary, type_of_binary}
 use Rattle.spec_semantics.specs.Evaluation.{as_integer, binary_result, apply_unary, apply_binary, leaf_value, evaluate}
@@ -83,7 +83,7 @@ multiplied_other k x y h a b c d = by_binary (λ o. Refused 13 ≡ checked_of (b
     two less q = low (omega arith) (omega arith)
     two at_most q = low (omega arith) (omega arith)
     two greater q = low (omega arith) (omega arith)
-    two at_least_lem q = low (omega arith) (omega arith)
+    two at_least q = low (omega arith) (omega arith)
     two and q = refl
     two or q = refl
     two xor q = refl
@@ -104,7 +104,7 @@ logical_other k x y a b c = by_binary (λ o. Refused 13 ≡ checked_of (binary_b
     two less q = refl
     two at_most q = refl
     two greater q = refl
-    two at_least_lem q = refl
+    two at_least q = refl
     two and q = absurd (a q)
     two or q = absurd (b q)
     two xor q = absurd (c q)
@@ -128,7 +128,7 @@ bits_other k x y a b =
     two less q = refl
     two at_most q = refl
     two greater q = refl
-    two at_least_lem q = refl
+    two at_least q = refl
     two and q = refl
     two or q = refl
     two xor q = refl

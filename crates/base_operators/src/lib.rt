@@ -1,3 +1,4 @@
+#![tactic(auto)]
 // The operators of document 01 by number, type by type: the one table, for the image's evaluator and for the direct run. An operator that is added gets a
 // line here, in the function of each type that it takes; a type that is added gets a function and a line in `unary` and `binary`.
 ghost use Rattle.std.specs.Prelude.{◌≡◌, ◌&&◌, ◌||◌, ◌+◌, ◌≤◌, ◌<◌, length, get_or, ℤ, pos};

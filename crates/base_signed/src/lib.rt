@@ -1,3 +1,4 @@
+#![tactic(auto)]
 // 32-bit integers of document 01, exact: sums and products through 64 bits, quotients behind tests of what the machine does not divide, comparisons,
 // two's complement, the values of a type. No other crate computes with signed numbers.
 ghost use Rattle.std.specs.Prelude.{◌≡◌, ◌&&◌, cond, negsuc, ◌+ℤ◌, ◌-ℤ◌, ◌*ℤ◌, neg_ℤ};
@@ -23,7 +24,7 @@ const UPPER: u32 = 2147483648;
 const LAST: u32 = 4294967295;
 
 // The result of an operator: an integer, or the number of the refusal.
-#[derive(Drop)]
+#[derive(Clone, Copy)]
 pub enum Checked {
     Value(i32),
     Refused(u8),

@@ -16,7 +16,7 @@ pub data Unary : Type 0 where
 
 -- + - = /= < <= > >= and or xor; * / mod rem
 pub data Binary : Type 0 where
-  plus minus equal unequal less at_most greater at_least_lem and or xor times divide modulo remainder : Binary
+  plus minus equal unequal less at_most greater at_least and or xor times divide modulo remainder : Binary
 
 -- an operator stands with the type of its operands; the left operand comes first
 pub data Expr : Type 0 where
@@ -67,7 +67,7 @@ type_of_binary unequal t = equality_type t
 type_of_binary less t = order_type t
 type_of_binary at_most t = order_type t
 type_of_binary greater t = order_type t
-type_of_binary at_least_lem t = order_type t
+type_of_binary at_least t = order_type t
 type_of_binary and t = logical_type t
 type_of_binary or t = logical_type t
 type_of_binary xor t = logical_type t

@@ -3,7 +3,7 @@
 use mathlib.Core.Path.{◌≡◌, refl}
 use mathlib.Core.Option.{bind as and_then}
 use mathlib.Core.List.{List, [], ◌∷◌, ◌++◌}
-use Prim.Native.Nat.{ℕ, suc, ◌+◌}
+use Prim.Native.Nat.{ℕ, suc}
 use lib.ListN.{length, take, drop, get_or, set, replicate}
 use lib.IntN.{ℤ, pos, negsuc}
 use Rattle.base_answers.specs.declared.State.{State}

@@ -8,7 +8,7 @@ use mathlib.Core.List.{List, [], ◌∷◌, ◌++◌, append-nil}
 use lib.ListN.{length, length-append}
 use Rattle.spec_design.specs.Types.{ExprTy, in_range}
 use Rattle.spec_design.specs.Expression.{Leaf, int, bit, input, variable, Unary, sign, invert, Binary, plus, minus, equal, unequal, less, at_most, greater}
-use Rattle.spec_design.specs.Expression.{at_least_lem, and, or, xor, times, divide, modulo, remainder, Expr, leaf, unary, binary, items, Out, fine, fault, bind}
+use Rattle.spec_design.specs.Expression.{at_least, and, or, xor, times, divide, modulo, remainder, Expr, items, Out, fine, fault, bind}
 use Rattle.spec_design.specs.Expression.{Algebra, fold}
 use Rattle.spec_design.proofs.Postfix.{Lays, lay_items, stack_law}
 use Rattle.spec_semantics.proofs.Basic.{none_some}
@@ -109,7 +109,7 @@ read_apply2 unequal s = refl
 read_apply2 less s = refl
 read_apply2 at_most s = refl
 read_apply2 greater s = refl
-read_apply2 at_least_lem s = refl
+read_apply2 at_least s = refl
 read_apply2 and s = refl
 read_apply2 or s = refl
 read_apply2 xor s = refl

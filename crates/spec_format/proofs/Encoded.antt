@@ -8,7 +8,7 @@ use mathlib.Core.List.{List, [], ◌∷◌, ◌++◌, append_assoc}
 use lib.ListN.{length, length-map}
 use Rattle.spec_design.specs.Types.{Ty, std_logic, integer, ExprTy, type_byte}
 use Rattle.spec_design.specs.Expression.{Leaf, int, bit, input, variable, Unary, sign, invert, Binary, plus, minus, equal, unequal, less, at_most, greater}
-use Rattle.spec_design.specs.Expression.{at_least_lem, and, or, xor, times, divide, modulo, remainder, Expr, leaf, unary, binary, leaf_type, type_of_unary, type_of_binary}
+use Rattle.spec_design.specs.Expression.{at_least, and, or, xor, times, divide, modulo, remainder, Expr, leaf_type, type_of_unary, type_of_binary}
 use Rattle.spec_design.specs.Expression.{type_of}
 use Rattle.spec_design.proofs.Postfix.{Steps, lay_whole}
 use Rattle.spec_design.specs.Statement.{output, variable as assign, null}
@@ -45,7 +45,7 @@ binary_small unequal = omega arith
 binary_small less = omega arith
 binary_small at_most = omega arith
 binary_small greater = omega arith
-binary_small at_least_lem = omega arith
+binary_small at_least = omega arith
 binary_small and = omega arith
 binary_small or = omega arith
 binary_small xor = omega arith

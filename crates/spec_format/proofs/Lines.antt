@@ -15,7 +15,7 @@ use Rattle.spec_design.specs.Statement.{output, variable, null}
 use Rattle.spec_design.specs.Process.{typed_act}
 use Rattle.spec_semantics.proofs.Basic.{false_true, none_some, some_injective, eqb-true, eqb_same, and_left, and_right, cond_case}
 use Rattle.spec_format.specs.Words.{Bytes, only_if}
-use Rattle.spec_format.specs.Code.{code, decode}
+use Rattle.spec_format.specs.Code.{decode}
 use Rattle.spec_format.specs.Signature.{Signature, types}
 use Rattle.spec_format.specs.Lines.{Line, waits, acts, branches, reach_of}
 use Rattle.spec_format.specs.Image.{RawLine, raw_bytes, raws_bytes, code_of_line, code_of_lines, raw, raw_of, raws_of}

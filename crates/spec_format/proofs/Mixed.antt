@@ -7,7 +7,7 @@ use mathlib.Core.Option.{bind as and_then}
 use Prim.Native.Nat.{ℕ}
 use lib.IntN.{pos, negsuc}
 use Rattle.spec_design.specs.Types.{std_logic, integer, plain, boolean, same_ty, same_type, in_range, in_type}
-use Rattle.spec_design.specs.Expression.{int, bit, input, variable, sign, invert, plus, minus, equal, unequal, at_least_lem, and, or, Expr, leaf, unary, binary}
+use Rattle.spec_design.specs.Expression.{int, bit, input, variable, sign, invert, plus, minus, equal, unequal, at_least, and, or, Expr, leaf, unary, binary}
 use Rattle.spec_design.specs.Expression.{items, nth, plainly, bind, leaf_type, given, given2, type_of_unary, type_of_binary, sum_type, order_type, equality_type}
 use Rattle.spec_design.specs.Expression.{logical_type, type_of}
 use Rattle.spec_design.specs.Statement.{output, variable as assign, null, act, wait, if_else, seq, size}
@@ -25,7 +25,7 @@ use Rattle.spec_format.specs.Encode.{signature_for, table_of, encode}
 abbrev condition : Expr
 condition =
     binary or boolean (binary equal (plain std_logic) (leaf (input 0)) (leaf (bit true)))
-    (binary at_least_lem (plain integer) (leaf (input 1)) (binary minus (plain integer) (unary sign (plain integer) (leaf (int (pos 3)))) (leaf (variable 1))))
+    (binary at_least (plain integer) (leaf (input 1)) (binary minus (plain integer) (unary sign (plain integer) (leaf (int (pos 3)))) (leaf (variable 1))))
 
 -- not a and v
 abbrev conjunction : Expr

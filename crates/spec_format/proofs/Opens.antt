@@ -11,7 +11,6 @@ use lib.Dec.{leb, eqb}
 use borrow.Author.Tests.{leb-true}
 use Rattle.spec_semantics.proofs.Basic.{eqb-true, and_left, and_right}
 use Rattle.spec_format.specs.Words.{Bytes}
-use Rattle.spec_format.specs.Code.{code}
 use Rattle.spec_format.specs.Signature.{Signature, signature_bytes, signature_of, GoodSignature}
 use Rattle.spec_format.specs.Lines.{Line}
 use Rattle.spec_format.specs.Image.{Table, raws_bytes, code_of_lines, raws_of, pairs, joined, image, Sections, form1, sections_for, encode_table}

@@ -13,7 +13,7 @@ use Rattle.spec_grammar.specs.Token.{Token}
 use Rattle.spec_grammar.specs.Tree.{Text}
 use Rattle.spec_grammar.specs.Grammar.{text, Mark, Production, productions, text_production}
 use Rattle.spec_grammar.specs.Meter.{Meter, zeroes, over}
-use Rattle.spec_grammar.specs.Derivation.{◌∈◌, here, there, Tree, by, span, mark, marks, says, Reads}
+use Rattle.spec_grammar.specs.Derivation.{◌∈◌, here, there, Tree, by, span, mark, says, Reads}
 use Rattle.spec_grammar.specs.Reader.{elem, first, firsts, follow, nullable, nullables, Outcome, read, refused, limited, run, read_text}
 use Rattle.spec_grammar.specs.Acceptance.{Begins, Passes, Within, Stops, Answer, accepted, no_sentence, past_limit, Exactly}
 use Rattle.spec_grammar.specs.Reader.{placed, answer}

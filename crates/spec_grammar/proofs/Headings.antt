@@ -112,7 +112,7 @@ port_ends i o v g = init_idle act (λ c. refl) g.init _ ∙ mode_ends i o v g.mo
 more_ports_end : (i o v : ℕ) (gs : List Group) → on_more_ports (by_marks act) gs (of_ports 0 i o v) ≡ of_ports 0 (i + input_count gs) (o + output_count gs) v
 unfolding on_more_ports act tick input_count output_count
 more_ports_end i o v [] = same_ports 0 v (omega arith) (omega arith)
-more_ports_end i o v (g ∷ gs) = rw (port_ends i o v g) (more_ports_end _ _ v gs ∙ same_ports 0 v (omega arith) (omega arith))
+more_ports_end i o v (g ∷ gs) = rw (port_ends i o v g) (more_ports_end (i + if_input g.mode (length g.names)) (o + if_output g.mode (length g.names)) v gs ∙ same_ports 0 v (omega arith) (omega arith))
 
 ports_end : (gs : List Group) → on_ports (by_marks act) gs (of_ports 0 0 0 0) ≡ of_ports 0 (input_count gs) (output_count gs) 0
 unfolding on_ports input_count output_count

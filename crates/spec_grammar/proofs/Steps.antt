@@ -8,7 +8,7 @@ use native.Mathlib.Omega.{arith}
 use lib.Dec.{T, eqb, ltb, eqb_refl, eqb→eq, ltb→lt}
 use Rattle.spec_grammar.specs.Token.{Token}
 use Rattle.spec_grammar.specs.Grammar.{NonTerminal, Says, Mark, Sym, tk, nt, Fun, Production, productions}
-use Rattle.spec_grammar.specs.Derivation.{◌∈◌, Trees, token, spans, marks, says, says_all}
+use Rattle.spec_grammar.specs.Derivation.{◌∈◌, Trees, token, spans, marks, says_all}
 use Rattle.spec_grammar.specs.Reader.{nullable, first, follow, rank, elem, choose, nullables, firsts, chosen, compose, Pick, take, no_rule, pick, Step}
 use Rattle.spec_grammar.specs.Reader.{stuck, skip, to, on_skip, shift, through, by_rule, enter, advance}
 use Rattle.spec_grammar.proofs.Sets.{and_left, and_right, elem_left, elem_right, elem_cases, elem_choose, choose_elem, subset, within, not_T}

@@ -48,20 +48,20 @@ within c = record { statements = c.statements; depth = c.depth; begun = 0 }
 abbrev begin : InBody → InBody
 begin c = record { statements = suc c.statements; depth = c.depth; begun = c.depth }
 
-abbrev body_count_lem : Mark → InBody → InBody
-body_count_lem plain c = within c
-body_count_lem item c = within c
-body_count_lem opens c = within c
-body_count_lem closes c = within c
-body_count_lem fresh c = within c
-body_count_lem stmt c = begin c
-body_count_lem stmt_fresh c = begin c
-body_count_lem deeper c = record { statements = c.statements; depth = suc c.depth; begun = 0 }
-body_count_lem shallower c = record { statements = c.statements; depth = pred c.depth; begun = 0 }
-body_count_lem declares c = within c
-body_count_lem ins c = within c
-body_count_lem outs c = within c
-body_count_lem variables c = within c
+abbrev counted_in_body : Mark → InBody → InBody
+counted_in_body plain c = within c
+counted_in_body item c = within c
+counted_in_body opens c = within c
+counted_in_body closes c = within c
+counted_in_body fresh c = within c
+counted_in_body stmt c = begin c
+counted_in_body stmt_fresh c = begin c
+counted_in_body deeper c = record { statements = c.statements; depth = suc c.depth; begun = 0 }
+counted_in_body shallower c = record { statements = c.statements; depth = pred c.depth; begun = 0 }
+counted_in_body declares c = within c
+counted_in_body ins c = within c
+counted_in_body outs c = within c
+counted_in_body variables c = within c
 
 -- a declared name: a variable, or a port whose mode is still to come
 abbrev declare : Bool → InHeading → InHeading
@@ -110,7 +110,7 @@ zeroes = record {
 unfoldable pub tick : Meter → Mark → Token → Meter
 tick c m x = record {
   expr = expression_count m c.expr;
-  body = body_count_lem m c.body;
+  body = counted_in_body m c.body;
   head = heading_count m c.head;
   bytes = only (eqb x.kind NAME) x.size;
   literal = only (eqb x.kind NUMBER) x.value;

@@ -18,7 +18,7 @@ compile_writes text buffer =
     record {
       fits = λ d e h. ap by e ∙ fits_written (encode d) buffer h;
       too_short = λ d e h. ap by e ∙ short_written (encode d) buffer h;
-      turned_back_lem = λ q k e. ap by e;
+      when_turned_back = λ q k e. ap by e;
     }
 
 -- a compile that is refused leaves the buffer

@@ -17,7 +17,7 @@ pub record CompileWrites (text buffer : List ℕ) : Type 0 where
       → compile_of text buffer ≡ record { answer = written (length (encode d)); buffer = encode d ++ drop (length (encode d)) buffer }
   pub too_short : (d : Process) → verdict text ≡ accepted d → length buffer < length (encode d)
       → compile_of text buffer ≡ record { answer = not_compiled 10 (length (encode d)); buffer = buffer }
-  pub turned_back_lem : (q k : ℕ) → verdict text ≡ refused q k → compile_of text buffer ≡ record { answer = not_compiled q k; buffer = buffer }
+  pub when_turned_back : (q k : ℕ) → verdict text ≡ refused q k → compile_of text buffer ≡ record { answer = not_compiled q k; buffer = buffer }
 
 -- .. and of a compile that wrote n bytes: the text was accepted, and these are the bytes of its image
 pub record Wrote (text buffer : List ℕ) (n : ℕ) : Type 0 where

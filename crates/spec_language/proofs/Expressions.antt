@@ -17,7 +17,7 @@ use Rattle.spec_language.specs.Names.{doubled, readable, names_in}
 use Rattle.spec_language.specs.Typing.{on_one, result_of, on_two, type_of, wrong1, wrong2, types_in}
 use Rattle.base_codes.specs.Operation.{operator_of}
 use Rattle.spec_language.specs.Clock.{reads_in}
-use Rattle.spec_language.specs.Elaboration.{Means, number, bit, input, variable, sign, invert, binary, parens, position, name_code, named, or_boolean}
+use Rattle.spec_language.specs.Elaboration.{Means, number, bit, input, variable, sign, invert, binary, parens, name_code, named, or_boolean}
 use Rattle.spec_language.specs.Elaboration.{or_plus, code}
 use Rattle.spec_language.proofs.Facts.{clash, no_cons, no_some, both_nil, unless_nil, not-true, find_name, kth_found, Found, found_kth}
 

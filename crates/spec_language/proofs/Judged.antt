@@ -42,6 +42,7 @@ ruled_free (r ∷ rs) t f = rw f.0 (ruled_free rs t f.1)
 
 ruled_first : (rs : List Stage) (t : Text) (n p : ℕ) → First t n p rs → ruled rs t ≡ refused n p
 unfolding ruled judged lowest_offence
+ruled_first [] t n p i = elim i [ ]
 ruled_first (r ∷ rs) t n p (Q.First.here h) = rw (is_lowest (r t) (record { number = n; place = p }) h)
 ruled_first (r ∷ rs) t n p (Q.First.there e h) = rw e (ruled_first rs t n p h)
 
@@ -92,7 +93,7 @@ right b = size (leb (length b) 16384) refl
 
     lexing : length b ≤ 16384 → (x : Lexed) → lex b ≡ x → Right b (lexed (length b) x)
     lexing s (tokens ts) l = parse s ts l (answer ts) refl
-    lexing s (L.malformed p) l = Q.no_token_lem s ((lex_stops b p).0 l)
+    lexing s (L.malformed p) l = Q.token_missing s ((lex_stops b p).0 l)
 
     long : leb (length b) 16384 ≡ false → 16384 < length b
     long e = at (dec_le (length b) 16384)
@@ -125,7 +126,7 @@ refuses_computed b n p (Q.too_long h) = at (leb (length b) 16384) refl
     at : (q : Bool) → leb (length b) 16384 ≡ q → verdict b ≡ refused 1 0
     at true e = let k = leb→le (length b) 16384 (is_T e) in absurd (omega arith)
     at false e = rw e
-refuses_computed b n p (Q.no_token_lem s h) = rw (T_is (leb (length b) 16384) (le→leb (length b) 16384 s), (lex_stops b p).1 h)
+refuses_computed b n p (Q.token_missing s h) = rw (T_is (leb (length b) 16384) (le→leb (length b) 16384 s), (lex_stops b p).1 h)
 refuses_computed b n p (Q.no_sentence {k} ts s l e) =
     rw (T_is (leb (length b) 16384) (le→leb (length b) 16384 s), (lex_tokens b ts).1 l, (answers ts (P.no_sentence k)).1 e)
 refuses_computed b n p (Q.past_limit {k} ts s l e) =

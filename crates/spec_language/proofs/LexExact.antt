@@ -108,7 +108,7 @@ lexes_computed {n} (S.token {k} {v} {w} {rest} p r) = at_token w rest k v n p
 
 pub stops_computed : {n p : ℕ} {t : List ℕ} → Stops n t p → lex_from t 0 n ≡ L.malformed p
 unfolding ◌▸◌
-stops_computed {n} (S.no_token_lem {b} {l} h) = at_none b l n h
+stops_computed {n} (S.token_missing {b} {l} h) = at_none b l n h
 stops_computed {n} (S.Stops.malformed {w} {rest} q) = at_bad w rest n q
 stops_computed {n} (S.Stops.gap {w} {rest} q r) = at_gap w rest n q ∙ stops_computed r
 stops_computed {n} (S.Stops.token {k} {v} {w} {rest} q r) = at_token w rest k v n q
@@ -153,7 +153,7 @@ step m ih (b ∷ t) n l = go (starts b t)
         (ih rest (n + length w) (shorter w rest (b ∷ t) m (piece_some w rest (Meaning.token k v) p (token_something k v)) e l))))
     go (bad {w} {rest} p e) = subst (λ (y : List ℕ). Right n y (lex_from y 0 n)) (sym e)
         (subst (Right n (w ++ rest)) (sym (at_bad w rest n p)) (S.Stops.malformed p))
-    go (none h) = subst (Right n (b ∷ t)) (sym (at_none b t n h)) (S.no_token_lem h)
+    go (none h) = subst (Right n (b ∷ t)) (sym (at_none b t n h)) (S.token_missing h)
 
 pub right : (m : ℕ) (t : List ℕ) (n : ℕ) → length t ≤ m → Right n t (lex_from t 0 n)
 unfolding lex_from

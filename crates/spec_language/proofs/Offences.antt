@@ -165,5 +165,6 @@ unfolding by
 in_by k places t o i = go o (places t) i
   where
     go : (o : Offence) (ps : List ℕ) → In o (map (at k) ps) → (o.number ≡ k) × In o.place ps
+    go o [] i = elim i [ ]
     go o (q ∷ ps) Q.In.here = (refl, Q.In.here)
     go o (q ∷ ps) (Q.In.there i) = let r = go o ps i in (r.0, Q.In.there r.1)

@@ -133,13 +133,13 @@ at_bad (b ∷ w) rest n p q = at_unknown b (w ++ rest) n p (step_bad (b ∷ w) r
 
 -- refusal 2 stands at or after n
 stop_after : {n p : ℕ} {t : List ℕ} → Stops n t p → n ≤ p
-stop_after (S.no_token_lem h) = omega arith
+stop_after (S.token_missing h) = omega arith
 stop_after (S.Stops.malformed q) = omega arith
 stop_after (S.Stops.gap {w} q r) = let h = stop_after r in omega arith
 stop_after (S.Stops.token {w} q r) = let h = stop_after r in omega arith
 
 from_stop : {n p : ℕ} {t : List ℕ} → Stops n t p → token_from t 0 n p ≡ []
-from_stop {n} (S.no_token_lem {b} {l} h) = at_unknown b l n n (step_none (b ∷ l) (start_of b l) (starts b l) h)
+from_stop {n} (S.token_missing {b} {l} h) = at_unknown b l n n (step_none (b ∷ l) (start_of b l) (starts b l) h)
 from_stop {n} (S.Stops.malformed {w} {rest} q) = at_bad w rest n n q
 from_stop {n} {p} (S.Stops.gap {w} {rest} q r) = at_gap w rest n p q ∙ from_stop r
 from_stop {n} {p} (S.Stops.token {k} {v} {w} {rest} q r) =

@@ -66,7 +66,7 @@ pub data Lexes : ℕ → List ℕ → List Token → Type 0 where
 
 -- refusal 2 at p, "byte that begins no token, malformed word": they are tokens up to p, and there no token begins, or a malformed word
 pub data Stops : ℕ → List ℕ → ℕ → Type 0 where
-  no_token_lem : {n b : ℕ} {l : List ℕ} → ((w r : List ℕ) → b ∷ l ≡ w ++ r → meaning w ≡ nothing) → Stops n (b ∷ l) n
+  token_missing : {n b : ℕ} {l : List ℕ} → ((w r : List ℕ) → b ∷ l ≡ w ++ r → meaning w ≡ nothing) → Stops n (b ∷ l) n
   malformed : {n : ℕ} {w rest : List ℕ} → Piece w rest Meaning.malformed → Stops n (w ++ rest) n
   gap : {n p : ℕ} {w rest : List ℕ} → Piece w rest Meaning.gap → Stops (n + length w) rest p → Stops n (w ++ rest) p
   token : {n p k v : ℕ} {w rest : List ℕ} → Piece w rest (Meaning.token k v) → Stops (n + length w) rest p → Stops n (w ++ rest) p

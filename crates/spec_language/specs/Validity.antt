@@ -62,7 +62,7 @@ pub record Valid (b : List ℕ) (d : Process) : Type 0 where
 -- the rows 1 to 9 of the table of refusals
 pub data Refuses (b : List ℕ) : ℕ → ℕ → Type 0 where
   too_long : 16384 < length b → Refuses b 1 0
-  no_token_lem : {p : ℕ} → length b ≤ 16384 → Stops 0 b p → Refuses b 2 p
+  token_missing : {p : ℕ} → length b ≤ 16384 → Stops 0 b p → Refuses b 2 p
   no_sentence : {k : ℕ} (ts : List Token) → length b ≤ 16384 → Lexes 0 b ts → Exactly ts (A.no_sentence k) → Refuses b 3 (place_of (length b) ts k)
   past_limit : {k : ℕ} (ts : List Token) → length b ≤ 16384 → Lexes 0 b ts → Exactly ts (A.past_limit k) → Refuses b 4 (place_of (length b) ts k)
   offends : {n p : ℕ} {t : Text} → Parses b t → First t n p table → Refuses b n p

@@ -142,9 +142,9 @@ module _ (image : List ℕ) (h : Bytes image) (s : State) (n : ℕ) (is os : Lis
               let b : k ≡ 0 = cc in
               by_length t f no a b
 
-  pub turned_back_lem : BatchRefused image n is os ns q k → batch_of image s n is os ns ≡ record { answer = refusal q k; state = s; rows = os; answers = ns }
-  turned_back_lem (by_image r) = closed_batch image s n is os ns q k ((refused_exactly image h q k).1 r)
-  turned_back_lem (by_length t e d a b) =
+  pub when_turned_back : BatchRefused image n is os ns q k → batch_of image s n is os ns ≡ record { answer = refusal q k; state = s; rows = os; answers = ns }
+  when_turned_back (by_image r) = closed_batch image s n is os ns q k ((refused_exactly image h q k).1 r)
+  when_turned_back (by_length t e d a b) =
       batch_17 image s n is os ns t e d
       ∙ (ap (λ (m : ℕ). record { answer = refusal m 0; state = s; rows = os; answers = ns }) (sym a)
       ∙ ap (λ (m : ℕ). record { answer = refusal q m; state = s; rows = os; answers = ns }) (sym b))
@@ -251,7 +251,7 @@ batched image h s n is os ns =
     record {
       comes = batch_cases image s n is os ns (λ b. ((q k : ℕ) → b.answer ≡ refusal q k → BatchRefused image n is os ns q k) → Comes image s n is os ns b)
           (λ q k f. turned_away q k (f q k refl)) (λ t e d f. takes t e d) (turned_there image h s n is os ns);
-      refused = λ q k. (turned_there image h s n is os ns q k, λ r. ap (λ (b : Batch). b.answer) (turned_back_lem image h s n is os ns q k r));
+      refused = λ q k. (turned_there image h s n is os ns q k, λ r. ap (λ (b : Batch). b.answer) (when_turned_back image h s n is os ns q k r));
       place = λ q k e. turned_place image h s n is os ns q k (turned_there image h s n is os ns q k e);
       untouched = λ q k. batch_cases image s n is os ns (λ b. b.answer ≡ refusal q k → b ≡ record { answer = refusal q k; state = s; rows = os; answers = ns })
           (λ x y e. ap (λ (a : Told (List Called)). record { answer = a; state = s; rows = os; answers = ns }) e) (λ t e d f. done_refused f);

@@ -25,7 +25,7 @@ use Rattle.spec_interface.proofs.CInterface.{back}
 use Rattle.spec_promises.specs.Promises.{done_numbers}
 use Rattle.spec_promises.specs.Batch.{DueTo, slots_after, rows_after, answers_after, end_to_end_in_c, BatchInC, BatchOfTextInC}
 use Rattle.spec_promises.proofs.CInterface.{wait_whole, wrote_in_c, wrote_bytes, calls_in_c_lem}
-use Rattle.spec_promises.proofs.Batch.{batch_taken, turned_back_lem, text_opens, text_due, text_calls}
+use Rattle.spec_promises.proofs.Batch.{batch_taken, when_turned_back, text_opens, text_due, text_calls}
 
 -- THE ROWS GIVEN SINGLY
 module _ (image : List ℕ) (h : Bytes image) (t : Table) (e : open_of image ≡ opened t) where
@@ -68,7 +68,7 @@ module _ (image : List ℕ) (h : Bytes image) (t : Table) (e : open_of image ≡
 pub batch_in_c_lem : (image : List ℕ) → Bytes image → (l : List ℤ) (n : ℕ) (is os : List ℤ) (ns : List ℕ) → BatchInC image l n is os ns
 batch_in_c_lem image h l n is os ns =
     record {
-      refused = λ q k r. ap (λ (b : Batch). batch_left b l) (turned_back_lem image h (state_of_c l) n is os ns q k r);
+      refused = λ q k r. ap (λ (b : Batch). batch_left b l) (when_turned_back image h (state_of_c l) n is os ns q k r);
       taken = λ t e d. taken_in_c image h t e l n is os ns d;
     }
 

@@ -53,7 +53,7 @@ use Rattle.spec_promises.proofs.Cases.{compiles, image_opens, image_starts, imag
 -- COMPILE
 module _ (text buffer : List ℕ) (q k : ℕ) where
   compile_back : P.CompileRefused text buffer q k → (compile_of text buffer).answer ≡ not_compiled q k
-  compile_back (P.CompileRefused.by_text r) = ap (λ (w : Writing). w.answer) ((compile_writes text buffer).turned_back_lem q k ((J.refuses text q k).1 r))
+  compile_back (P.CompileRefused.by_text r) = ap (λ (w : Writing). w.answer) ((compile_writes text buffer).when_turned_back q k ((J.refuses text q k).1 r))
   compile_back (P.CompileRefused.by_buffer d v h e f) =
       ap (λ (w : Writing). w.answer) ((compile_writes text buffer).too_short d ((J.accepts text d).1 v) h)
       ∙ (ap (λ (n : ℕ). not_compiled n (length (encode d))) (sym e) ∙ ap (λ (n : ℕ). not_compiled q n) (sym f))
@@ -117,7 +117,7 @@ module _ (image : List ℕ) (h : Bytes image) (q k : ℕ) where
     unfolding cycle_of row_of table_row
     cycle_back (P.CycleRefused.by_image r) =
         ap (λ (o : Opened). (unless_closed o s c.outputs (λ u. row_of u s c.inputs c.outputs)).answer) ((refused_exactly image h q k).1 r)
-    cycle_back (P.CycleRefused.by_Row t e m f) =
+    cycle_back (P.CycleRefused.by_row t e m f) =
         let z : (row_of t s c.inputs c.outputs).answer ≡ not_performed 14 k = rw ((row_exactly t.signature c.inputs (length c.outputs) k).1 m) in
         ap (λ (r : Called). r.answer) (opened_row t e) ∙ (z ∙ ap (λ (n : ℕ). not_performed n k) (sym f))
     cycle_back (P.CycleRefused.by_state t e m n f j) =
@@ -132,7 +132,7 @@ module _ (image : List ℕ) (h : Bytes image) (q k : ℕ) where
     on_outcome t o _ (O.row_refused x m) e =
         let a : q ≡ 14 = cc in
         let b : x ≡ k = cc in
-        P.CycleRefused.by_Row t o (subst (O.Meets14 t.signature c.inputs (length c.outputs)) b m) a
+        P.CycleRefused.by_row t o (subst (O.Meets14 t.signature c.inputs (length c.outputs)) b m) a
     on_outcome t o _ (O.state_refused m g) e =
         let a : q ≡ 15 = cc in
         let b : k ≡ 0 = cc in
@@ -188,7 +188,7 @@ module _ (text : List ℕ) (q k : ℕ) where
     direct_back : P.DirectRefused text s c q k → (direct_of text s c).answer ≡ not_performed q k
     unfolding direct_of direct_row
     direct_back (P.DirectRefused.by_text r) = ap (λ (x : Verdict). (unless_refused x s c).answer) ((J.refuses text q k).1 r)
-    direct_back (P.DirectRefused.by_Row d v m e) =
+    direct_back (P.DirectRefused.by_row d v m e) =
         let z : (direct_row d s c).answer ≡ not_performed 14 k = rw ((meets_14_exactly d (fed c) k).1 m) in
         ap (λ (r : Called). r.answer) (accepted_row d v) ∙ (z ∙ ap (λ (n : ℕ). not_performed n k) (sym e))
     direct_back (P.DirectRefused.by_state d v m n e f) =
@@ -220,7 +220,7 @@ module _ (text : List ℕ) (q k : ℕ) where
     on_text_lem _ (P.RunsText.by_14 d v x m) e =
         let a : q ≡ 14 = cc in
         let b : x ≡ k = cc in
-        P.DirectRefused.by_Row d v (subst (Meets14 d (fed c)) b m) a
+        P.DirectRefused.by_row d v (subst (Meets14 d (fed c)) b m) a
     on_text_lem _ (P.RunsText.by_15 d v m n) e =
         let a : q ≡ 15 = cc in
         let b : k ≡ 0 = cc in

@@ -3,7 +3,6 @@
 use mathlib.Core.Path.{◌≡◌, refl, sym, ◌∙◌, ap}
 use mathlib.Core.List.{List, [], ◌∷◌}
 use Prim.Native.Nat.{ℕ}
-use lib.ListN.{length, take}
 use Rattle.base_answers.specs.declared.State.{State}
 use Rattle.spec_design.specs.Process.{Process, WellFormed}
 use Rattle.spec_language.specs.Validity.{Valid}

@@ -12,7 +12,6 @@ use borrow.Author.Tests.{ltb-true, lt-ltb}
 use Rattle.base_answers.specs.declared.State.{State}
 use Rattle.spec_design.specs.Statement.{Stmt, act, wait, if_then, if_else, while, seq, size, has}
 use Rattle.spec_design.specs.Process.{Process, WellFormed}
-use Rattle.spec_semantics.specs.Equations.{at}
 use Rattle.spec_semantics.specs.Rows.{row_refusal, judged}
 use Rattle.spec_semantics.proofs.Basic.{false_true, eqb_same, and_left, and_right, or_left, or_right}
 use Rattle.spec_semantics.proofs.Results.{has_below}

@@ -64,15 +64,15 @@ token_is t p u = (
 )
 
 -- the empty part, exactly where none starts
-no_token_lem : (t : List ℕ) (p : ℕ) → (token_at t p ≡ []) ↔ ((u : List ℕ) → Starts 0 t p u → ⊥)
-no_token_lem t p = (
+token_missing : (t : List ℕ) (p : ℕ) → (token_at t p ≡ []) ↔ ((u : List ℕ) → Starts 0 t p u → ⊥)
+token_missing t p = (
   λ e u s. let z = (token_is t p u).0 s in let a = z.1 in let h : length u ≡ 0 = ap length (sym z.0 ∙ e) in omega arith,
   λ h. ⊎_elim (λ n. n.0) (λ s. absurd (h (token_at t p) s)) (token_at_lem t p),
 )
 
 -- refusal 2
 stopped : (t : List ℕ) (p : ℕ) → Refuses t 2 p → token_at t p ≡ []
-stopped t p (Q.no_token_lem h s) = stop_nothing s
+stopped t p (Q.token_missing h s) = stop_nothing s
 stopped t p (Q.offends {t = x} r f) = first_not_2 x p f
 
 -- what is lent between the bounds of the token
@@ -86,7 +86,7 @@ pub handed : (text : List ℕ) (place : ℕ) → Handed text place
 handed text place =
     record {
       token = token_is text place;
-      none = no_token_lem text place;
+      none = token_missing text place;
       malformed = stopped text place;
       stands = token_stands text place;
       part = lent text place;

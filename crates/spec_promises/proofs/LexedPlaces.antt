@@ -32,7 +32,7 @@ pub lexed_places : {b : List ℕ} {ts : List Token} → Lexes 0 b ts → Each (B
 lexed_places {b} {ts} r = later (0 + length b) (length b) (omega arith) ts (from_places r)
 
 from_stop : {n p : ℕ} {b : List ℕ} → Stops n b p → p ≤ n + length b
-from_stop (S.no_token_lem h) = omega arith
+from_stop (S.token_missing h) = omega arith
 from_stop (S.Stops.malformed q) = omega arith
 from_stop (S.Stops.gap {w} {rest} q r) = let h = from_stop r in let e = length-append w rest in omega arith
 from_stop (S.Stops.token {w} {rest} q r) = let h = from_stop r in let e = length-append w rest in omega arith

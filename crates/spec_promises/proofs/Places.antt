@@ -7,7 +7,7 @@ use native.Mathlib.Omega.{arith}
 use lib.ListN.{length}
 use Rattle.base_answers.specs.declared.State.{State}
 use Rattle.spec_design.specs.Process.{Process}
-use Rattle.spec_language.specs.Validity.{Valid, Refuses, too_long, no_token_lem, no_sentence, past_limit, offends}
+use Rattle.spec_language.specs.Validity.{Valid, Refuses, too_long, token_missing, no_sentence, past_limit, offends}
 use Rattle.spec_language.specs.Verdict.{Verdict, accepted, refused, verdict}
 use Rattle.spec_language.proofs.Judged as J
 use Rattle.spec_language.proofs.WellFormed.{valid_well_formed}
@@ -36,7 +36,7 @@ use Rattle.spec_promises.proofs.Main.{compiled}
 -- 1 TO 9: a byte offset of the text
 refuses_offset : (text : List ℕ) (q k : ℕ) → Refuses text q k → k ≤ length text
 refuses_offset text q k (too_long h) = omega arith
-refuses_offset text q k (no_token_lem h s) = stopped_place s
+refuses_offset text q k (token_missing h s) = stopped_place s
 refuses_offset text q k (no_sentence {k = j} ts h l e) = token_place (length text) ts j (lexed_places l)
 refuses_offset text q k (past_limit {k = j} ts h l e) = token_place (length text) ts j (lexed_places l)
 refuses_offset text q k (offends {t} p f) = offence_place (length text) t q k (tokens_of (By (length text)) p.reads (lexed_places p.lexes)) f
@@ -47,7 +47,7 @@ short text k h l = omega arith
 
 pub refuses_place : (text : List ℕ) (q k : ℕ) → Refuses text q k → k ≤ 16384
 refuses_place text q k (too_long h) = omega arith
-refuses_place text q k (no_token_lem h s) = short text k h (refuses_offset text q k (no_token_lem h s))
+refuses_place text q k (token_missing h s) = short text k h (refuses_offset text q k (token_missing h s))
 refuses_place text q k (no_sentence ts h l e) = short text k h (refuses_offset text q k (no_sentence ts h l e))
 refuses_place text q k (past_limit ts h l e) = short text k h (refuses_offset text q k (past_limit ts h l e))
 refuses_place text q k (offends p f) = short text k p.short (refuses_offset text q k (offends p f))

@@ -6,7 +6,7 @@ use Prim.Native.Nat.{ℕ, suc, ◌+◌, ◌*◌, ◌≤◌}
 use native.Mathlib.Omega.{arith}
 use lib.ListN.{length, length-append}
 use Rattle.spec_design.specs.Types.{Ty}
-use Rattle.spec_design.specs.Expression.{Leaf, int, bit, input, variable, Unary, Binary, Expr, leaf, unary, binary, items}
+use Rattle.spec_design.specs.Expression.{Leaf, int, bit, input, variable, Unary, Binary, Expr, items}
 use Rattle.spec_design.specs.Statement.{Act, null, Stmt, act, wait, if_then, if_else, while, seq, size, total_items}
 use Rattle.spec_design.specs.Statement as D
 use Rattle.spec_design.specs.Process.{Source, Slot, Process, source_types, WellFormed}

@@ -30,7 +30,7 @@ module _ {γ : Type 0} (pf : type_c_statement printed γ) where
       → automaton (CLOSE_C_printed printed pf) so sq ss (l ++ (si ∷ [])) ≡ so ∷ assigned_rows (CLOSE_C printed pf) so sq ss l
   unfolding automaton states_over assigned_rows
   printed_late so sq ss [] si = rw (close_printed si so sq ss)
-  printed_late so sq ss (sj ∷ l) si = rw (close_printed sj so sq ss) (ap (λ r. so ∷ r) (printed_late _ _ _ l si))
+  printed_late so sq ss (sj ∷ l) si = rw (close_printed sj so sq ss) (ap (λ r. so ∷ r) (let r = CLOSE_C printed pf sj so sq ss in printed_late r.0 r.1 r.2 l si))
 
   -- so for a process as printed
   pub process_late : (so : ω) (sq : φ) (l : List ι) (si : ι) → PROCESS_C so sq pf (l ++ (si ∷ [])) ≡ so ∷ assigned_rows (CLOSE_C printed pf) so sq none l

@@ -8,7 +8,7 @@ use mathlib.Core.Option.{Option, none, some}
 use mathlib.Core.List.{List}
 use lib.IntN.{ℤ, pos}
 use Rattle.spec_design.specs.Expression.{Expr, leaf, unary, binary, Out, fine, fault, fold, Unary, sign, invert, Binary, plus, minus, equal, unequal, less}
-use Rattle.spec_design.specs.Expression.{at_most, greater, at_least_lem, and, or, xor, times, divide, modulo, remainder}
+use Rattle.spec_design.specs.Expression.{at_most, greater, at_least, and, or, xor, times, divide, modulo, remainder}
 use Rattle.spec_design.specs.Types.{ExprTy, eq_z, in_range}
 use Rattle.spec_semantics.specs.Division.{by_nonzero}
 use Rattle.spec_design.specs.Statement.{Stmt, C, class_of, LoopsC}
@@ -54,7 +54,7 @@ binary_is unequal t x y z e = fine_injective _ z e
 binary_is less t x y z e = fine_injective _ z e
 binary_is at_most t x y z e = fine_injective _ z e
 binary_is greater t x y z e = fine_injective _ z e
-binary_is at_least_lem t x y z e = fine_injective _ z e
+binary_is at_least t x y z e = fine_injective _ z e
 binary_is and t x y z e = fine_injective _ z e
 binary_is or t x y z e = fine_injective _ z e
 binary_is xor t x y z e = fine_injective _ z e

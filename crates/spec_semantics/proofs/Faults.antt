@@ -8,7 +8,7 @@ use native.Mathlib.Omega.{arith}
 use lib.IntN.{ℤ, pos, ◌+ℤ◌, ◌-ℤ◌, ◌*ℤ◌, neg_ℤ}
 use lib.Signed.{quot_z}
 use Rattle.spec_design.specs.Types.{ExprTy, eq_z, in_range}
-use Rattle.spec_design.specs.Expression.{Leaf, Unary, sign, invert, Binary, plus, minus, equal, unequal, less, at_most, greater, at_least_lem, and, or, xor, times}
+use Rattle.spec_design.specs.Expression.{Leaf, Unary, sign, invert, Binary, plus, minus, equal, unequal, less, at_most, greater, at_least, and, or, xor, times}
 use Rattle.spec_design.specs.Expression.{divide, modulo, remainder, Expr, leaf, unary, binary, Out, fine, fault, bind, fold}
 use Rattle.spec_semantics.specs.Division.{by_nonzero}
 use Rattle.spec_semantics.specs.Evaluation.{unary_result, binary_result, as_integer, apply_unary, apply_binary, evaluate, OperatorNumber, OperatorRefused, sum}
@@ -60,7 +60,7 @@ binary_refused unequal t x y q e = fault_fine q _ (sym e)
 binary_refused less t x y q e = fault_fine q _ (sym e)
 binary_refused at_most t x y q e = fault_fine q _ (sym e)
 binary_refused greater t x y q e = fault_fine q _ (sym e)
-binary_refused at_least_lem t x y q e = fault_fine q _ (sym e)
+binary_refused at_least t x y q e = fault_fine q _ (sym e)
 binary_refused and t x y q e = fault_fine q _ (sym e)
 binary_refused or t x y q e = fault_fine q _ (sym e)
 binary_refused xor t x y q e = fault_fine q _ (sym e)

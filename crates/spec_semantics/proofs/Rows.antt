@@ -14,7 +14,7 @@ use lib.Dec.{eqb}
 use Rattle.spec_design.specs.Types.{Ty, in_type}
 use Rattle.spec_design.specs.Expression.{nth}
 use Rattle.spec_design.specs.Process.{Source, Process, source_types, WellFormed}
-use Rattle.spec_semantics.specs.Equations.{Result, at, cycle}
+use Rattle.spec_semantics.specs.Equations.{Result, cycle}
 use Rattle.spec_semantics.specs.Rows.{Call, Kept, kept_at_first, wrong_value, row_refusal, concluded, judged, row, rows_from, rows}
 use Rattle.spec_semantics.specs.Values.{Values}
 use Rattle.spec_semantics.specs.Way.{Ended, at_wait, at_operator}
@@ -192,7 +192,7 @@ module _ (p : Process) (g : WellFormed p) (k : Kept) (c : Call) where
 from_answer : (p : Process) (g : WellFormed p) (k : Kept) → Invariant p k → (cs : List Call) → AllAnswer p k cs (rows_from p k cs)
 unfolding AllAnswer rows_from
 from_answer p g k s [] = tt
-from_answer p g k s (c ∷ cs) = (row_answers_lem p g k c, row_invariant p g k c s, from_answer p g _ (row_invariant p g k c s) cs)
+from_answer p g k s (c ∷ cs) = (row_answers_lem p g k c, row_invariant p g k c s, from_answer p g (row p k c).1 (row_invariant p g k c s) cs)
 
 -- Every call of any list is answered as `Answers` says, and the invariant holds of what is kept.
 pub rows_answer : (p : Process) → WellFormed p → (cs : List Call) → AllAnswer p (kept_at_first p) cs (rows p cs)

@@ -9,7 +9,7 @@ use lib.IntN.{ℤ, pos}
 use lib.Signed.{le_z, lt_z}
 use Rattle.spec_design.specs.Types.{Ty, std_logic, integer, ExprTy, plain, boolean, same_type, eq_z, in_range, in_type}
 use Rattle.spec_design.specs.Expression.{Leaf, int, bit, input, variable, Unary, sign, invert, Binary, plus, minus, equal, unequal, less, at_most, greater}
-use Rattle.spec_design.specs.Expression.{at_least_lem, and, or, xor, times, divide, modulo, remainder, Expr, leaf, unary, binary, Out, fine, fault, fold, nth}
+use Rattle.spec_design.specs.Expression.{at_least, and, or, xor, times, divide, modulo, remainder, Expr, leaf, unary, binary, Out, fine, fault, fold, nth}
 use Rattle.spec_design.specs.Expression.{plainly, sum_type, order_type, equality_type, logical_type, type_of_unary, type_of_binary, leaf_type, given, given2, type_of}
 use Rattle.spec_semantics.specs.Evaluation.{bit_of, is_one, differ, unary_result, binary_result, as_integer, apply_unary, apply_binary, leaf_value, evaluate}
 use Rattle.spec_semantics.specs.Values.{of_type, Values}
@@ -130,7 +130,7 @@ binary_in unequal s t x y z p q e h = logical_in (equality_logical s t e) (not (
 binary_in less s t x y z p q e h = logical_in (order_logical s t e) (lt_z x y) z h
 binary_in at_most s t x y z p q e h = logical_in (order_logical s t e) (le_z x y) z h
 binary_in greater s t x y z p q e h = logical_in (order_logical s t e) (lt_z y x) z h
-binary_in at_least_lem s t x y z p q e h = logical_in (order_logical s t e) (le_z y x) z h
+binary_in at_least s t x y z p q e h = logical_in (order_logical s t e) (le_z y x) z h
 binary_in and s t x y z p q e h = logical_in (logical_logical s t e) (is_one x && is_one y) z h
 binary_in or s t x y z p q e h = logical_in (logical_logical s t e) (is_one x || is_one y) z h
 binary_in xor s t x y z p q e h = logical_in (logical_logical s t e) (differ (is_one x) (is_one y)) z h

@@ -3,7 +3,7 @@
 use Rattle.std.specs.Prelude.{◌≡◌, ◌⊎◌, Bool, true, false, cond, not, ◌&&◌, ◌||◌, List, ℕ, get_or, ℤ, pos, ◌+ℤ◌, ◌-ℤ◌, ◌*ℤ◌, neg_ℤ}
 use Rattle.std.specs.Int.Signed.{le_z, lt_z, quot_z, rem_z}
 use Rattle.spec_design.specs.Types.{ExprTy, eq_z, in_range}
-use Rattle.spec_design.specs.Expression.{Leaf, int, bit, input, variable, Unary, sign, invert, Binary, plus, minus, equal, unequal, less, at_most, greater, at_least_lem, and, or, xor, times, divide, modulo, remainder, Expr, leaf, unary, binary, Out, fine, fault, Algebra, fold}
+use Rattle.spec_design.specs.Expression.{Leaf, int, bit, input, variable, Unary, sign, invert, Binary, plus, minus, equal, unequal, less, at_most, greater, at_least, and, or, xor, times, divide, modulo, remainder, Expr, leaf, unary, binary, Out, fine, fault, Algebra, fold}
 use Rattle.spec_semantics.specs.Division.{mod_z, by_nonzero}
 
 -- "std_logic (0, 1)"; a boolean is 0 where it is false, 1 where it is true
@@ -34,7 +34,7 @@ binary_result unequal x y = bit_of (not (eq_z x y))
 binary_result less x y = bit_of (lt_z x y)
 binary_result at_most x y = bit_of (le_z x y)
 binary_result greater x y = bit_of (lt_z y x)
-binary_result at_least_lem x y = bit_of (le_z y x)
+binary_result at_least x y = bit_of (le_z y x)
 binary_result and x y = bit_of (is_one x && is_one y)
 binary_result or x y = bit_of (is_one x || is_one y)
 binary_result xor x y = bit_of (differ (is_one x) (is_one y))
@@ -61,7 +61,7 @@ apply_binary unequal t x y = fine (binary_result unequal x y)
 apply_binary less t x y = fine (binary_result less x y)
 apply_binary at_most t x y = fine (binary_result at_most x y)
 apply_binary greater t x y = fine (binary_result greater x y)
-apply_binary at_least_lem t x y = fine (binary_result at_least_lem x y)
+apply_binary at_least t x y = fine (binary_result at_least x y)
 apply_binary and t x y = fine (binary_result and x y)
 apply_binary or t x y = fine (binary_result or x y)
 apply_binary xor t x y = fine (binary_result xor x y)
