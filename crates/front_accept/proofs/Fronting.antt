@@ -120,7 +120,7 @@ tree_in {p = p} {ts} {t} e T Q lc li lr ld r =
       items = items_held r.lines.items lc li r.few_items;
       lines = rows_held r.lines lr r.few_statements;
       names = names_held r.names ld r.few_names;
-      heads = record { entity_at = r.entity; entity_end_at = r.entity_end_lem; arch_at = r.arch; arch_of_at = r.arch_of_lem; arch_end_at = r.arch_end_lem };
+      heads = record { entity_at = r.entity; entity_end_at = r.at_entity_end; arch_at = r.arch; arch_of_at = r.at_arch_of; arch_end_at = r.at_arch_end };
       process = r.process;
       kinded = kinded x.1;
       moded = moded x.1;

@@ -21,7 +21,7 @@ use Rattle.base_ir.specs.Arrays.{Holds}
 pub record Sized (ops : List ℕ) (args : List ℤ) (lines : List ℕ) : Type 0 where
   pub ops_size : length ops ≡ TEXT
   pub args_size : length args ≡ TEXT
-  pub lines_size_lem : length lines ≡ ROW * STATEMENTS
+  pub line_cells : length lines ≡ ROW * STATEMENTS
 
 -- the bytes of the text at these places, in lower case: from index k on, c of them
 unfoldable pub spellings : List ℕ → List ℕ → List ℕ → ℕ → ℕ → List (List ℕ)

@@ -1,3 +1,4 @@
+#![tactic(auto)]
 // All stages of the front end in table order: a text to the arrays of its design, or its refusal.
 ghost use Rattle.std.specs.Prelude.{◌≡◌};
 ghost use Rattle.front_accept.specs.Fronts.{no_names, refused_front, design_arrays, TextFront, TokensFront};
@@ -13,14 +14,14 @@ use front_lexer::Lexed;
 use reading::Judgement;
 
 // A text is accepted, or refused.
-#[derive(Drop)]
+#[derive(Clone, Copy)]
 pub enum Acceptance {
     Accepted,
     Refused(Refusal),
 }
 
 // The front end's answer on a text, and what its design declares; where the text is refused, nothing is declared: every count and every place is 0.
-#[derive(Drop)]
+#[derive(Clone, Copy)]
 pub struct Front {
     pub declared: Declared,
     pub answer: Acceptance,

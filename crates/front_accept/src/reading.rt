@@ -14,14 +14,14 @@ use front_offences::Shape;
 use front_parser::Parsing;
 
 // The text has this shape and offends no rule; or its refusal.
-#[derive(Drop)]
+#[derive(Clone, Copy)]
 pub(crate) enum Judgement {
     Sound(Shape),
     Unsound(Refusal),
 }
 
 // The rows of the declared names, and the judgement on the text.
-#[derive(Drop)]
+#[derive(Clone, Copy)]
 pub(crate) struct Reading {
     pub decls: [u16; declaration::ROWS],
     pub judgement: Judgement,

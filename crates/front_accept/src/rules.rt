@@ -10,7 +10,7 @@ use front_offences::{Finding, Shape};
 use front_parser::Parsed;
 
 // No rule is offended; or the refusal of the first that is.
-#[derive(Drop)]
+#[derive(Clone, Copy)]
 pub(crate) enum Ruling {
     Free,
     Offended(Refusal),

@@ -30,7 +30,7 @@ fn clamp(x: usize, low: usize, high: usize) -> usize
 }
 
 // An if. A missing else is a block of no rows, which is A as null is.
-#[cycle(block_if_statement_statement_while_statement)]
+#[cycle(statements)]
 fn if_statement(
     rows: &[u16; row::ROWS],
     places: &[u16; limit::TEXT],
@@ -51,7 +51,7 @@ fn if_statement(
 }
 
 // A while, which is itself an offence where its body is classed and not C.
-#[cycle(block_if_statement_statement_while_statement)]
+#[cycle(statements)]
 fn while_statement(
     rows: &[u16; row::ROWS],
     places: &[u16; limit::TEXT],
@@ -72,7 +72,7 @@ fn while_statement(
 }
 
 // A statement, by its kind; assignments and null are A, a wait is C.
-#[cycle(block_if_statement_statement_while_statement)]
+#[cycle(statements)]
 fn statement(
     rows: &[u16; row::ROWS],
     places: &[u16; limit::TEXT],
@@ -103,7 +103,7 @@ fn statement(
 }
 
 // A block: the statements in sequence from one row up to another. A block of no statements is A.
-#[cycle(block_if_statement_statement_while_statement)]
+#[cycle(statements)]
 pub(crate) fn block(
     rows: &[u16; row::ROWS],
     places: &[u16; limit::TEXT],

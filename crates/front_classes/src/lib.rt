@@ -1,3 +1,4 @@
+#![tactic(auto)]
 // Classes of statements and refusal 9: the lowest place of a while with a classed body that is not C or, if none, of `process` where its body is not C.
 // Inner functions answer a class and the lowest offence: 0, or the lowest place plus 1.
 mod rules; // classes as numbers
@@ -11,7 +12,7 @@ use base_codes::{limit, statement as row};
 use front_offences::{Finding, Shape};
 
 // What is found of a run of rows: their class, and the lowest offence (0 for none, else the place plus 1).
-#[derive(Drop)]
+#[derive(Clone, Copy)]
 struct Summary {
     class: u8,
     lowest: usize,

@@ -1,3 +1,4 @@
+#![tactic(auto)]
 // Refusal 8: "the first wait's name is no std_logic input, another wait differs, clock (if that input exists) read".
 // Inner functions answer 0, or the lowest place plus 1.
 mod waits; // the first wait, and those that differ

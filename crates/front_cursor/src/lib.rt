@@ -1,3 +1,4 @@
+#![tactic(auto)]
 // A cursor over token arrays: the kind of a token, and the steps that take one token or refuse it.
 // A cursor that has refused (fault is not 0) stays as it is.
 ghost use Rattle.std.specs.Prelude.{◌≡◌, ◌+◌, ◌<◌, ◌≤◌};
@@ -7,7 +8,7 @@ ghost use Rattle.front_cursor.specs.Reading.{Asks, refuse, item_at, expect_one, 
 use base_codes::{limit, refusal};
 
 // Where a reader stands: a refusal's number or 0; the token; the items of the expression so far; the items written in all.
-#[derive(Drop)]
+#[derive(Clone, Copy)]
 pub struct Cursor {
     pub fault: u8,
     pub at: usize,

@@ -1,3 +1,4 @@
+#![tactic(auto)]
 // The readers of the heading: groups of ports and of variables, to rows in a lent array, one for each declared name in text order.
 // The counts go by the mode word and the limits of document 01.
 ghost use Rattle.std.specs.Prelude.{◌≡◌, ◌+◌, ◌-◌, ◌<◌, ◌≤◌};
@@ -17,7 +18,7 @@ use front_cursor::{Cursor, expect, follows, kind_at, refused};
 const NEXT_NAME: usize = 2;
 
 // Where a reader of the heading stands: a cursor; names whose mode is still to come; inputs, outputs and variables so far.
-#[derive(Drop)]
+#[derive(Clone, Copy)]
 pub struct Header {
     pub cursor: Cursor,
     pub waiting: usize,
@@ -27,7 +28,7 @@ pub struct Header {
 }
 
 // What the names of a group have in common: mode, type, kind of initial value, index of the value's first token, index of the group's first name.
-#[derive(Drop)]
+#[derive(Clone, Copy)]
 pub struct Shape {
     pub mode: u16,
     pub kind: u16,

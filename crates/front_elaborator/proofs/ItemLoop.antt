@@ -64,16 +64,16 @@ module _ (F : ℕ → ℤ → ℕ) (G : ℕ → ℤ → ℤ) (n : ℕ) (ops₀ :
   unfolding placed_at
   placing_again {ops₁} {ops₂} {args₁} {args₂} {j} l ho ha h =
       let z : n - j ≡ suc (n - (j + 1)) = omega arith in
-      let c = h.old-ops j (omega arith) in
-      let a = h.old-args j (omega arith) in
+      let c = h.old_ops j (omega arith) in
+      let a = h.old_args j (omega arith) in
       let eo : ops₂ ≡ set ops₁ j (F (get_or ops₀ j 0) (get_or args₀ j (pos 0))) = ho ∙ rw (c, a) in
       let ea : args₂ ≡ set args₁ j (G (get_or ops₀ j 0) (get_or args₀ j (pos 0))) = ha ∙ rw (c, a) in
       record {
         inside = omega arith;
         ops = rw eo (sets_next ops₁ j _ (placed_at F ops₀ args₀ (j + 1) (n - (j + 1))) _ _ refl (rw z at h.ops));
         args = rw ea (sets_next args₁ j _ (placed_at G ops₀ args₀ (j + 1) (n - (j + 1))) _ _ refl (rw z at h.args));
-        old_ops = λ i m. rw eo (get_or-set_other ops₁ j i _ 0 (λ q. omega arith) ∙ h.old-ops i (omega arith));
-        old_args = λ i m. rw ea (get_or-set_other args₁ j i _ (pos 0) (λ q. omega arith) ∙ h.old-args i (omega arith));
+        old_ops = λ i m. rw eo (get_or-set_other ops₁ j i _ 0 (λ q. omega arith) ∙ h.old_ops i (omega arith));
+        old_args = λ i m. rw ea (get_or-set_other args₁ j i _ (pos 0) (λ q. omega arith) ∙ h.old_args i (omega arith));
       }
 
   pub placing_last : {ops₁ : List ℕ} {args₁ : List ℤ} {j : ℕ} (k : ℕ) → n ≡ min k 16384 → n ≤ j → Placing ops₁ args₁ j → Places F G k ops₀ ops₁ args₀ args₁

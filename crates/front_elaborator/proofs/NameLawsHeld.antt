@@ -12,7 +12,6 @@ use lib.Seq.{sets-eq}
 use borrow.Author.Tests.{lt-ltb, eq-eqb, ne_eqb}
 use Rattle.spec_grammar.specs.Token.{Token}
 use Rattle.spec_grammar.specs.Tree.{Mode, input, output_port, variable_mode, Text}
-use Rattle.spec_language.specs.Words.{value}
 use Rattle.spec_language.specs.Lists.{each, filter}
 use Rattle.spec_language.specs.Declarations.{Decl, declared, find, is_clock, clock_of}
 use Rattle.spec_language.specs.Names.{again, doubled}

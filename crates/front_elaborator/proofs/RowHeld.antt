@@ -28,7 +28,6 @@ use Rattle.front_layout.specs.Arrays as A
 use Rattle.front_layout.specs.Arrays.{TokensIn, OwnersIn}
 use Rattle.front_offences.specs.Kinded.{KindedStmt, KindedBody}
 use Rattle.front_offences.proofs.Tokens.{kind_inside}
-use Rattle.base_ir.specs.Entries.{Entry}
 use Rattle.base_ir.specs.Arrays.{Row, row_in, rows_from, rows_of}
 use Rattle.front_elaborator.specs.Elaborated.{op_of, target_of, entry_of}
 use Rattle.front_elaborator.specs.Positions.{number_at, slot_at, target_at, rows_at}

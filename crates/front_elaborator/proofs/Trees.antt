@@ -2,7 +2,7 @@
 use mathlib.Core.Path.{◌≡◌, refl, sym, ◌∙◌, ap}
 use mathlib.Core.Option.{Option, none, some}
 use mathlib.Core.List.{List, [], ◌∷◌, ◌++◌, map, map-append, append_assoc, append-nil}
-use Prim.Native.Nat.{ℕ, suc, ◌+◌}
+use Prim.Native.Nat.{ℕ, suc}
 use native.Mathlib.Omega.{arith}
 use lib.ListN.{length, length-append}
 use lib.IntN.{ℤ}
@@ -11,7 +11,7 @@ use Rattle.spec_grammar.specs.Token.{Token}
 use Rattle.spec_grammar.specs.Tree as T
 use Rattle.spec_grammar.specs.Tree.{Body, Mode}
 use Rattle.spec_design.specs.Expression.{Expr}
-use Rattle.spec_design.specs.Statement.{Stmt, size}
+use Rattle.spec_design.specs.Statement.{size}
 use Rattle.spec_language.specs.Declarations.{Decl, Scope, find}
 use Rattle.spec_language.specs.Elaboration.{name_code, named, or_plus, code, stmt, stmts}
 use Rattle.base_codes.proofs.OperationLaws.{operation_apart}

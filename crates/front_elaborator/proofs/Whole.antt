@@ -27,7 +27,7 @@ use Rattle.front_offences.specs.Kinded.{KindedBody}
 use Rattle.front_layout.proofs.Stored.{rows_read}
 use Rattle.base_ir.specs.Operations.{Op, bare_op}
 use Rattle.base_ir.specs.Entries.{entries, entry_ops, bare_entry}
-use Rattle.base_ir.specs.Arrays.{ops_from, rows_from, rows_of, RowsIn, BareIn}
+use Rattle.base_ir.specs.Arrays.{ops_from, rows_of, BareIn}
 use Rattle.base_ir.proofs.Bare.{bare_ops, bare_rows}
 use Rattle.front_limits.specs.Words.{WordsIn}
 use Rattle.front_elaborator.specs.Elaborated.{op_of, entry_of}

@@ -4,7 +4,7 @@ use Rattle.std.proofs.lemmas.List.Edits.{sets}
 use Rattle.base_codes.specs.Limit as L
 use Rattle.base_codes.specs.Limit.{TEXT, NAMES}
 use Rattle.base_codes.specs.Item.{NAME, NUMBER, BIT}
-use Rattle.base_codes.specs.Operation.{INTEGER, STD_LOGIC, INPUT, VARIABLE}
+use Rattle.base_codes.specs.Operation.{STD_LOGIC, INPUT, VARIABLE}
 use Rattle.base_codes.specs.Declaration as D
 use Rattle.base_codes.specs.Statement as K
 use Rattle.base_codes.specs.Token.{ONE}

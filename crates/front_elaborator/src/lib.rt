@@ -1,3 +1,4 @@
+#![tactic(auto)]
 // From the arrays of a parsed text to those of its design.
 mod arrays;
 pub mod items;

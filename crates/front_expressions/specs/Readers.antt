@@ -1,6 +1,6 @@
 -- What a reader of a part of an expression answers and writes, against the grammar's reader: whatever comes after the part, the grammar's reader goes on
 -- where the reader left off, with the part's tree; and the items written are the postfix of that tree. Assumes nothing.
-use Rattle.std.specs.Prelude.{◌≡◌, true, List, ◌∷◌, ◌++◌, ℕ, ◌+◌, ◌<◌}
+use Rattle.std.specs.Prelude.{◌≡◌, true, List, ◌∷◌, ◌++◌, ℕ, ◌<◌}
 use Rattle.base_codes.specs.Token.{one_of, adding, multiplying, AND, OR, XOR}
 use Rattle.spec_grammar.specs.Token.{Token}
 use Rattle.spec_grammar.specs.Tree.{Expr}

@@ -1,3 +1,4 @@
+#![tactic(auto)]
 // The readers of expressions: tokens to postfix items in lent arrays. Expression, simple expression, product and primary call each other in a cycle,
 // the tokens left falling; factors, terms and chains are loops. An operator waits on the call stack and is written behind its operands.
 ghost use Rattle.std.specs.Prelude.{◌≡◌, ℕ, ◌+◌, ◌<◌, ◌≤◌, true, false};
@@ -51,7 +52,7 @@ fn leaf_code(kind: u8) -> u8
 }
 
 // An expression in parentheses, where neither a literal nor a name stands: no other primary is left.
-#[cycle(expression_factor_joined_multiplied_parenthesised_primary_product_relation_signed_simple_term)]
+#[cycle(expression)]
 fn parenthesised(
     kinds: &[u8; limit::TEXT],
     long: &[u8; limit::TEXT],
@@ -105,7 +106,7 @@ fn leaf(
 }
 
 // A literal, a name or an expression in parentheses.
-#[cycle(expression_factor_joined_multiplied_parenthesised_primary_product_relation_signed_simple_term)]
+#[cycle(expression)]
 fn primary(
     kinds: &[u8; limit::TEXT],
     long: &[u8; limit::TEXT],
@@ -125,7 +126,7 @@ fn primary(
 }
 
 // A primary, perhaps behind `not`. Most are leaves, which are read at once.
-#[cycle(expression_factor_joined_multiplied_parenthesised_primary_product_relation_signed_simple_term)]
+#[cycle(expression)]
 fn factor(
     kinds: &[u8; limit::TEXT],
     long: &[u8; limit::TEXT],
@@ -152,7 +153,7 @@ fn factor(
 }
 
 // A further factor of a product: its operator, *, /, mod or rem, and a factor.
-#[cycle(expression_factor_joined_multiplied_parenthesised_primary_product_relation_signed_simple_term)]
+#[cycle(expression)]
 fn multiplied(
     kinds: &[u8; limit::TEXT],
     long: &[u8; limit::TEXT],
@@ -173,7 +174,7 @@ fn multiplied(
 }
 
 // A product: the first factor, and further factors.
-#[cycle(expression_factor_joined_multiplied_parenthesised_primary_product_relation_signed_simple_term)]
+#[cycle(expression)]
 fn product(
     kinds: &[u8; limit::TEXT],
     long: &[u8; limit::TEXT],
@@ -194,7 +195,7 @@ fn product(
 }
 
 // The first term of a sum, perhaps behind a sign, which covers the whole term.
-#[cycle(expression_factor_joined_multiplied_parenthesised_primary_product_relation_signed_simple_term)]
+#[cycle(expression)]
 fn signed(
     kinds: &[u8; limit::TEXT],
     long: &[u8; limit::TEXT],
@@ -217,7 +218,7 @@ fn signed(
 }
 
 // A further term of a sum: its operator, + or -, and a product.
-#[cycle(expression_factor_joined_multiplied_parenthesised_primary_product_relation_signed_simple_term)]
+#[cycle(expression)]
 fn term(
     kinds: &[u8; limit::TEXT],
     long: &[u8; limit::TEXT],
@@ -238,7 +239,7 @@ fn term(
 }
 
 // A sum: the first term, and further terms.
-#[cycle(expression_factor_joined_multiplied_parenthesised_primary_product_relation_signed_simple_term)]
+#[cycle(expression)]
 fn simple(
     kinds: &[u8; limit::TEXT],
     long: &[u8; limit::TEXT],
@@ -259,7 +260,7 @@ fn simple(
 }
 
 // A sum, or a comparison of two.
-#[cycle(expression_factor_joined_multiplied_parenthesised_primary_product_relation_signed_simple_term)]
+#[cycle(expression)]
 fn relation(
     kinds: &[u8; limit::TEXT],
     long: &[u8; limit::TEXT],
@@ -285,7 +286,7 @@ fn relation(
 }
 
 // A further relation of a chain: its operator, and, or or xor, and a relation.
-#[cycle(expression_factor_joined_multiplied_parenthesised_primary_product_relation_signed_simple_term)]
+#[cycle(expression)]
 fn joined(
     kinds: &[u8; limit::TEXT],
     long: &[u8; limit::TEXT],
@@ -306,7 +307,7 @@ fn joined(
 }
 
 // An expression: a relation, or a chain of them joined by `and` alone, `or` alone or `xor` alone.
-#[cycle(expression_factor_joined_multiplied_parenthesised_primary_product_relation_signed_simple_term)]
+#[cycle(expression)]
 pub fn expression(
     kinds: &[u8; limit::TEXT],
     long: &[u8; limit::TEXT],

@@ -14,7 +14,6 @@ use Rattle.spec_grammar.specs.Token.{Token}
 use Rattle.spec_language.specs.Lexer.{Start, lexeme, unknown, start_of, tokens, malformed, ◌▸◌, on_start, lex_from, lex}
 use Rattle.spec_language.specs.Lexer as L
 use Rattle.spec_language.proofs.LexExact.{lex_tokens, lex_stops}
-use Rattle.front_lexer.specs.declared.Lexed.{Lexed}
 use Rattle.front_lexer.specs.declared.Lexed.TheVariants.{Tokens, NotLexed}
 use Rattle.front_lexer.specs.Answered.{Answered, read, too_long, stops}
 use Rattle.front_lexer.specs.Tokens.{counted, lexed, on_found, found_from, found, write}

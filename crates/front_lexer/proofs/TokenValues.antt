@@ -29,8 +29,8 @@ data Token_is (w : List ℕ) (k v : ℕ) : Type 0 where
   a_number : k ≡ NUMBER → v ≡ value 0 w → Token_is w k v
   fixed_one : fixed_meaning fixed w ≡ Meaning.token k v → Token_is w k v
 
-no_token_lem : {A : Type 0} {k v : ℕ} → nothing ≡ Meaning.token k v → A
-no_token_lem e = absurd (let z : ◌≡◌ {A = ℕ} 0 1 = cc in omega arith)
+token_missing : {A : Type 0} {k v : ℕ} → nothing ≡ Meaning.token k v → A
+token_missing e = absurd (let z : ◌≡◌ {A = ℕ} 0 1 = cc in omega arith)
 
 no_gap : {A : Type 0} {k v : ℕ} → Meaning.gap ≡ Meaning.token k v → A
 no_gap e = absurd (let z : ◌≡◌ {A = ℕ} 0 1 = cc in omega arith)
@@ -48,7 +48,7 @@ word_is w k v a e = go (well_made false w) e
 
 token_is : (w : List ℕ) (k v : ℕ) → meaning w ≡ Meaning.token k v → Token_is w k v
 unfolding meaning meaning_from alone all in_word is
-token_is [] k v e = no_token_lem e
+token_is [] k v e = token_missing e
 token_is (b ∷ l) k v e = go (byte_kind b) refl e
   where
     lettered : (q : Bool) → all in_word l ≡ q → byte_kind b ≡ letter → cond q (word_meaning (b ∷ l)) nothing ≡ Meaning.token k v → Token_is (b ∷ l) k v
@@ -56,29 +56,29 @@ token_is (b ∷ l) k v e = go (byte_kind b) refl e
       where
         first : all in_word l ≡ true → byte_kind b ≡ letter → all in_word (b ∷ l) ≡ true
         first a h = rw h a
-    lettered false a h f = no_token_lem f
+    lettered false a h f = token_missing f
 
     counted : (q : Bool) → cond q (Meaning.token NUMBER (value 0 (b ∷ l))) nothing ≡ Meaning.token k v → Token_is (b ∷ l) k v
     counted true f = a_number (cc) (cc)
-    counted false f = no_token_lem f
+    counted false f = token_missing f
 
     single : (r : List ℕ) → alone r ≡ Meaning.token k v → Token_is (b ∷ l) k v
     single [] f = no_gap f
-    single (c ∷ r) f = no_token_lem f
+    single (c ∷ r) f = token_missing f
 
     dashed : (q r : Bool) → cond q (cond r Meaning.gap nothing) (fixed_meaning fixed (b ∷ l)) ≡ Meaning.token k v → Token_is (b ∷ l) k v
     dashed true true f = no_gap f
-    dashed true false f = no_token_lem f
+    dashed true false f = token_missing f
     dashed false r f = fixed_one f
 
     go : (m : ByteKind) → byte_kind b ≡ m → meaning_from m b l ≡ Meaning.token k v → Token_is (b ∷ l) k v
     go letter h f = lettered (all in_word l) refl h f
     go digit h f = counted (all is_digit l) f
-    go underscore h f = no_token_lem f
+    go underscore h f = token_missing f
     go blank h f = single l f
     go quote h f = fixed_one f
     go mark h f = dashed (is_dashes b l) (all not_lf l) f
-    go none h f = no_token_lem f
+    go none h f = token_missing f
 
 -- the kinds of the reserved words are neither that of numbers nor those of the fixed tokens
 apart : List Word → Bool
@@ -114,7 +114,7 @@ tabled_fixed = refl
 fixed_value : (fs : List Fixed) (w : List ℕ) (k v : ℕ) → tabled fs ≡ true → fixed_meaning fs w ≡ Meaning.token k v → (is_fixed k ≡ true)
     × (v ≡ cond (eqb k ONE) 1 0)
 unfolding tabled fixed_meaning
-fixed_value [] w k v a e = no_token_lem e
+fixed_value [] w k v a e = token_missing e
 fixed_value (f ∷ fs) w k v a e =
     let s = and_true_both (is_fixed f.kind && eqb f.value (cond (eqb f.kind ONE) 1 0)) (tabled fs) a in
     let r = and_true_both (is_fixed f.kind) (eqb f.value (cond (eqb f.kind ONE) 1 0)) s.0 in

@@ -1,3 +1,4 @@
+#![tactic(auto)]
 // The lexer: the tokens of a text into lent arrays, and the token at a place.
 ghost use Rattle.std.specs.Prelude.{◌≡◌, [], ◌-◌, ◌≤◌, length};
 ghost use Rattle.spec_language.specs.Lexer.{token_at};
@@ -12,7 +13,7 @@ use front_token::pieces::Piece;
 use front_token::{bytes, kinds, pieces};
 
 // The number of tokens, or refusal 1 or 2.
-#[derive(Drop)]
+#[derive(Clone, Copy)]
 pub enum Lexed {
     Tokens(usize),
     NotLexed(Refusal),

@@ -1,3 +1,4 @@
+#![tactic(auto)]
 // Tokens that pass a limit wherever they stand, "name 32 bytes" and "literal 2147483647": a flag for each token, read by the parser.
 ghost use Rattle.std.specs.Prelude.{◌≡◌, min};
 ghost use Rattle.spec_language.specs.Words.{value};

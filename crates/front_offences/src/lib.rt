@@ -1,3 +1,4 @@
+#![tactic(auto)]
 // What the stages after parsing share: the shape of a parsed text; a token's place, the declaration that a name stands for, by its number, and its mode and type; the lowest place of a stage
 // as one number (0 for none, else the place plus 1), and a stage's answer.
 ghost use Rattle.std.specs.Prelude.{◌≡◌, min, ◌+◌, ◌*◌, ◌<◌, get_or};
@@ -11,7 +12,7 @@ ghost use Rattle.front_offences.specs.Positions.{has_name, mode_in, type_in};
 use base_codes::{declaration, limit, statement};
 
 // What is known of a parsed text beside its arrays: how many tokens, statements, items and declared names it has, and the indices of its own names and of `process`.
-#[derive(Drop)]
+#[derive(Clone, Copy)]
 pub struct Shape {
     pub tokens: usize,
     pub statements: usize,
@@ -26,7 +27,7 @@ pub struct Shape {
 }
 
 // What a stage finds in a tree: no offence, or the lowest place of one.
-#[derive(Drop)]
+#[derive(Clone, Copy)]
 pub enum Finding {
     Nothing,
     Offence(usize),

@@ -10,7 +10,7 @@ use lib.ListN.{length, get_or, take}
 use lib.IntN.{pos}
 use borrow.Author.Tests.{lt-ltb}
 use Rattle.spec_design.specs.Types.{Ty, integer, ExprTy, plain, boolean, in_range, type_byte}
-use Rattle.spec_design.specs.Expression.{Leaf, int, bit, input, variable, Unary, Binary, Expr, leaf, unary, binary, nth, plainly, leaf_type, type_of_unary}
+use Rattle.spec_design.specs.Expression.{Leaf, int, bit, input, variable, Unary, Binary, Expr, nth, plainly, leaf_type, type_of_unary}
 use Rattle.spec_design.specs.Expression.{type_of_binary, type_of}
 use Rattle.spec_design.specs.Statement as S
 use Rattle.spec_design.specs.Statement.{Stmt, act, wait, if_then, if_else, while, seq}

@@ -1,3 +1,4 @@
+#![tactic(auto)]
 // The type of every operator's operands, told behind the elaborator. An operation stands behind its operands, so that what ends just before an operator is its
 // only or its right operand, and both operands have one type: one number, the type of what ends here, is enough.
 ghost use Rattle.std.specs.Prelude.{◌≡◌, ◌<◌, min, get_or, set, pos};

@@ -2,7 +2,7 @@
 use mathlib.Core.Path.{◌≡◌, refl, sym, ◌∙◌, ap, subst}
 use mathlib.Core.Bool.{Bool, true, false}
 use mathlib.Core.List.{List, [], ◌∷◌, ◌++◌}
-use Prim.Native.Nat.{ℕ, ◌+◌, ◌≤◌}
+use Prim.Native.Nat.{ℕ, ◌≤◌}
 use native.Mathlib.Omega.{arith}
 use Rattle.base_codes.specs.Token.{NAME, LP, RP, SEMI, ENTITY, IS, PORT, END, ARCHITECTURE, OF, BEGIN, PROCESS}
 use Rattle.spec_grammar.specs.Token.{Token}
@@ -249,7 +249,7 @@ process_read {kinds} {long} {n} {p} {a} {b} {c} {d} {before} {after} p-asks none
             x.goes S (heading_of flag p) (record { inputs = p-asks.inputs; outputs = p-asks.outputs; vars = p-asks.vars }) (toks end_kinds ++ γ) κ o
             ∙ (all_taken holds S a.statements 1 (heading_of flag p)
             (record { statements = a_asks.statements; inputs = p-asks.inputs; outputs = p-asks.outputs; vars = p-asks.vars }) end_kinds refl a.cursor
-            (statements.cursor-asks a_asks) γ (κ x.value)
+            (statements.cursor_asks a_asks) γ (κ x.value)
             ∙ ap (λ (u : Cursor). from ts S a.statements 1 (heading_of flag p) u 0 γ (feed ts a.cursor.at S γ end_kinds (κ x.value))) (sym ed'));
         wrote = λ w.
             subst (λ (m : ℕ). WroteLines ts m 0 d.written a.statements before after (body_entries x.value)) none
@@ -259,13 +259,13 @@ process_read {kinds} {long} {n} {p} {a} {b} {c} {d} {before} {after} p-asks none
 }
   where
     a_asks : AsksListing n a
-    a_asks = statements.asks-listing (first_asks p-asks) v.moves
+    a_asks = statements.asks_listing (first_asks p-asks) v.moves
 
     br : Ran n (END ∷ PROCESS ∷ SEMI ∷ []) a.cursor b
-    br = ran_eq kinds long eb refl (statements.cursor-asks a_asks)
+    br = ran_eq kinds long eb refl (statements.cursor_asks a_asks)
 
     b_asks : Asks n b
-    b_asks = asks_then (statements.cursor-asks a_asks) br.moves
+    b_asks = asks_then (statements.cursor_asks a_asks) br.moves
 
     cr : Ran n (END ∷ []) b c
     cr = ran_eq kinds long ec refl b_asks
@@ -280,4 +280,4 @@ process_read {kinds} {long} {n} {p} {a} {b} {c} {d} {before} {after} p-asks none
     ed' = ed ∙ ap (expect_all kinds long n (NAME ∷ SEMI ∷ [])) (ec ∙ ap (expect_one kinds long n END) eb)
 
     dr : Ran n end_kinds a.cursor d
-    dr = ran_eq kinds long ed' refl (statements.cursor-asks a_asks)
+    dr = ran_eq kinds long ed' refl (statements.cursor_asks a_asks)

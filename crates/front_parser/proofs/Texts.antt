@@ -1,7 +1,7 @@
 -- The returns of the reader of a text: the three parts, one after another, are the grammar's production of a text. Assumes nothing.
 use mathlib.Core.Path.{◌≡◌, refl, sym, ◌∙◌, ap, subst}
 use mathlib.Core.List.{List, [], ◌∷◌, ◌++◌, append_assoc}
-use Prim.Native.Nat.{ℕ, ◌+◌, ◌-◌, ◌≤◌, ◌<◌}
+use Prim.Native.Nat.{ℕ, ◌+◌, ◌≤◌, ◌<◌}
 use native.Mathlib.Omega.{arith}
 use mathlib.Core.Bool.{Bool, true, false}
 use lib.Dec.{eqb, ltb}
@@ -167,11 +167,11 @@ module _ {kinds long : List ℕ} {n : ℕ} {p : EntityUnit} {q : ArchitectureUni
         few_items = (let i = b.room in let j = e.asks.short in omega arith);
         few_names = (let i = a.asks in let u = i.inputs in let v = i.outputs in let w = i.vars in omega arith);
         entity = at p.name 1 (x.named fp).0;
-        entity_end_lem = at p.end (x.at + 1 + 1 + 1) (let w = (x.named fp).1 in omega arith);
+        at_entity_end = at p.end (x.at + 1 + 1 + 1) (let w = (x.named fp).1 in omega arith);
         arch = at q.name (p.header.cursor.at + 1) (a.named fq).0;
-        arch_of_lem = at q.of (p.header.cursor.at + 1 + 1 + 1) (let w = (a.named fq).1 in omega arith);
+        at_arch_of = at q.of (p.header.cursor.at + 1 + 1 + 1) (let w = (a.named fq).1 in omega arith);
         process = at q.process (p.header.cursor.at + 1 + 1 + 1 + 1 + 1 + 1) (let w = (a.named fq).2 in omega arith);
-        arch_end_lem = at r.end (z.at + 1 + 1 + 1 + 1) (let w = z.named f in omega arith);
+        at_arch_end = at r.end (z.at + 1 + 1 + 1 + 1) (let w = z.named f in omega arith);
       }
 
   -- each answer is the grammar's

@@ -60,15 +60,15 @@ pub record ReadAs (ts : List Token) (t : Text) (before after : Lent) (q : Parsed
   -- at the index stands the entity's name
   pub entity : token_at ts q.entity ≡ t.entity
   -- the name behind the entity's `end`
-  pub entity_end_lem : token_at ts q.entity_end ≡ t.end_of_entity
+  pub at_entity_end : token_at ts q.entity_end ≡ t.end_of_entity
   -- the architecture's name
   pub arch : token_at ts q.arch ≡ t.arch
   -- the name behind `of`
-  pub arch_of_lem : token_at ts q.arch_of ≡ t.of_arch
+  pub at_arch_of : token_at ts q.arch_of ≡ t.of_arch
   -- the word `process` in front of the variables
   pub process : token_at ts q.process ≡ t.process
   -- the name behind the architecture's `end`
-  pub arch_end_lem : token_at ts q.arch_end ≡ t.end_of_arch
+  pub at_arch_end : token_at ts q.arch_end ≡ t.end_of_arch
 
 -- the answer by the grammar's answer: a tree with its rows; 3 at a token; 4 at a token.
 -- Of a refused text nothing is said of the arrays: they are scratch of the caller, harmless as no caller reads them after a refusal.

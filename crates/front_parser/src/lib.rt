@@ -1,3 +1,4 @@
+#![tactic(auto)]
 // The reader of a whole text: tokens to rows and items in lent arrays, or the refusal (3 or 4) with its token.
 ghost use Rattle.std.specs.Prelude.{◌≡◌, [], ◌∷◌, ◌<◌, ◌≤◌};
 ghost use Rattle.front_cursor.specs.Reading.{Asks};
@@ -14,7 +15,7 @@ use front_declarations::{Header, declared_by, moved, ports, variables};
 use front_statements::{Listing, body};
 
 // What is known of a text that was read: the numbers of statements, items and declared names, and the indices of the tokens that the tree has beside them.
-#[derive(Drop)]
+#[derive(Clone, Copy)]
 pub struct Parsed {
     pub statements: usize,
     pub items: usize,
@@ -28,14 +29,14 @@ pub struct Parsed {
 }
 
 // The text was read; or the refusal's number with the index of its token, the number of tokens being the text's end.
-#[derive(Drop)]
+#[derive(Clone, Copy)]
 pub enum Parsing {
     Tree(Parsed),
     NotParsed(u8, usize),
 }
 
 // The entity was read: where it ends, and the indices of its name and of the name behind its `end`.
-#[derive(Drop)]
+#[derive(Clone, Copy)]
 pub struct EntityUnit {
     pub header: Header,
     pub name: usize,
@@ -43,7 +44,7 @@ pub struct EntityUnit {
 }
 
 // The architecture was read up to its statements: where that is, and the indices of its name, of the name behind `of` and of the word `process`.
-#[derive(Drop)]
+#[derive(Clone, Copy)]
 pub struct ArchitectureUnit {
     pub header: Header,
     pub name: usize,
@@ -52,7 +53,7 @@ pub struct ArchitectureUnit {
 }
 
 // The statements and the end of the text were read: where that is, and the index of the name behind the architecture's `end`.
-#[derive(Drop)]
+#[derive(Clone, Copy)]
 pub struct ProcessUnit {
     pub listing: Listing,
     pub end: usize,

@@ -1,3 +1,4 @@
+#![tactic(auto)]
 // Names: the declaration that each name stands for, and refusal 5, "name unknown, declared twice, end or of name differing, wrong kind as target, output read".
 // Inner functions answer 0, or the lowest place plus 1.
 mod owners; // the declaration that a name stands for

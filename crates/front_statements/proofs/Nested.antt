@@ -1,6 +1,5 @@
 -- The returns of the readers of if and while statements and of an else part: each follows the grammar's reader by its laws. Assumes nothing.
 use mathlib.Core.Path.{◌≡◌, refl, sym, ◌∙◌, ap, subst}
-use mathlib.Core.Logic.{◌⊎◌, inl, inr}
 use mathlib.Core.List.{List, [], ◌∷◌, ◌++◌, append-nil}
 use Prim.Native.Nat.{ℕ, ◌+◌, ◌<◌}
 use native.Mathlib.Omega.{arith}
@@ -9,15 +8,14 @@ use borrow.Author.Tests.{ne_eqb}
 use lib.ListN.{length}
 use Rattle.spec_grammar.specs.Token.{Token}
 use Rattle.base_codes.specs.Token.{SEMI, END, IF, THEN, LOOP}
-use Rattle.spec_grammar.specs.Tree.{Expr, number, Stmt, Body, null, if_then, if_else, while}
-use Rattle.spec_grammar.specs.Grammar.{NonTerminal, statement, expression, body, else_part, Says, deeper, shallower, Sym, tk, nt, tok, Fun, productions}
-use Rattle.spec_grammar.specs.Meter.{InHeading}
+use Rattle.spec_grammar.specs.Tree.{Expr, number, Body, null, if_then, if_else, while}
+use Rattle.spec_grammar.specs.Grammar.{statement, expression, body, else_part, deeper, shallower, tk, nt, tok, productions}
 use Rattle.spec_grammar.specs.Derivation.{here}
 use Rattle.spec_grammar.specs.Reader.{compose, elem, first, pick, take}
 use Rattle.spec_grammar.proofs.Steps.{Ok}
 use Rattle.spec_grammar.proofs.Tables.{pick_rule}
 use Rattle.front_cursor.specs.declared.Cursor.{Cursor}
-use Rattle.front_layout.specs.Tokens.{token_at, kind_in, flag_in, Holds}
+use Rattle.front_layout.specs.Tokens.{token_at, kind_in, flag_in}
 use Rattle.front_cursor.specs.Reading.{expect_one}
 use Rattle.front_cursor.proofs.Steps.{kind_is, kind_inside, from_stays, rule_at, left_at}
 use Rattle.front_layout.specs.Postfix.{postfix}
@@ -29,7 +27,7 @@ use Rattle.front_statements.specs.declared.Head.{Head}
 use Rattle.front_layout.specs.Entries.{entry, stmt_entries, body_entries}
 use Rattle.front_layout.specs.Rows as R
 use Rattle.front_layout.specs.Rows.{row, Output, WroteLines}
-use Rattle.front_statements.specs.Listings.{listing, from_listing, begin_at, finish_at, FineHeading, AsksListing, MovesListing}
+use Rattle.front_statements.specs.Listings.{listing, begin_at, finish_at, AsksListing, MovesListing}
 use Rattle.front_statements.specs.Readers.{first_of, ReadsLinesOver, StatementOver, ElseOver, OpeningOver}
 use Rattle.front_layout.proofs.Lines.{lines_none, lines_then, lines_row}
 use Rattle.front_statements.proofs.Steps.{Stepped, Took, Begun, asks_listing, moves_listing, stepped_asks, stepped_then, took_steps, took_plain}

@@ -7,7 +7,7 @@ use native.Mathlib.Nat.{add-zero}
 use lib.ListN.{length, get_or-eq_default}
 use Rattle.spec_grammar.specs.Token.{Token}
 use Rattle.base_codes.specs.Token.{NAME, ONE, SEMI, EQ, UNTIL}
-use Rattle.spec_grammar.specs.Tree.{Stmt, null, wait, output}
+use Rattle.spec_grammar.specs.Tree.{Stmt, null, wait}
 use Rattle.spec_grammar.specs.Grammar.{statement, tok, productions}
 use Rattle.spec_grammar.specs.Reader.{compose, pick}
 use Rattle.front_cursor.specs.declared.Cursor.{Cursor}

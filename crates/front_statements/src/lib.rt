@@ -1,3 +1,4 @@
+#![tactic(auto)]
 // The readers of statements: tokens to rows in a lent array, one for each statement in text order, and items of their expressions.
 // A statement list is a loop; statements in statements are a cycle of calls, the tokens left falling.
 ghost use Rattle.std.specs.Prelude.{◌≡◌, ◌+◌, ◌<◌, ◌≤◌};
@@ -16,14 +17,14 @@ use front_cursor::{Cursor, expect, kind_at, refused};
 use front_expressions::expression;
 
 // Where a reader of statements stands: a cursor, and the statements so far.
-#[derive(Drop)]
+#[derive(Clone, Copy)]
 pub struct Listing {
     pub cursor: Cursor,
     pub statements: usize,
 }
 
 // The head of a nested statement, read: where the reader stands behind it, and where the items of its condition end.
-#[derive(Drop)]
+#[derive(Clone, Copy)]
 pub struct Head {
     pub listing: Listing,
     pub to: usize,
@@ -300,7 +301,7 @@ fn opening(
 }
 
 // `if e then S else S end if ;`, the else part being optional.
-#[cycle(body_else_part_if_statement_statement_while_statement)]
+#[cycle(statement)]
 fn if_statement(
     kinds: &[u8; limit::TEXT],
     long: &[u8; limit::TEXT],
@@ -339,7 +340,7 @@ fn if_statement(
 }
 
 // `while e loop S end loop ;`
-#[cycle(body_else_part_if_statement_statement_while_statement)]
+#[cycle(statement)]
 fn while_statement(
     kinds: &[u8; limit::TEXT],
     long: &[u8; limit::TEXT],
@@ -377,7 +378,7 @@ fn while_statement(
 }
 
 // `else S`, or nothing.
-#[cycle(body_else_part_if_statement_statement_while_statement)]
+#[cycle(statement)]
 fn else_part(
     kinds: &[u8; limit::TEXT],
     long: &[u8; limit::TEXT],
@@ -404,7 +405,7 @@ fn else_part(
 }
 
 // A statement, by the kind of its first token.
-#[cycle(body_else_part_if_statement_statement_while_statement)]
+#[cycle(statement)]
 fn statement(
     kinds: &[u8; limit::TEXT],
     long: &[u8; limit::TEXT],
@@ -442,7 +443,7 @@ fn statement(
 }
 
 // A list of statements, at least one.
-#[cycle(body_else_part_if_statement_statement_while_statement)]
+#[cycle(statement)]
 pub fn body(
     kinds: &[u8; limit::TEXT],
     long: &[u8; limit::TEXT],

@@ -10,7 +10,7 @@ use crate::{bytes, kinds, marks, runs, words};
 use base_codes::token;
 
 // A gap (a blank or a comment) up to an end, a token with its kind up to an end, or no token.
-#[derive(Drop)]
+#[derive(Clone, Copy)]
 pub enum Piece {
     Gap(usize),
     Token(u8, usize),

@@ -7,7 +7,7 @@ use native.Mathlib.Omega.{arith}
 use borrow.Author.Tests.{lt-ltb}
 use lib.ListN.{length}
 use Rattle.spec_grammar.specs.Token.{Token}
-use Rattle.spec_grammar.specs.Tree.{Expr, sign, negate, binary, parens}
+use Rattle.spec_grammar.specs.Tree.{Expr, sign, negate, binary}
 use Rattle.spec_grammar.specs.Limits.{item_count}
 use Rattle.spec_design.specs.Types.{ExprTy, std_logic, integer, plain}
 use Rattle.spec_design.specs.Expression as O

@@ -1,3 +1,4 @@
+#![tactic(auto)]
 // Refusal 6: types of operators, targets, conditions and initial values.
 // Inner functions answer 0, or the lowest place plus 1.
 mod initials; // initial values, by the rows of declared names
@@ -13,21 +14,21 @@ use base_codes::{declaration, limit, statement};
 use front_offences::{Finding, Shape};
 
 // The items of an expression: from one to before another.
-#[derive(Drop)]
+#[derive(Clone, Copy)]
 struct Span {
     from: usize,
     to: usize,
 }
 
 // After an item: how many types are on the stack, and the lowest offence so far.
-#[derive(Drop)]
+#[derive(Clone, Copy)]
 struct Progress {
     depth: usize,
     lowest: usize,
 }
 
 // Of a whole expression: its type and its lowest offence.
-#[derive(Drop)]
+#[derive(Clone, Copy)]
 struct Judged {
     code: u8,
     lowest: usize,

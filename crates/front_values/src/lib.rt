@@ -1,3 +1,4 @@
+#![tactic(auto)]
 // Refusal 7: "output or variable group without value", at the group's first name.
 // Inner functions answer 0, or the lowest place plus 1.
 ghost use Rattle.std.specs.Prelude.{◌≡◌, ◌<◌};

@@ -1,0 +1,39 @@
+-- `front_typing::expression::item` meets its contract: an operand, an operator of one operand or of two, by its code. Assumes nothing.
+use Rattle.base_codes.specs.Stack.{stack_of}
+use Rattle.front_layout.specs.Arrays.{number_in}
+use Rattle.front_typing.specs.Expressions.{name_code}
+use Rattle.front_typing.proofs.StackLaws.{step_operand, step_unary, step_binary}
+use Rattle.front_typing.proofs.expression.item.Goals as goal
+
+pub push-requires : goal.push-requires
+push-requires c = c.requires
+
+pub returns-then-operands-eq0 : goal.returns-then-operands-eq0
+returns-then-operands-eq0 c =
+    let s = c.args in
+    step_operand s.c (name_code s.owners.now s.decls.now s.d s.i) (number_in s.places.now s.n s.i)
+    c.operand_type-t.result c.operands-operands.result
+    (stack_of 0 s.stack.now s.p.depth) s.p.lowest c.operands-operands.ensures c.if-operands-eq0.true
+    c.operand_type-t.ensures c.push.ensures
+
+pub unary-requires : goal.unary-requires
+unary-requires c = c.requires
+
+pub returns-then-operands-eq1 : goal.returns-then-operands-eq1
+returns-then-operands-eq1 c =
+    let s = c.args in
+    step_unary s.c (name_code s.owners.now s.decls.now s.d s.i) (number_in s.places.now s.n s.i)
+    c.place_at-place.result c.operands-operands.result
+    (stack_of 0 s.stack.now s.p.depth) s.p.lowest c.operands-operands.ensures
+    c.if-operands-eq0.false c.if-operands-eq1.true c.place_at-place.ensures c.unary.ensures
+
+pub binary-requires : goal.binary-requires
+binary-requires c = c.requires
+
+pub returns : goal.returns
+returns c =
+    let s = c.args in
+    step_binary s.c (name_code s.owners.now s.decls.now s.d s.i) (number_in s.places.now s.n s.i)
+    c.place_at-place.result c.operands-operands.result
+    (stack_of 0 s.stack.now s.p.depth) s.p.lowest c.operands-operands.ensures
+    c.if-operands-eq0.false c.if-operands-eq1.false c.place_at-place.ensures c.binary.ensures
