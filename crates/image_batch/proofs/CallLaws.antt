@@ -37,14 +37,14 @@ module _ (b : List ℕ) (s : State) (n : ℕ) (is os : List ℤ) (ns : List ℕ)
   unfolding batch_of
   by_rows r e = ap (λ (x : Told (List Called)). laid_out x s os ns) e
 
-  turned_back_lem : (r : Refusal) → rows_run_on (open_of b) b s n is os ns ≡ refused_by r → Batches (batch_of b s n is os ns) (back s r) os ns
-  turned_back_lem r e =
+  when_turned_back : (r : Refusal) → rows_run_on (open_of b) b s n is os ns ≡ refused_by r → Batches (batch_of b s n is os ns) (back s r) os ns
+  when_turned_back r e =
       subst (λ (c : Batch). Batches c (back s r) os ns) (sym (by_rows (refused_by r) e))
       (record { answer = refl; state = refl; rows = refl; answers = refl; performed = refl })
 
   -- an image that is refused
   pub closed : (r : Refusal) → refused_by r ≡ open_answer b (open_of b) → Batches (batch_of b s n is os ns) (back s r) os ns
-  closed r e = turned_back_lem r (ap (λ (o : Opened). rows_run_on o b s n is os ns) (image_refused b r e))
+  closed r e = when_turned_back r (ap (λ (o : Opened). rows_run_on o b s n is os ns) (image_refused b r e))
 
   -- an image that opens, by its widths
   module _ (x : Sections) (e : done x ≡ open_answer b (open_of b)) (w : Widths)
@@ -68,7 +68,7 @@ module _ (b : List ℕ) (s : State) (n : ℕ) (is os : List ℤ) (ns : List ℕ)
 
     -- 17
     pub not_due : q ≡ false → Batches (batch_of b s n is os ns) (back s BadLengths) os ns
-    not_due f = turned_back_lem BadLengths (rows_by ∙ ap (λ (y : Bool). cond y called (refusal 17 0)) f)
+    not_due f = when_turned_back BadLengths (rows_by ∙ ap (λ (y : Bool). cond y called (refusal 17 0)) f)
 
     -- the lengths
     pub lengths : q ≡ true → Due w n is os ns

@@ -1,3 +1,4 @@
+#![tactic(auto)]
 // Many rows in one call on an image (document 02, slip 1): the image is opened once, the three lengths are held to the count's due, and then each row is a cycle
 // from the state that the one before it left, with its own part of inputs, outputs and answers.
 ghost use Rattle.std.specs.Prelude.{◌≡◌, false, ◌&&◌, ◌||◌, ◌*◌, eqb, length};
@@ -17,7 +18,7 @@ use base_codes::{image, record};
 use image_checks::signature::count;
 
 // The call's answer, the state after the last row, and whether a row was performed.
-#[derive(Drop)]
+#[derive(Clone, Copy)]
 pub struct Outcome {
     pub performed: bool,
     pub state: State,
@@ -25,14 +26,14 @@ pub struct Outcome {
 }
 
 // How many values an input row and an output row of the image have.
-#[derive(Drop)]
+#[derive(Clone, Copy)]
 struct Widths {
     inputs: usize,
     outputs: usize,
 }
 
 // The rows so far: where the next one's parts begin, whether a row was performed, and the state.
-#[derive(Drop)]
+#[derive(Clone, Copy)]
 struct Progress {
     input: usize,
     output: usize,

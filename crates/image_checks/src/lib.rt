@@ -1,3 +1,4 @@
+#![tactic(auto)]
 // What a cycle does before and after it follows the lines of an image that was opened: rows and state judged (refusals 14 and 15), the fresh
 // state, the output row. Every function takes sections as the opener lends them out, and its promise holds for the table that they open to.
 pub mod signature; // counts, types and initial values by position
@@ -7,7 +8,7 @@ pub mod lines; // where a cycle begins
 pub mod types; // the type bytes that code is evaluated over
 
 // What refusal 14 says of the rows: they are right, or wrong at a place.
-#[derive(Drop)]
+#[derive(Clone, Copy)]
 pub enum RowCheck {
     Right,
     WrongAt(usize),

@@ -1,3 +1,4 @@
+#![tactic(auto)]
 // The compiler: a text to the image of its design in the caller's buffer, or its refusal.
 ghost use Rattle.std.specs.Prelude.{◌≡◌};
 ghost use Rattle.base_answers.specs.Answers.{compile_told};

@@ -1,3 +1,4 @@
+#![tactic(auto)]
 // A cycle on the sections of an opened image.
 ghost use Rattle.std.specs.Prelude.{◌≡◌, List, suc, ◌<◌, length, take, ℤ, true};
 ghost use Rattle.std.proofs.Math.Option.{none, some};

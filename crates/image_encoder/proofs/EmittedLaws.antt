@@ -11,7 +11,7 @@ use lib.Dec.{eqb}
 use lib.IntN.{ℤ, pos}
 use Rattle.spec_design.specs.Types.{Ty, ExprTy}
 use Rattle.spec_design.specs.Expression.{Leaf, int, bit, input, variable, Unary, sign, invert, Binary, plus, minus, equal, unequal, less, at_most, greater}
-use Rattle.spec_design.specs.Expression.{at_least_lem, and, or, xor, times, divide, modulo, remainder, Expr, leaf, unary, binary, leaf_type, type_of_unary, type_of_binary}
+use Rattle.spec_design.specs.Expression.{at_least, and, or, xor, times, divide, modulo, remainder, Expr, leaf_type, type_of_unary, type_of_binary}
 use Rattle.spec_design.specs.Expression.{type_of}
 use Rattle.spec_design.proofs.Postfix.{Steps, lay_whole}
 use Rattle.spec_semantics.specs.Twos.{unsigned32}
@@ -86,7 +86,7 @@ binary_flat unequal z = refl
 binary_flat less z = refl
 binary_flat at_most z = refl
 binary_flat greater z = refl
-binary_flat at_least_lem z = refl
+binary_flat at_least z = refl
 binary_flat and z = refl
 binary_flat or z = refl
 binary_flat xor z = refl

@@ -2,7 +2,7 @@
 use Prim.Native.Nat.{ℕ, zero, suc, ◌+◌, ◌-◌, ◌*◌, ◌≤◌, ◌<◌, min}
 use native.Mathlib.Omega.{arith}
 use mathlib.Core.Path.{◌≡◌, refl, sym, ap, ◌∙◌}
-use mathlib.Core.List.{List, [], ◌∷◌, ◌++◌, append_assoc, append-nil, map}
+use mathlib.Core.List.{List, [], ◌∷◌, ◌++◌, append-nil, map}
 use lib.ListN.{length, get_or, take, drop, length-append, length-map}
 use lib.Seq.{sets, sets-eq}
 use lib.IntN.{ℤ, pos}
@@ -12,9 +12,9 @@ use Rattle.spec_design.specs.Statement.{size}
 use Rattle.spec_design.specs.Process.{Source, Slot, Process, WellFormed, source_types, slot_types, initials}
 use Rattle.spec_format.specs.Words.{bytes4}
 use Rattle.spec_semantics.specs.Twos.{unsigned32}
-use Rattle.spec_format.specs.Lines.{lines, lines_of, line, reaches_of}
+use Rattle.spec_format.specs.Lines.{lines_of, line, reaches_of}
 use Rattle.spec_format.specs.Signature.{type_bytes, cell_bytes, signature_bytes}
-use Rattle.spec_format.specs.Image.{raws_of, raws_bytes, code_of_lines, pairs, joined, image, form1, sections_for, encode_table}
+use Rattle.spec_format.specs.Image.{raws_bytes, code_of_lines, pairs, joined, image, form1, sections_for, encode_table}
 use Rattle.spec_format.specs.Encode.{cells, signature_for, table_of, encode}
 use Rattle.spec_format.specs.Writing.{written_into}
 use Rattle.spec_format.proofs.Writing.{fits_written, short_written}
@@ -22,7 +22,7 @@ use Rattle.spec_format.proofs.Encoded.{raws_length}
 use Rattle.spec_simulation.proofs.Lines.{lines_of_length, lines_of_line}
 use Rattle.spec_simulation.proofs.Reaches.{reaches_of_length}
 use Rattle.base_ir.specs.declared.Declared.{Declared}
-use Rattle.base_ir.specs.Arrays.{TypesIn, ValuesIn, BodyIn, NamesIn, Holds}
+use Rattle.base_ir.specs.Arrays.{BodyIn, NamesIn, Holds}
 use Rattle.base_ir.proofs.Held.{entries_size, at_whole}
 use Rattle.image_encoder.specs.declared.Encoded.TheVariants.{Written, TooShort}
 use Rattle.image_flow.specs.Followers.{Links, stored, Followed}
@@ -119,8 +119,8 @@ few_types p w =
     let v = w.variables in
     (omega arith, omega arith, omega arith)
 
-body_count_lem : {p : Process} {codes : List ℕ} {args : List ℤ} {rows : List ℕ} {k n : ℕ} → BodyIn p codes args rows k n → size p.body ≡ n
-body_count_lem {p} b = sym (entries_size p.body) ∙ b.lines.count
+counted_in_body : {p : Process} {codes : List ℕ} {args : List ℤ} {rows : List ℕ} {k n : ℕ} → BodyIn p codes args rows k n → size p.body ≡ n
+counted_in_body {p} b = sym (entries_size p.body) ∙ b.lines.count
 
 -- the lines section, from the followers and reaches that were stored
 pub body_lines : (codes rows : List ℕ) (n at : ℕ) (x₀ x : Links) (r₀ r before after : List ℕ) → n ≤ length x₀.next → n ≤ length x₀.other → n ≤ length r₀
@@ -129,7 +129,7 @@ pub body_lines : (codes rows : List ℕ) (n at : ℕ) (x₀ x : Links) (r₀ r b
 body_lines codes rows n at x₀ x r₀ r before after hn ho hr fol rea e p args k b w =
     let s = p.body in
     let held = at_whole b in
-    let count : size s ≡ n = body_count_lem b in
+    let count : size s ≡ n = counted_in_body b in
     let xs : x ≡ stored 0 (lines_of s) x₀ = fol codes args s b.block held count hn ho in
     let rs : r ≡ sets r₀ 0 (reaches_of s) = rea codes args s x₀ held count w.class w.loops hn ho xs hr in
     let few = few_types p w in
@@ -186,7 +186,7 @@ lines_length_lem : {p : Process} {codes : List ℕ} {args : List ℤ} {rows : Li
     → length (lines_bytes p) ≡ 12 * n
 lines_length_lem {p} b =
     let l = lines_of_length p.body in
-    let c = body_count_lem b in
+    let c = counted_in_body b in
     let h = raws_length 0 (lines_of p.body) (reaches_of p.body) (reaches_of_length p.body ∙ sym l) in
     omega arith
 

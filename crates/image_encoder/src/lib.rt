@@ -1,3 +1,4 @@
+#![tactic(auto)]
 // The image of a design that stands in arrays: followers, reaches, code, and the image's bytes in the caller's buffer.
 ghost use Rattle.std.specs.Prelude.{◌≡◌, false, ◌<◌, ◌≤◌};
 ghost use Rattle.base_ir.specs.Arrays.{Bounded};
@@ -11,7 +12,7 @@ mod bytes;
 mod sections;
 
 // The bytes written, or the bytes needed of a buffer that is too short.
-#[derive(Drop)]
+#[derive(Clone, Copy)]
 pub enum Encoded {
     Written(usize),
     TooShort(usize),

@@ -1,3 +1,4 @@
+#![tactic(auto)]
 // Evaluates the postfix code of a line on a stack of values, each a number with its type.
 mod operand;
 
@@ -12,21 +13,21 @@ ghost use Rattle.image_evaluator.specs.Stack.{cells_of, Room, Says};
 use base_codes::{limit, operation, refusal};
 
 // The value of an expression: the number of its type, and its number.
-#[derive(Drop)]
+#[derive(Clone, Copy)]
 pub struct Found {
     pub kind: u8,
     pub value: i32,
 }
 
 // What an expression comes to: a value, or the refusal's number, 16 or 18 by an operator, or 13 where the bytes are no expression.
-#[derive(Drop)]
+#[derive(Clone, Copy)]
 pub enum Evaluated {
     Value(Found),
     Fault(u8),
 }
 
 // After an operation: the depth of the stack and the byte of the next operation, or the refusal's number.
-#[derive(Drop)]
+#[derive(Clone, Copy)]
 enum Transition {
     Go(usize, usize),
     Stop(u8),

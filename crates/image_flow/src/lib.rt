@@ -1,3 +1,4 @@
+#![tactic(auto)]
 // Next, other and reach of every statement of a design that stands in arrays.
 ghost use Rattle.std.specs.Prelude.{◌≡◌, get_or};
 ghost use Rattle.image_flow.specs.Followers.{links};

@@ -1,6 +1,6 @@
 -- The stack of type tags, by place, comes to the type that decoding gives: the operations read by place are those of the code, the run on
 -- tags is the run on typed expressions, and an expression has as many items as its code has operations. Assumes nothing.
-use Prim.Native.Nat.{ℕ, zero, suc, ◌+◌, ◌-◌, ◌≤◌, ◌<◌}
+use Prim.Native.Nat.{ℕ, zero, suc, ◌+◌, ◌≤◌, ◌<◌}
 use native.Mathlib.Omega.{arith}
 use native.Mathlib.Decide.{dec_lt}
 use mathlib.Core.Path.{◌≡◌, refl, sym, ap, ◌∙◌}

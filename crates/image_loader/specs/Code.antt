@@ -1,6 +1,6 @@
 -- The code of a line, checked by place on a stack of types by number (document 01, "Image, form 1"). `code_type` is by `decode` of the crate spec_format;
 -- `code_tags` and `rest_turn` tie the stack to it. Assumes nothing.
-use Rattle.std.specs.Prelude.{cond, List, [], ◌∷◌, ℕ, ◌+◌, ◌-◌, ◌≤◌, ◌≡◌, length, get_or, ltb, leb, eqb}
+use Rattle.std.specs.Prelude.{cond, List, [], ◌∷◌, ℕ, ◌+◌, ◌≤◌, ◌≡◌, length, get_or, ltb, leb, eqb}
 use Rattle.std.proofs.Math.Option.{Option, none, some, bind}
 use Rattle.base_codes.specs.Stack.{stack_of}
 use Rattle.spec_design.specs.Types.{Ty, std_logic, integer, ExprTy, plain}

@@ -1,3 +1,4 @@
+#![tactic(auto)]
 // Opens an image: finds its three sections, or refuses it by 11, 12 or 13 at the exact place. One pass over the bytes.
 mod code;
 mod lines;

@@ -13,7 +13,7 @@ use crate::signature::count;
 use base_codes::{image, types};
 
 // All lines are good, or the lowest bad line, or the line count where only the code section is not filled.
-#[derive(Drop)]
+#[derive(Clone, Copy)]
 pub(crate) enum Judgement {
     Good,
     BadAt(usize),

@@ -1,3 +1,4 @@
+#![tactic(auto)]
 // The run-time on whole images: whatever the bytes, the state and the rows are, a call is performed or refused as document 01 says.
 ghost use Rattle.std.specs.Prelude.{◌≡◌, ◌+◌, ◌≤◌, length, []};
 ghost use Rattle.base_answers.specs.Answers.{lines_of, cycle_told, fresh_told, done};
@@ -15,7 +16,7 @@ use base_answers::{Advanced, Cycled, FreshState, Opened, Sections, Started, Stat
 use base_codes::{limit, record};
 
 // A cycle's answer, the state after it, and whether it was performed.
-#[derive(Drop)]
+#[derive(Clone, Copy)]
 struct Outcome {
     performed: bool,
     state: State,

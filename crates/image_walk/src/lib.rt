@@ -1,3 +1,4 @@
+#![tactic(auto)]
 // Lines of an opened image: one performed (its fields read from the lines section, its code evaluated, its target stored), and lines followed up to a wait.
 // A line is lent as its own bytes: it is line 0 of what is lent.
 ghost use Rattle.std.specs.Prelude.{◌≡◌, cond, suc, ◌*◌, set, take, drop, eqb};
@@ -14,7 +15,7 @@ use base_codes::{image, limit};
 use image_evaluator::{Evaluated, Found};
 
 // What a line leads to: the end of the cycle at this wait, the line to follow, or a refusal's number.
-#[derive(Drop)]
+#[derive(Clone, Copy)]
 pub enum Move {
     Wait,
     Next(u32),
@@ -204,7 +205,7 @@ fn perform(
 }
 
 // Where lines lead: to a wait, with the number of lines performed; to a refusal's number at a line; or to no wait within the lines allowed.
-#[derive(Drop)]
+#[derive(Clone, Copy)]
 pub enum Followed {
     Reached(u32, u32),
     Stopped(u8, u32),

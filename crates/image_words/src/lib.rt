@@ -1,3 +1,4 @@
+#![tactic(auto)]
 // Little-endian words in a slice of bytes, read at a position, and the bytes of a word. A byte past the slice's end counts as 0.
 ghost use Rattle.std.specs.Prelude.{◌≡◌, ◌+◌, ◌%◌, ◌<◌, ◌≤◌, length, get_or};
 ghost use Rattle.spec_format.specs.Words.{word2_at, word4_at, bytes4};
