@@ -1,3 +1,4 @@
+#![tactic(auto)]
 // The C interface: eight functions with plain names, for C and Rust to link; include/rabtishu.h declares them. Whatever is lent, each call is done or
 // refused as document 01 says; a refused one writes nothing but its answer.
 mod record;

@@ -12,7 +12,7 @@ ghost use Rattle.spec_semantics.specs.Advances.{cycle_answer, fresh_answer};
 use base_answers::{Cycled, Started, State, is_fresh, is_performed};
 
 // A cycle's answer, the state after it, and whether it was performed.
-#[derive(Drop)]
+#[derive(Clone, Copy)]
 struct Outcome {
     performed: bool,
     state: State,
@@ -20,7 +20,7 @@ struct Outcome {
 }
 
 // The answer to a fresh state asked for, the state, and whether it is there.
-#[derive(Drop)]
+#[derive(Clone, Copy)]
 struct Start {
     done: bool,
     state: State,

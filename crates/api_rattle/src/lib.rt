@@ -1,3 +1,4 @@
+#![tactic(auto)]
 // The public operations in the forms that document 01 names, none with a `requires`. `compile` and `cycle` (the state by `&mut`) are proved where they stand and
 // named here again; `fresh`, `direct` and `direct_fresh` store the caller's own state record (calls.rt); the opened image holds the caller's bytes and the bounds
 // of the three sections, which it lends out as parts of those bytes, and `token_at` a part of the text.
@@ -14,7 +15,7 @@ pub use image_compiler::compile;
 pub use image_runtime::advance_state as cycle;
 
 // What opening an image finds: the refusal's number and place, or 0, and the bounds of the sections, which are 0 where the image is refused.
-#[derive(Drop)]
+#[derive(Clone, Copy)]
 pub struct Opening {
     pub number: u32,
     pub place: usize,
@@ -22,7 +23,7 @@ pub struct Opening {
 }
 
 // An image with what opening it has found.
-#[derive(Drop)]
+#[derive(Clone, Copy)]
 pub struct Image<'a> {
     pub bytes: &'a [u8],
     pub opening: Opening,

@@ -15,13 +15,12 @@ use lib.Dec.{eqb, ltb, leb}
 use Rattle.base_answers.specs.declared.State.{State}
 use Rattle.base_answers.specs.declared.Counts.{Counts}
 use Rattle.base_answers.specs.declared.Cycled.TheVariants.{Performed, NotPerformed}
-use Rattle.base_answers.specs.declared.Refusal.{Refusal}
 use Rattle.base_answers.specs.declared.Refusal.TheVariants.{BadRow, BadState}
 use Rattle.spec_design.specs.Types.{Ty, ExprTy, boolean, type_byte}
 use Rattle.spec_design.specs.Expression.{Expr, items, nth, plainly, type_of}
 use Rattle.spec_design.specs.Statement.{output, variable, null, Stmt, act, wait, if_then, if_else, while, seq, size, has}
 use Rattle.spec_design.specs.Process.{Process, Source, Slot, source_types, slot_types, initials, WellFormed, fits, is_type, typed_act, typed}
-use Rattle.spec_semantics.specs.Equations.{Run, Result, reached, at, cycle}
+use Rattle.spec_semantics.specs.Equations.{Run, Result, reached, cycle}
 use Rattle.spec_semantics.specs.Rows.{row_refusal, concluded, kept_at_first}
 use Rattle.spec_semantics.specs.Way.{Ended, at_wait}
 use Rattle.spec_semantics.proofs.Basic.{and_left, and_right, eqb_same}

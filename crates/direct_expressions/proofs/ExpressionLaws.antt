@@ -10,7 +10,7 @@ use lib.ListN.{length}
 use lib.IntN.{ℤ, pos}
 use Rattle.spec_design.specs.Types.{Ty, std_logic, integer, ExprTy, plain, boolean}
 use Rattle.spec_design.specs.Expression.{Leaf, int, bit, input, variable, Unary, sign, invert, Binary, plus, minus, equal, unequal, less, at_most, greater}
-use Rattle.spec_design.specs.Expression.{at_least_lem, and, or, xor, times, divide, modulo, remainder, Expr, leaf, unary, binary, items, Out, fine, fault, bind}
+use Rattle.spec_design.specs.Expression.{at_least, and, or, xor, times, divide, modulo, remainder, Expr, leaf, unary, binary, items, Out, fine, fault, bind}
 use Rattle.spec_design.specs.Expression.{Algebra, fold, type_of_unary, type_of_binary, type_of}
 use Rattle.spec_design.proofs.Postfix.{stack_law}
 use Rattle.spec_semantics.specs.Evaluation.{leaf_value, values, evaluate}
@@ -71,7 +71,7 @@ module _ (i v : List ℤ) where
   by_code less z x y st = refl
   by_code at_most z x y st = refl
   by_code greater z x y st = refl
-  by_code at_least_lem z x y st = refl
+  by_code at_least z x y st = refl
   by_code and z x y st = refl
   by_code or z x y st = refl
   by_code xor z x y st = refl

@@ -1,7 +1,7 @@
 // The value of an expression: its operations, one after another, on a stack of numbers.
 ghost use Rattle.std.specs.Prelude.{◌≡◌, ◌+◌, length, get_or, pos};
 ghost use Rattle.spec_design.specs.Expression.{Expr};
-ghost use Rattle.spec_semantics.specs.Evaluation.{evaluate as evaluateOf};
+ghost use Rattle.spec_semantics.specs.Evaluation.{evaluate as evaluate_of};
 ghost use Rattle.spec_semantics.specs.Twos.{unsigned32};
 ghost use Rattle.base_ir.specs.Operations.{op as operation, ops};
 ghost use Rattle.base_ir.specs.Arrays.{ops_from};
@@ -177,8 +177,8 @@ pub fn evaluate(
     variables: &[i32],
 ) -> Evaluated
     ensures value { result ≡ evaluated_of (value_in codes.now args.now from to inputs.now variables.now) }
-    ensures value_2 { (e : Expr) → ops_from codes.now args.now from (length (ops e)) ≡ ops e → to ≡ from + length (ops e) → Performable e
-        → result ≡ evaluated_of (evaluateOf e inputs.now variables.now) }
+    ensures of_expression { (e : Expr) → ops_from codes.now args.now from (length (ops e)) ≡ ops e → to ≡ from + length (ops e) → Performable e
+        → result ≡ evaluated_of (evaluate_of e inputs.now variables.now) }
 {
     let mut stack = [0i32; limit::ITEMS];
     run(codes, args, from, to, inputs, variables, &mut stack)

@@ -1,3 +1,4 @@
+#![tactic(auto)]
 // The direct run: a cycle from the text, without an image; whatever the text, the state and the rows are, it is performed or refused as document 01 says.
 ghost use Rattle.std.specs.Prelude.{◌≡◌, []};
 ghost use Rattle.base_answers.specs.Answers.{cycle_told, fresh_told};

@@ -1,10 +1,11 @@
+#![tactic(auto)]
 // The statements of a design in arrays, started and resumed by position, up to a wait. A reader can hold it beside the equations.
 pub mod blocks;
 pub mod cycles;
 
 // What a statement does itself: a wait is reached; it is performed, and the statements from .. to inside it follow, none where the two are equal;
 // or an operator of it is refused by that number.
-#[derive(Drop)]
+#[derive(Clone, Copy)]
 enum Effect {
     Waits,
     Performed(usize, usize),
@@ -13,7 +14,7 @@ enum Effect {
 
 // Where a block is resumed at a wait: nowhere, since the rows are those of no block with that wait; at a wait of its own, behind which the statements from
 // this row on are started; or in the part whose rows are a .. b, behind which those from the last row on are started.
-#[derive(Drop)]
+#[derive(Clone, Copy)]
 enum Inside {
     Nothing,
     Wait(usize),
@@ -22,7 +23,7 @@ enum Inside {
 
 // A statement is passed; a wait is reached; or an operator is refused, by which number and in which statement. The last number of the first two is
 // the length of the way.
-#[derive(Drop)]
+#[derive(Clone, Copy)]
 pub enum Progress {
     Passed(usize),
     Reached(usize, usize),

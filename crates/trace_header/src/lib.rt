@@ -1,3 +1,4 @@
+#![tactic(auto)]
 // The header of a trace, from the text: `cycle wait lines`, then the output names in lower case, at the places that the front end hands out.
 ghost use Rattle.std.specs.Prelude.{◌≡◌, []};
 ghost use Rattle.trace_header.specs.Lines.{line_of, Headed, Shows};
@@ -14,7 +15,7 @@ use front_accept::Acceptance;
 pub const ROOM: usize = 560;
 
 // Bytes and how many of them count; those behind are 0.
-#[derive(Drop)]
+#[derive(Clone, Copy)]
 pub struct Line {
     pub bytes: [u8; ROOM],
     pub size: usize,

@@ -1,3 +1,4 @@
+#![tactic(auto)]
 // The trace in chunks: `start` compiles the text once, `first` is where the trace stands before the first row, and each call of `fill` checks the image
 // once and puts the lines of as many rows into a lent buffer as it has room for. What is printed for a whole text is a refusal of `start` alone, or a
 // header and then the lines.
@@ -24,14 +25,14 @@ use rows::Row;
 const LINE: usize = 512;
 
 // A row run: the state after it, and how many bytes of its line stand in the buffer.
-#[derive(Drop)]
+#[derive(Clone, Copy)]
 struct Ran {
     state: State,
     size: usize,
 }
 
 // Where a trace stands: the state, the number of the next row, and where that row begins.
-#[derive(Drop)]
+#[derive(Clone, Copy)]
 pub struct Progress {
     pub state: State,
     pub number: usize,
@@ -40,14 +41,14 @@ pub struct Progress {
 
 // Lines of rows: where the trace stands after them, and how many bytes of the buffer they fill. No bytes: there is no row any more, the buffer has no
 // room for a line, or the image is refused.
-#[derive(Drop)]
+#[derive(Clone, Copy)]
 pub struct Filled {
     pub progress: Progress,
     pub size: usize,
 }
 
 // How a trace begins: its only line, with the number of its bytes in the buffer; or a header and rows, with the number of the image's bytes.
-#[derive(Drop)]
+#[derive(Clone, Copy)]
 pub enum Begun {
     Only(usize),
     Image(usize),

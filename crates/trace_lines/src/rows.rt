@@ -22,14 +22,14 @@ const ABOVE: u64 = LEAST + 1;
 const WORDS: u64 = limit::WORD as u64 + 1;
 
 // A decimal: its integer, or unreadable, which stands for one outside integer too.
-#[derive(Drop)]
+#[derive(Clone, Copy)]
 pub(crate) enum Decimal {
     Value(i32),
     Unreadable,
 }
 
 // A row: the number of its values, or unreadable, which stands for a row of more than 16 values too.
-#[derive(Drop)]
+#[derive(Clone, Copy)]
 pub(crate) enum Row {
     Values(usize),
     Unreadable,
