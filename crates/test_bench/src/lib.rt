@@ -1,3 +1,4 @@
+#![tactic(auto)]
 // Many rows in one call, for the benchmark of tests/outside: the loop over the rows runs here, so that the C interface is passed once and not for every row.
 // Inputs hold the rows one after another, `width` values each; at most `count` of them are run, and only whole ones. Each answers the lines performed in all.
 ghost use Rattle.std.specs.Prelude.{◌≡◌, ◌&&◌, ◌+◌, ◌≤◌, ltb, leb, length, take, drop};
@@ -14,7 +15,7 @@ ghost use Rattle.test_bench.specs.Rows.{direct_cycle, told, Runs, Adds};
 use base_answers::{Cycled, Opened, Sections, State};
 
 // The lines performed so far, and the state.
-#[derive(Drop)]
+#[derive(Clone, Copy)]
 struct Progress {
     lines: usize,
     state: State,

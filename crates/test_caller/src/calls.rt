@@ -3,7 +3,7 @@
 use base_answers::{Advanced, Batched, FreshState, State};
 
 // The answer to many rows, and the state after them.
-#[derive(Drop)]
+#[derive(Clone, Copy)]
 pub(crate) struct AfterRows {
     pub(crate) state: State,
     pub(crate) answer: Batched,

@@ -1,9 +1,10 @@
 // Calls on an image or on a text: the fresh state, rows one after another, rows and states that are refused.
 use crate::{calls, print};
 use base_answers::{Advanced, FreshState, State};
+use std::io;
 
 // What is called: the operations on an image, or those on a text; and how many inputs and outputs a row has.
-#[derive(Drop)]
+#[derive(Clone, Copy)]
 pub(crate) struct Rows {
     pub(crate) on_image: bool,
     pub(crate) inputs: usize,
@@ -51,14 +52,14 @@ fn start_of(bytes: &[u8], on_image: bool, s: State) -> FreshState {
 }
 
 // The fresh state asked for with a record that is marked.
-pub(crate) fn start(bytes: &[u8], on_image: bool) -> State {
-    print::words(b" fresh");
+pub(crate) fn start(rt: &impl Print, bytes: &[u8], on_image: bool) -> io::Result<State> {
+    print::words(rt, b" fresh")?;
     let f = start_of(bytes, on_image, marked());
     let answer = f.answer;
     let state = f.state;
-    print::started(answer);
-    print::state(state);
-    state
+    print::started(rt, answer)?;
+    print::state(rt, state)?;
+    Ok(state)
 }
 
 fn advance(bytes: &[u8], on_image: bool, s: State, inputs: &[i32], row: &mut [i32]) -> Advanced {
@@ -69,37 +70,52 @@ fn advance(bytes: &[u8], on_image: bool, s: State, inputs: &[i32], row: &mut [i3
 }
 
 // A call, printed; the state that it leaves.
-fn call(bytes: &[u8], on_image: bool, s: State, inputs: &[i32], row: &mut [i32]) -> State {
+fn call(
+    rt: &impl Print,
+    bytes: &[u8],
+    on_image: bool,
+    s: State,
+    inputs: &[i32],
+    row: &mut [i32],
+) -> io::Result<State> {
     let a = advance(bytes, on_image, s, inputs, row);
     let answer = a.answer;
     let state = a.state;
-    print::words(b" cycle");
-    print::cycled(answer);
-    print::row(row);
-    print::state(state);
-    state
+    print::words(rt, b" cycle")?;
+    print::cycled(rt, answer)?;
+    print::row(rt, row)?;
+    print::state(rt, state)?;
+    Ok(state)
 }
 
 // A call with the first m places of an output row.
 fn call_with(
+    rt: &impl Print,
     bytes: &[u8],
     on_image: bool,
     s: State,
     inputs: &[i32],
     row: &mut [i32],
     m: usize,
-) -> State {
+) -> io::Result<State> {
     if row.len() < m {
-        return s;
+        return Ok(s);
     }
-    call(bytes, on_image, s, inputs, &mut row[0..m])
+    call(rt, bytes, on_image, s, inputs, &mut row[0..m])
 }
 
 // A call with the same value in all inputs.
-pub(crate) fn run_row(bytes: &[u8], rows: Rows, s: State, v: i32) -> State {
+pub(crate) fn run_row(
+    rt: &impl Print,
+    bytes: &[u8],
+    rows: Rows,
+    s: State,
+    v: i32,
+) -> io::Result<State> {
     let inputs = [v; 20];
     let mut row = [99i32; 20];
     call_with(
+        rt,
         bytes,
         rows.on_image,
         s,
@@ -110,15 +126,15 @@ pub(crate) fn run_row(bytes: &[u8], rows: Rows, s: State, v: i32) -> State {
 }
 
 // The rows, one after another.
-fn run_rows(bytes: &[u8], rows: Rows, first: State) -> State {
+fn run_rows(rt: &impl Print, bytes: &[u8], rows: Rows, first: State) -> io::Result<State> {
     let mut s = first;
     let mut k = 0;
     while k < COUNT {
-        s = run_row(bytes, rows, s, value(k));
-        print::line();
+        s = run_row(rt, bytes, rows, s, value(k))?;
+        print::line(rt)?;
         k += 1;
     }
-    s
+    Ok(s)
 }
 
 fn with_place(s: State, place: u16) -> State {
@@ -153,9 +169,9 @@ fn with_variable(s: State, v: i32) -> State {
     }
 }
 
-fn run_one(bytes: &[u8], rows: Rows, s: State) {
-    run_row(bytes, rows, s, 1);
-    print::line();
+fn run_one(rt: &impl Print, bytes: &[u8], rows: Rows, s: State) -> io::Result<()> {
+    run_row(rt, bytes, rows, s, 1)?;
+    print::line(rt)
 }
 
 fn with_lengths(rows: Rows, inputs: usize, outputs: usize) -> Rows {
@@ -167,23 +183,23 @@ fn with_lengths(rows: Rows, inputs: usize, outputs: usize) -> Rows {
 }
 
 // 17 inputs, then 17 outputs: more than any image has.
-fn run_long_rows(bytes: &[u8], rows: Rows, s: State) {
-    run_one(bytes, with_lengths(rows, 17, rows.outputs), s);
-    run_one(bytes, with_lengths(rows, rows.inputs, 17), s);
+fn run_long_rows(rt: &impl Print, bytes: &[u8], rows: Rows, s: State) -> io::Result<()> {
+    run_one(rt, bytes, with_lengths(rows, 17, rows.outputs), s)?;
+    run_one(rt, bytes, with_lengths(rows, rows.inputs, 17), s)
 }
 
 // A place that no line has, a slot that few texts use, and an output that is no std_logic.
-fn run_other_states(bytes: &[u8], rows: Rows, s: State) {
-    run_one(bytes, rows, with_place(s, 513));
-    run_one(bytes, rows, with_variable(s, 1));
-    run_one(bytes, rows, with_output(s, 2));
+fn run_other_states(rt: &impl Print, bytes: &[u8], rows: Rows, s: State) -> io::Result<()> {
+    run_one(rt, bytes, rows, with_place(s, 513))?;
+    run_one(rt, bytes, rows, with_variable(s, 1))?;
+    run_one(rt, bytes, rows, with_output(s, 2))
 }
 
 // All calls.
-pub(crate) fn run(bytes: &[u8], rows: Rows) {
-    let first = start(bytes, rows.on_image);
-    print::line();
-    let last = run_rows(bytes, rows, first);
-    run_long_rows(bytes, rows, last);
-    run_other_states(bytes, rows, last);
+pub(crate) fn run(rt: &impl Print, bytes: &[u8], rows: Rows) -> io::Result<()> {
+    let first = start(rt, bytes, rows.on_image)?;
+    print::line(rt)?;
+    let last = run_rows(rt, bytes, rows, first)?;
+    run_long_rows(rt, bytes, rows, last)?;
+    run_other_states(rt, bytes, rows, last)
 }

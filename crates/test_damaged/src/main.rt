@@ -1,3 +1,4 @@
+#![tactic(auto)]
 // Calls on damaged images, states and rows: a line for each case. The arguments come in pairs, an image's file and a file of cases. A case is 28 bytes:
 //   0, 1      how many bytes of the image are taken; past its end they are 0
 //   2 to 8    position, number of bytes (0 to 4), and what is written there
@@ -15,11 +16,13 @@
 // then q <= not f and a; null; else m <= n + k - j; end if; wait; if (k <= n) and (n > j) then j := j - 1; end if; end if;
 // Of gate: each field one more and one less (1 to 334), input values (335 to 370), each slot 2 and -1 (371 to 466), its std_logic slots (467 to 470), row
 // lengths (471 to 486), every place and the ends of the range (487 to 540), rows in turn (541 to 552), *, /, mod, rem (553 to 581).
-ghost use Rattle.std.specs.Prelude.{◌≤◌, length};
+ghost use Rattle.std.specs.Prelude.{◌≤◌, length, IfOk};
 
 use base_answers::{Cycled, Opened, Refusal, Started, State};
 use image_words::{byte, word2, word4};
-use libc::STDOUT_FILENO;
+use std::env::Env;
+use std::io;
+use std::rt::Files;
 
 fn wide(x: u8) -> usize
     ensures { result ≤ 255 }
@@ -27,91 +30,84 @@ fn wide(x: u8) -> usize
     x as usize
 }
 
-fn print_number(n: usize) {
-    io::write_all(STDOUT_FILENO, b" ");
-    io::print_decimal(STDOUT_FILENO, n as u64);
+fn print_number(rt: &impl Print, n: usize) -> io::Result<()> {
+    print!(rt; " {n}")
 }
 
-fn print_integer(v: i32) {
-    let n = base_signed::to_bits(v);
-    if n < 2147483648 {
-        io::print_decimal(STDOUT_FILENO, n as u64);
-        return;
-    }
-    io::write_all(STDOUT_FILENO, b"-");
-    io::print_decimal(STDOUT_FILENO, 1 + ((4294967295 - n) as u64));
+fn print_integer(rt: &impl Print, v: i32) -> io::Result<()> {
+    rt.print(v)
 }
 
-fn print_refusal(r: Refusal) {
-    io::write_all(STDOUT_FILENO, b" refused");
-    print_number(base_answers::number(r) as usize);
-    print_number(base_answers::place(r));
+fn print_refusal(rt: &impl Print, r: Refusal) -> io::Result<()> {
+    rt.print(" refused")?;
+    print_number(rt, base_answers::number(r) as usize)?;
+    print_number(rt, base_answers::place(r))
 }
 
 // The slots that are not 0, with their numbers.
-fn print_slots(label: &[u8], slots: &[i32]) {
+fn print_slots(rt: &impl Print, label: &str, slots: &[i32]) -> io::Result<()> {
     let mut k = 0;
     while k < slots.len() {
         let v = slots[k];
         if !base_signed::equal(v, 0) {
-            io::write_all(STDOUT_FILENO, label);
-            io::print_decimal(STDOUT_FILENO, k as u64);
-            io::write_all(STDOUT_FILENO, b"=");
-            print_integer(v);
+            print!(rt; "{label}{k}=")?;
+            print_integer(rt, v)?;
         }
         k += 1;
     }
+    Ok(())
 }
 
-fn print_state(s: State) {
+fn print_state(rt: &impl Print, s: State) -> io::Result<()> {
     let outputs = s.outputs;
     let variables = s.variables;
-    io::write_all(STDOUT_FILENO, b" at");
-    print_number(s.place as usize);
-    print_slots(b" o", &outputs);
-    print_slots(b" v", &variables);
+    rt.print(" at")?;
+    print_number(rt, s.place as usize)?;
+    print_slots(rt, " o", &outputs)?;
+    print_slots(rt, " v", &variables)
 }
 
-fn print_opened(image: &[u8]) {
-    io::write_all(STDOUT_FILENO, b" open");
+fn print_opened(rt: &impl Print, image: &[u8]) -> io::Result<()> {
+    rt.print(" open")?;
     let opened = image_loader::open(image);
     match opened {
         Opened::Image(at) => {
-            print_number(at.signature);
-            print_number(at.lines);
-            print_number(at.code);
-            print_number(at.end);
+            print_number(rt, at.signature)?;
+            print_number(rt, at.lines)?;
+            print_number(rt, at.code)?;
+            print_number(rt, at.end)
         }
-        Opened::NotOpened(r) => print_refusal(r),
+        Opened::NotOpened(r) => print_refusal(rt, r),
     }
 }
 
-fn print_fresh(image: &[u8]) {
-    io::write_all(STDOUT_FILENO, b" fresh");
+fn print_fresh(rt: &impl Print, image: &[u8]) -> io::Result<()> {
+    rt.print(" fresh")?;
     let f = image_runtime::fresh(image);
     let answer = f.answer;
     if let Started::NotStarted(r) = answer {
-        print_refusal(r);
+        print_refusal(rt, r)?;
     }
     let state = f.state;
-    print_state(state);
+    print_state(rt, state)
 }
 
-fn print_row(row: &[i32]) {
-    io::write_all(STDOUT_FILENO, b" row");
+fn print_row(rt: &impl Print, row: &[i32]) -> io::Result<()> {
+    rt.print(" row")?;
     let mut k = 0;
     while k < row.len() {
-        io::write_all(STDOUT_FILENO, b" ");
-        print_integer(row[k]);
+        rt.print(" ")?;
+        print_integer(rt, row[k])?;
         k += 1;
     }
+    Ok(())
 }
 
-fn print_cycled(answer: Cycled) {
-    io::write_all(STDOUT_FILENO, b" cycle");
+fn print_cycled(rt: &impl Print, answer: Cycled) -> io::Result<()> {
+    rt.print(" cycle")?;
     match answer {
-        Cycled::Performed(counts) => print_number(counts.lines),
-        Cycled::NotPerformed(r) => print_refusal(r),
+        Cycled::Performed(counts) => print_number(rt, counts.lines),
+        Cycled::NotPerformed(r) => print_refusal(rt, r),
     }
 }
 
@@ -205,34 +201,48 @@ fn first_values<'a>(s: &'a [i32], n: usize) -> &'a [i32] {
 }
 
 // A call, printed; the state that it leaves.
-fn call(image: &[u8], s: State, inputs: &[i32], row: &mut [i32]) -> State {
+fn call(
+    rt: &impl Print,
+    image: &[u8],
+    s: State,
+    inputs: &[i32],
+    row: &mut [i32],
+) -> io::Result<State> {
     let a = image_runtime::cycle(image, s, inputs, row);
     let answer = a.answer;
-    print_cycled(answer);
-    print_row(row);
+    print_cycled(rt, answer)?;
+    print_row(rt, row)?;
     let after = a.state;
-    print_state(after);
-    io::write_all(STDOUT_FILENO, b"\n");
-    after
+    print_state(rt, after)?;
+    rt.print("\n")?;
+    Ok(after)
 }
 
 // A call with the first m places of a row.
-fn call_with(image: &[u8], s: State, inputs: &[i32], row: &mut [i32], m: usize) -> State {
+fn call_with(
+    rt: &impl Print,
+    image: &[u8],
+    s: State,
+    inputs: &[i32],
+    row: &mut [i32],
+    m: usize,
+) -> io::Result<State> {
     if row.len() < m {
-        return call(image, s, inputs, row);
+        return call(rt, image, s, inputs, row);
     }
-    call(image, s, inputs, &mut row[0..m])
+    call(rt, image, s, inputs, &mut row[0..m])
 }
 
 // The call of a case on its image.
-fn call_case(image: &[u8], case: &[u8], s: State) -> State {
+fn call_case(rt: &impl Print, image: &[u8], case: &[u8], s: State) -> io::Result<State> {
     if byte(case, 27) == 1 {
-        print_opened(image);
-        print_fresh(image);
+        print_opened(rt, image)?;
+        print_fresh(rt, image)?;
     }
     let inputs = input_row(case);
     let mut row = [99i32; 20];
     call_with(
+        rt,
         image,
         s,
         first_values(&inputs, wide(byte(case, 17))),
@@ -241,61 +251,56 @@ fn call_case(image: &[u8], case: &[u8], s: State) -> State {
     )
 }
 
-fn run_case(image: &[u8], case: &[u8], before: State) -> State {
+fn run_case(rt: &impl Print, image: &[u8], case: &[u8], before: State) -> io::Result<State> {
     let s = state_of(image, case, before);
     let mut bytes = [0u8; 1024];
     damage(image, case, &mut bytes);
-    call_case(first_bytes(&bytes, word2(case, 0) as usize), case, s)
+    call_case(rt, first_bytes(&bytes, word2(case, 0) as usize), case, s)
 }
 
-fn run_cases(image: &[u8], cases: &[u8]) {
+fn run_cases(rt: &impl Print, image: &[u8], cases: &[u8]) -> io::Result<()> {
     let f = image_runtime::fresh(image);
     let mut s = f.state;
     let mut at = 0;
     while at < cases.len() / 28 {
-        io::print_decimal(STDOUT_FILENO, at as u64);
-        io::write_all(STDOUT_FILENO, b":");
+        print!(rt; "{at}:")?;
         let start = at * 28;
         let end = start + 28;
-        s = run_case(image, &cases[start..end], s);
+        s = run_case(rt, image, &cases[start..end], s)?;
         at += 1;
     }
+    Ok(())
 }
 
 // The bytes of the file that an argument names.
-fn read_argument(i: usize, bytes: &mut [u8]) -> usize
-    ensures { result ≤ length bytes.new }
+fn read_argument(rt: &(impl Env + Files + Eprint), i: usize, bytes: &mut [u8]) -> io::Result<usize>
+    ensures { IfOk result (λ n. n ≤ length bytes.new) }
 {
-    let mut path = io::buffer();
-    let length = os::arg(i, &mut path);
-    let fd = os::open_read(&path[..length]);
-    if fd < 0 {
-        os::fail(&path[..length]);
-        return 0;
-    }
-    let n = io::read_full(fd, bytes);
-    libc::close(fd);
-    n
+    let mut path = [0u8; 4096];
+    let length = base_files::argument(rt, i, &mut path);
+    let found = base_files::read_or_tell(rt, &path[..length], bytes)?;
+    Ok(found.unwrap_or(0))
 }
 
 // The cases of the file that the argument j names, on the image that the argument i names.
-fn run_pair(i: usize, j: usize) {
-    let mut image = io::buffer();
-    let mut cases = io::large_buffer();
-    let size = read_argument(i, &mut image);
-    let n = read_argument(j, &mut cases);
-    run_cases(first_bytes(&image, size), first_bytes(&cases, n));
+fn run_pair(rt: &(impl Env + Files + Print + Eprint), i: usize, j: usize) -> io::Result<()> {
+    let mut image = [0u8; 4096];
+    let mut cases = [0u8; 65536];
+    let size = read_argument(rt, i, &mut image)?;
+    let n = read_argument(rt, j, &mut cases)?;
+    run_cases(rt, first_bytes(&image, size), first_bytes(&cases, n))
 }
 
-fn main() {
+fn main(rt: HostRuntime) -> io::Result<()> {
     let mut i = 1;
-    let count = os::arg_count();
+    let count = base_files::arg_count(&rt);
     while i < count {
         let j = i + 1;
         if count <= j {
-            return;
+            return Ok(());
         }
-        run_pair(i, j);
+        run_pair(&rt, i, j)?;
         i = j + 1;
     }
+    Ok(())
 }

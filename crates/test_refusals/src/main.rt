@@ -1,10 +1,13 @@
+#![tactic(auto)]
 // Prints the front end's answer to texts, a line for each: the refusal's number and place and the token there, or 0 for an accepted text. The first
 // arguments name files in which each line is a text; every further argument names a file that is a text.
 ghost use Rattle.std.specs.Prelude.{◌≤◌, length};
 
 use base_answers::Refusal;
 use front_accept::Acceptance;
-use libc::STDOUT_FILENO;
+use std::env::Env;
+use std::io;
+use std::rt::Files;
 
 // How many of the arguments name a file of lines: `lines` has tokens; `cut` has tally ended after each token; `grammar`, `replaced`, `left_out` and
 // `doubled` have tokens that cannot continue; `counts`, `statements` and `expressions` have the limits; `names` has 5, `operands` and `types` have 6,
@@ -12,44 +15,42 @@ use libc::STDOUT_FILENO;
 const LISTS: usize = 16;
 
 // The bytes of the token at a place, or in parentheses how many they are, if more than 40.
-fn print_token(text: &[u8], place: usize) {
+fn print_token(rt: &impl Print, text: &[u8], place: usize) -> io::Result<()> {
     let t = front_lexer::token_at(text, place);
-    if t.len() == 0 {
-        return;
+    let n = t.len();
+    if n == 0 {
+        return Ok(());
     }
-    io::write_all(STDOUT_FILENO, b" ");
-    if t.len() <= 40 {
-        io::write_all(STDOUT_FILENO, t);
+    rt.print(" ")?;
+    if n <= 40 {
+        rt.write_all(t)
     } else {
-        io::write_all(STDOUT_FILENO, b"(");
-        io::print_decimal(STDOUT_FILENO, t.len() as u64);
-        io::write_all(STDOUT_FILENO, b")");
+        print!(rt; "({n})")
     }
 }
 
-fn print_refusal(text: &[u8], r: Refusal) {
+fn print_refusal(rt: &impl Print, text: &[u8], r: Refusal) -> io::Result<()> {
+    let number = base_answers::number(r);
     let place = base_answers::place(r);
-    io::print_decimal(STDOUT_FILENO, base_answers::number(r) as u64);
-    io::write_all(STDOUT_FILENO, b" ");
-    io::print_decimal(STDOUT_FILENO, place as u64);
-    print_token(text, place);
+    print!(rt; "{number} {place}")?;
+    print_token(rt, text, place)
 }
 
-fn print_accepted() {
-    io::write_all(STDOUT_FILENO, b"0");
+fn print_accepted(rt: &impl Print) -> io::Result<()> {
+    rt.print("0")
 }
 
-fn report(text: &[u8]) {
+fn report(rt: &impl Print, text: &[u8]) -> io::Result<()> {
     let mut ops = [0u8; 16384];
     let mut args = [0i32; 16384];
     let mut lines = [0u16; 3072];
     let front = front_accept::accept(text, &mut ops, &mut args, &mut lines);
     let answer = front.answer;
     match answer {
-        Acceptance::Accepted => print_accepted(),
-        Acceptance::Refused(r) => print_refusal(text, r),
+        Acceptance::Accepted => print_accepted(rt)?,
+        Acceptance::Refused(r) => print_refusal(rt, text, r)?,
     }
-    io::write_all(STDOUT_FILENO, b"\n");
+    rt.print("\n")
 }
 
 fn line_end(text: &[u8], at: usize) -> usize
@@ -66,52 +67,50 @@ fn line_end(text: &[u8], at: usize) -> usize
     i
 }
 
-fn print_line_number(name: &[u8], line: u64) {
-    io::write_all(STDOUT_FILENO, name);
-    io::write_all(STDOUT_FILENO, b" ");
-    io::print_decimal(STDOUT_FILENO, line);
-    io::write_all(STDOUT_FILENO, b": ");
+fn print_line_number(rt: &impl Print, name: &[u8], line: u64) -> io::Result<()> {
+    rt.write_all(name)?;
+    print!(rt; " {line}: ")
 }
 
 // Each line as a text, with the file's name and the line's number.
-fn report_lines(name: &[u8], text: &[u8]) {
+fn report_lines(rt: &impl Print, name: &[u8], text: &[u8]) -> io::Result<()> {
     let mut at = 0;
     let mut line: u64 = 1;
     while at < text.len() {
         let end = line_end(text, at);
-        print_line_number(name, line);
-        report(&text[at..end]);
+        print_line_number(rt, name, line)?;
+        report(rt, &text[at..end])?;
         at = end + 1;
         line += 1;
     }
+    Ok(())
+}
+
+// The text or texts of a file, whose name the argument of this number is.
+fn report_file(rt: &impl Print, i: usize, name: &[u8], bytes: &[u8]) -> io::Result<()> {
+    if i <= LISTS {
+        return report_lines(rt, name, bytes);
+    }
+    rt.write_all(name)?;
+    rt.print(": ")?;
+    report(rt, bytes)
 }
 
 // The text or texts that an argument names.
-fn report_argument(i: usize) {
-    let mut path = io::buffer();
-    let length = os::arg(i, &mut path);
-    let fd = os::open_read(&path[..length]);
-    if fd < 0 {
-        os::fail(&path[..length]);
-        return;
+fn report_argument(rt: &(impl Env + Files + Print + Eprint), i: usize) -> io::Result<()> {
+    let mut path = [0u8; 4096];
+    let length = base_files::argument(rt, i, &mut path);
+    let mut buffer = [0u8; 65536];
+    if let Some(n) = base_files::read_or_tell(rt, &path[..length], &mut buffer)? {
+        report_file(rt, i, &path[..length], &buffer[..n])?;
     }
-    let mut buffer = io::large_buffer();
-    let n = io::read_full(fd, &mut buffer);
-    libc::close(fd);
-    if i <= LISTS {
-        report_lines(&path[..length], &buffer[..n]);
-        return;
-    }
-    io::write_all(STDOUT_FILENO, &path[..length]);
-    io::write_all(STDOUT_FILENO, b": ");
-    report(&buffer[..n]);
+    Ok(())
 }
 
-fn main() {
-    let mut i = 1;
-    let count = os::arg_count();
-    while i < count {
-        report_argument(i);
-        i += 1;
+fn main(rt: HostRuntime) -> io::Result<()> {
+    let count = base_files::arg_count(&rt);
+    for i in 1..count {
+        report_argument(&rt, i)?;
     }
+    Ok(())
 }

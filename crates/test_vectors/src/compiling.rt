@@ -2,7 +2,7 @@
 use crate::print;
 use base_answers::Compiled;
 use image_words::{byte, wide};
-use libc::STDOUT_FILENO;
+use std::io;
 
 // Whether every byte is 165.
 fn untouched(buffer: &[u8]) -> bool {
@@ -16,12 +16,11 @@ fn untouched(buffer: &[u8]) -> bool {
     true
 }
 
-pub(crate) fn print_untouched(buffer: &[u8]) {
+pub(crate) fn print_untouched(rt: &impl Print, buffer: &[u8]) -> io::Result<()> {
     if untouched(buffer) {
-        print::words(b" untouched");
-        return;
+        return print::words(rt, b" untouched");
     }
-    print::words(b" touched");
+    print::words(rt, b" touched")
 }
 
 // Whether two lists of bytes are the same.
@@ -39,26 +38,27 @@ fn same(a: &[u8], b: &[u8]) -> bool {
     true
 }
 
-pub(crate) fn print_same(a: &[u8], b: &[u8]) {
+pub(crate) fn print_same(rt: &impl Print, a: &[u8], b: &[u8]) -> io::Result<()> {
     if same(a, b) {
-        print::words(b" same");
-        return;
+        return print::words(rt, b" same");
     }
-    print::words(b" differs");
+    print::words(rt, b" differs")
 }
 
 // The bytes in hexadecimal.
-fn print_bytes(bytes: &[u8]) {
-    print::words(b" ");
+fn print_bytes(rt: &impl Print, bytes: &[u8]) -> io::Result<()> {
+    print::words(rt, b" ")?;
     let mut k = 0;
     while k < bytes.len() {
-        io::print_hex(STDOUT_FILENO, wide(byte(bytes, k)) as u64, 2);
+        let b = byte(bytes, k);
+        print!(rt; "{b:02x}")?;
         k += 1;
     }
+    Ok(())
 }
 
 // Two sums modulo 65521: of 1 and the bytes, and of all sums so far.
-fn print_sums(bytes: &[u8]) {
+fn print_sums(rt: &impl Print, bytes: &[u8]) -> io::Result<()> {
     let mut a: u32 = 1;
     let mut b: u32 = 0;
     let mut k = 0;
@@ -67,63 +67,68 @@ fn print_sums(bytes: &[u8]) {
         b = (b + a) % 65521;
         k += 1;
     }
-    print::number(a as usize);
-    print::number(b as usize);
+    print::number(rt, a as usize)?;
+    print::number(rt, b as usize)
 }
 
 // The length, and all bytes; of more than 1024 the first and last 64, and two sums of all.
-pub(crate) fn print_image(image: &[u8]) {
+pub(crate) fn print_image(rt: &impl Print, image: &[u8]) -> io::Result<()> {
     let n = image.len();
-    print::words(b" image");
-    print::number(n);
+    print::words(rt, b" image")?;
+    print::number(rt, n)?;
     if n <= 1024 {
-        print_bytes(image);
-        return;
+        return print_bytes(rt, image);
     }
-    print_bytes(&image[0..64]);
-    print_bytes(&image[n - 64..n]);
-    print_sums(image);
+    print_bytes(rt, &image[0..64])?;
+    print_bytes(rt, &image[n - 64..n])?;
+    print_sums(rt, image)
 }
 
 // What compiling into this buffer answers and leaves there.
-fn compile_into(text: &[u8], image: &[u8], buffer: &mut [u8]) {
-    print::words(b" into");
-    print::number(buffer.len());
+fn compile_into(rt: &impl Print, text: &[u8], image: &[u8], buffer: &mut [u8]) -> io::Result<()> {
+    print::words(rt, b" into")?;
+    print::number(rt, buffer.len())?;
     let compiled = image_compiler::compile(text, buffer);
     match compiled {
         Compiled::Written(n) => {
-            print::words(b" written");
-            print::number(n);
-            print_same(image, buffer);
+            print::words(rt, b" written")?;
+            print::number(rt, n)?;
+            print_same(rt, image, buffer)?;
         }
         Compiled::NotCompiled(r) => {
-            print::refusal(r);
-            print_untouched(buffer);
+            print::refusal(rt, r)?;
+            print_untouched(rt, buffer)?;
         }
     }
-    print::line();
+    print::line(rt)
 }
 
 // The first m bytes of a buffer lent to a compile.
-fn compile_into_part(text: &[u8], image: &[u8], buffer: &mut [u8], m: usize) {
+fn compile_into_part(
+    rt: &impl Print,
+    text: &[u8],
+    image: &[u8],
+    buffer: &mut [u8],
+    m: usize,
+) -> io::Result<()> {
     if buffer.len() < m {
-        return;
+        return Ok(());
     }
-    compile_into(text, image, &mut buffer[0..m]);
+    compile_into(rt, text, image, &mut buffer[0..m])
 }
 
 // The text compiled into a buffer of m bytes.
-fn compile_within(text: &[u8], image: &[u8], m: usize) {
+fn compile_within(rt: &impl Print, text: &[u8], image: &[u8], m: usize) -> io::Result<()> {
     let mut buffer = [165u8; 65535];
-    compile_into_part(text, image, &mut buffer, m);
+    compile_into_part(rt, text, image, &mut buffer, m)
 }
 
 // The text compiled again: into the bytes that it needs, one less, and none.
-pub(crate) fn again(text: &[u8], image: &[u8]) {
+pub(crate) fn again(rt: &impl Print, text: &[u8], image: &[u8]) -> io::Result<()> {
     let n = image.len();
-    compile_within(text, image, n);
+    compile_within(rt, text, image, n)?;
     if 0 < n {
-        compile_within(text, image, n - 1);
+        compile_within(rt, text, image, n - 1)?;
     }
-    compile_within(text, image, 0);
+    compile_within(rt, text, image, 0)
 }

@@ -1,3 +1,4 @@
+#![tactic(auto)]
 // Texts compiled, and their rows run by the table and directly from the text. An argument that ends in a slash names a folder of examples/, whose trace is
 // held to its file trace.txt. Any other names a file of cases, one behind another. A case is:
 //   0, 1      how many bytes the text has
@@ -11,6 +12,9 @@
 // text gave all of this too; where it did not, its own answer follows. Buffers hold 165 before a call; `untouched` says that they still do.
 use base_answers::{Compiled, Refusal};
 use image_words::{byte, word2};
+use std::env::Env;
+use std::io;
+use std::rt::Files;
 
 mod compiling;
 mod print;
@@ -18,39 +22,39 @@ mod rows;
 mod traces;
 
 // A text that is refused: the buffer, and the direct run from place 512 with 0 in every slot.
-fn refused(text: &[u8], buffer: &[u8], r: Refusal) {
-    print::refusal(r);
-    compiling::print_untouched(buffer);
-    print::line();
-    rows::print_fresh_of_text(text);
-    rows::print_run_of_text(text);
+fn refused(rt: &impl Print, text: &[u8], buffer: &[u8], r: Refusal) -> io::Result<()> {
+    print::refusal(rt, r)?;
+    compiling::print_untouched(rt, buffer)?;
+    print::line(rt)?;
+    rows::print_fresh_of_text(rt, text)?;
+    rows::print_run_of_text(rt, text)
 }
 
 // A text that is accepted, with the 65535 bytes into which it was compiled.
-fn accepted(text: &[u8], rows: &[u8], whole: &[u8], n: usize) {
+fn accepted(rt: &impl Print, text: &[u8], rows: &[u8], whole: &[u8], n: usize) -> io::Result<()> {
     if whole.len() < n {
-        return;
+        return Ok(());
     }
     let image = &whole[0..n];
-    compiling::print_image(image);
-    compiling::print_untouched(&whole[n..]);
-    print::line();
-    compiling::again(text, image);
-    rows::run(text, image, rows);
+    compiling::print_image(rt, image)?;
+    compiling::print_untouched(rt, &whole[n..])?;
+    print::line(rt)?;
+    compiling::again(rt, text, image)?;
+    rows::run(rt, text, image, rows)
 }
 
 // One case.
-fn report(text: &[u8], rows: &[u8]) {
+fn report(rt: &impl Print, text: &[u8], rows: &[u8]) -> io::Result<()> {
     let mut whole = [165u8; 65535];
     let compiled = image_compiler::compile(text, &mut whole);
     match compiled {
-        Compiled::Written(n) => accepted(text, rows, &whole, n),
-        Compiled::NotCompiled(r) => refused(text, &whole, r),
+        Compiled::Written(n) => accepted(rt, text, rows, &whole, n),
+        Compiled::NotCompiled(r) => refused(rt, text, &whole, r),
     }
 }
 
 // The cases of a file.
-fn report_cases(name: &[u8], cases: &[u8]) {
+fn report_cases(rt: &impl Print, name: &[u8], cases: &[u8]) -> io::Result<()> {
     let mut at = 0;
     let mut number: u64 = 0;
     while at < cases.len() {
@@ -58,26 +62,23 @@ fn report_cases(name: &[u8], cases: &[u8]) {
         let middle = start + word2(cases, at) as usize;
         let end = middle + word2(cases, at + 2) as usize;
         if cases.len() < end {
-            return;
+            return Ok(());
         }
-        print::title(name, number);
-        report(&cases[start..middle], &cases[middle..end]);
+        print::title(rt, name, number)?;
+        report(rt, &cases[start..middle], &cases[middle..end])?;
         at = end;
         number += 1;
     }
+    Ok(())
 }
 
 // The file of cases that a path names.
-fn report_file(path: &[u8]) {
-    let fd = os::open_read(path);
-    if fd < 0 {
-        os::fail(path);
-        return;
+fn report_file(rt: &(impl Files + Print + Eprint), path: &[u8]) -> io::Result<()> {
+    let mut cases = [0u8; 65536];
+    if let Some(n) = base_files::read_or_tell(rt, path, &mut cases)? {
+        report_cases(rt, path, &cases[..n])?;
     }
-    let mut cases = io::large_buffer();
-    let n = io::read_full(fd, &mut cases);
-    libc::close(fd);
-    report_cases(path, &cases[..n]);
+    Ok(())
 }
 
 // Whether a path ends in a slash.
@@ -90,21 +91,19 @@ fn is_folder(path: &[u8]) -> bool {
 }
 
 // The file or the folder that an argument names.
-fn report_argument(i: usize) {
-    let mut path = io::buffer();
-    let length = os::arg(i, &mut path);
+fn report_argument(rt: &(impl Env + Files + Print + Eprint), i: usize) -> io::Result<()> {
+    let mut path = [0u8; 4096];
+    let length = base_files::argument(rt, i, &mut path);
     if is_folder(&path[..length]) {
-        traces::report(&path[..length]);
-        return;
+        return traces::report(rt, &path[..length]);
     }
-    report_file(&path[..length]);
+    report_file(rt, &path[..length])
 }
 
-fn main() {
-    let mut i = 1;
-    let count = os::arg_count();
-    while i < count {
-        report_argument(i);
-        i += 1;
+fn main(rt: HostRuntime) -> io::Result<()> {
+    let count = base_files::arg_count(&rt);
+    for i in 1..count {
+        report_argument(&rt, i)?;
     }
+    Ok(())
 }

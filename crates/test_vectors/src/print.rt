@@ -1,80 +1,71 @@
 // What is printed of numbers, answers, rows and states.
 use base_answers::{Cycled, Refusal, State};
-use libc::STDOUT_FILENO;
+use std::io;
 
-pub(crate) fn words(s: &[u8]) {
-    io::write_all(STDOUT_FILENO, s);
+pub(crate) fn words(rt: &impl Print, s: &[u8]) -> io::Result<()> {
+    rt.write_all(s)
 }
 
-pub(crate) fn line() {
-    io::write_all(STDOUT_FILENO, b"\n");
+pub(crate) fn line(rt: &impl Print) -> io::Result<()> {
+    rt.print("\n")
 }
 
-pub(crate) fn number(n: usize) {
-    io::write_all(STDOUT_FILENO, b" ");
-    io::print_decimal(STDOUT_FILENO, n as u64);
+pub(crate) fn number(rt: &impl Print, n: usize) -> io::Result<()> {
+    print!(rt; " {n}")
 }
 
-pub(crate) fn title(name: &[u8], n: u64) {
-    io::write_all(STDOUT_FILENO, name);
-    io::write_all(STDOUT_FILENO, b" ");
-    io::print_decimal(STDOUT_FILENO, n);
-    io::write_all(STDOUT_FILENO, b":");
+pub(crate) fn title(rt: &impl Print, name: &[u8], n: u64) -> io::Result<()> {
+    rt.write_all(name)?;
+    print!(rt; " {n}:")
 }
 
-fn integer(v: i32) {
-    let n = base_signed::to_bits(v);
-    if n < 2147483648 {
-        io::print_decimal(STDOUT_FILENO, n as u64);
-        return;
-    }
-    io::write_all(STDOUT_FILENO, b"-");
-    io::print_decimal(STDOUT_FILENO, 1 + ((4294967295 - n) as u64));
+fn integer(rt: &impl Print, v: i32) -> io::Result<()> {
+    rt.print(v)
 }
 
-pub(crate) fn refusal(r: Refusal) {
-    io::write_all(STDOUT_FILENO, b" refused");
-    number(base_answers::number(r) as usize);
-    number(base_answers::place(r));
+pub(crate) fn refusal(rt: &impl Print, r: Refusal) -> io::Result<()> {
+    rt.print(" refused")?;
+    number(rt, base_answers::number(r) as usize)?;
+    number(rt, base_answers::place(r))
 }
 
-pub(crate) fn cycled(answer: Cycled) {
+pub(crate) fn cycled(rt: &impl Print, answer: Cycled) -> io::Result<()> {
     match answer {
-        Cycled::Performed(counts) => number(counts.lines),
-        Cycled::NotPerformed(r) => refusal(r),
+        Cycled::Performed(counts) => number(rt, counts.lines),
+        Cycled::NotPerformed(r) => refusal(rt, r),
     }
 }
 
-pub(crate) fn row(row: &[i32]) {
-    io::write_all(STDOUT_FILENO, b" row");
+pub(crate) fn row(rt: &impl Print, row: &[i32]) -> io::Result<()> {
+    rt.print(" row")?;
     let mut k = 0;
     while k < row.len() {
-        io::write_all(STDOUT_FILENO, b" ");
-        integer(row[k]);
+        rt.print(" ")?;
+        integer(rt, row[k])?;
         k += 1;
     }
+    Ok(())
 }
 
 // The slots that are not 0, with their numbers.
-fn slots(label: &[u8], slots: &[i32]) {
+fn slots(rt: &impl Print, label: &str, slots: &[i32]) -> io::Result<()> {
     let mut k = 0;
     while k < slots.len() {
         let v = slots[k];
         if !base_signed::equal(v, 0) {
-            io::write_all(STDOUT_FILENO, label);
-            io::print_decimal(STDOUT_FILENO, k as u64);
-            io::write_all(STDOUT_FILENO, b"=");
-            integer(v);
+            print!(rt; "{label}{k}=")?;
+            integer(rt, v)?;
         }
         k += 1;
     }
+    Ok(())
 }
 
-pub(crate) fn state(s: State) {
+pub(crate) fn state(rt: &impl Print, s: State) -> io::Result<()> {
     let outputs = s.outputs;
     let variables = s.variables;
-    io::write_all(STDOUT_FILENO, b" at");
-    number(s.place as usize);
-    slots(b" o", &outputs);
-    slots(b" v", &variables);
+    rt.print(" at")?;
+    number(rt, s.place as usize)?;
+    slots(rt, " o", &outputs)?;
+    slots(rt, " v", &variables)
 }

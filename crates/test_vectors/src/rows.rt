@@ -7,6 +7,7 @@ ghost use Rattle.spec_semantics.specs.Advances.{cycle_answer};
 use crate::print;
 use base_answers::{Advanced, Counts, Cycled, Refusal, Started, State};
 use image_words::{byte, word4};
+use std::io;
 
 fn wide(x: u8) -> usize
     ensures { result ≤ 255 }
@@ -76,6 +77,7 @@ fn same_answer(a: Cycled, b: Cycled) -> bool {
 
 // The direct run beside what the table gave: `same`, or its own answer.
 fn print_direct(
+    rt: &impl Print,
     text: &[u8],
     before: State,
     inputs: &[i32],
@@ -83,22 +85,21 @@ fn print_direct(
     by_table: Cycled,
     after: State,
     table_row: &[i32],
-) {
+) -> io::Result<()> {
     let d = direct_runtime::run(text, before, inputs, row);
     let answer = d.answer;
     let state = d.state;
     if same_answer(by_table, answer) {
         if same_state(after, state) {
             if same_values(table_row, row) {
-                print::words(b" same");
-                return;
+                return print::words(rt, b" same");
             }
         }
     }
-    print::words(b" direct");
-    print::cycled(answer);
-    print::row(row);
-    print::state(state);
+    print::words(rt, b" direct")?;
+    print::cycled(rt, answer)?;
+    print::row(rt, row)?;
+    print::state(rt, state)
 }
 
 // A cycle on an image by a state record of the caller's own, which is lent to it.
@@ -117,26 +118,28 @@ fn advance(image: &[u8], s: State, inputs: &[i32], row: &mut [i32]) -> Advanced
 
 // One row by table and text; the state that the table leaves.
 fn run_row(
+    rt: &impl Print,
     text: &[u8],
     image: &[u8],
     before: State,
     inputs: &[i32],
     row: &mut [i32],
     direct_row: &mut [i32],
-) -> State {
+) -> io::Result<State> {
     let a = advance(image, before, inputs, row);
     let answer = a.answer;
     let state = a.state;
-    print::cycled(answer);
-    print::row(row);
-    print::state(state);
-    print_direct(text, before, inputs, direct_row, answer, state, row);
-    print::line();
-    state
+    print::cycled(rt, answer)?;
+    print::row(rt, row)?;
+    print::state(rt, state)?;
+    print_direct(rt, text, before, inputs, direct_row, answer, state, row)?;
+    print::line(rt)?;
+    Ok(state)
 }
 
 // A row with the first m places of two output rows.
 fn run_with_room(
+    rt: &impl Print,
     text: &[u8],
     image: &[u8],
     before: State,
@@ -144,14 +147,15 @@ fn run_with_room(
     row: &mut [i32],
     direct_row: &mut [i32],
     m: usize,
-) -> State {
+) -> io::Result<State> {
     if row.len() < m {
-        return before;
+        return Ok(before);
     }
     if direct_row.len() < m {
-        return before;
+        return Ok(before);
     }
     run_row(
+        rt,
         text,
         image,
         before,
@@ -178,12 +182,19 @@ fn first_values<'a>(s: &'a [i32], n: usize) -> &'a [i32] {
     &s[0..n]
 }
 
-fn run_case_row(text: &[u8], image: &[u8], before: State, row: &[u8]) -> State {
+fn run_case_row(
+    rt: &impl Print,
+    text: &[u8],
+    image: &[u8],
+    before: State,
+    row: &[u8],
+) -> io::Result<State> {
     let mut inputs = [0i32; 20];
     fill(&mut inputs, row);
     let mut by_table = [99i32; 20];
     let mut by_text = [99i32; 20];
     run_with_room(
+        rt,
         text,
         image,
         before,
@@ -195,61 +206,62 @@ fn run_case_row(text: &[u8], image: &[u8], before: State, row: &[u8]) -> State {
 }
 
 // The fresh state of the image, and whether it is that of the text.
-fn print_fresh(text: &[u8], image: &[u8]) -> State {
-    print::words(b" fresh");
+fn print_fresh(rt: &impl Print, text: &[u8], image: &[u8]) -> io::Result<State> {
+    print::words(rt, b" fresh")?;
     let f = image_runtime::fresh(image);
     let answer = f.answer;
     let state = f.state;
     if let Started::NotStarted(r) = answer {
-        print::refusal(r);
+        print::refusal(rt, r)?;
     }
-    print::state(state);
+    print::state(rt, state)?;
     let d = direct_runtime::fresh(text);
     let direct = d.state;
     if same_state(state, direct) {
-        print::words(b" same");
+        print::words(rt, b" same")?;
     }
-    print::line();
-    state
+    print::line(rt)?;
+    Ok(state)
 }
 
 // All rows, one after another from the fresh state on.
-pub(crate) fn run(text: &[u8], image: &[u8], rows: &[u8]) {
-    let mut s = print_fresh(text, image);
+pub(crate) fn run(rt: &impl Print, text: &[u8], image: &[u8], rows: &[u8]) -> io::Result<()> {
+    let mut s = print_fresh(rt, text, image)?;
     let mut at = 0;
     while at < rows.len() {
         let end = at + 2 + 4 * wide(rows[at]);
         if rows.len() < end {
-            return;
+            return Ok(());
         }
-        s = run_case_row(text, image, s, &rows[at..end]);
+        s = run_case_row(rt, text, image, s, &rows[at..end])?;
         at = end;
     }
+    Ok(())
 }
 
 // The answer to the fresh state of a text that is refused.
-pub(crate) fn print_fresh_of_text(text: &[u8]) {
-    print::words(b" fresh");
+pub(crate) fn print_fresh_of_text(rt: &impl Print, text: &[u8]) -> io::Result<()> {
+    print::words(rt, b" fresh")?;
     let d = direct_runtime::fresh(text);
     let answer = d.answer;
     let state = d.state;
     if let Started::NotStarted(r) = answer {
-        print::refusal(r);
+        print::refusal(rt, r)?;
     }
-    print::state(state);
-    print::line();
+    print::state(rt, state)?;
+    print::line(rt)
 }
 
 // The direct run of a text that is refused.
-pub(crate) fn print_run_of_text(text: &[u8]) {
+pub(crate) fn print_run_of_text(rt: &impl Print, text: &[u8]) -> io::Result<()> {
     let mut row = [99i32; 2];
     let inputs = [0i32; 2];
     let d0 = direct_runtime::fresh(text);
     let d = direct_runtime::run(text, d0.state, &inputs, &mut row);
     let answer = d.answer;
     let state = d.state;
-    print::cycled(answer);
-    print::row(&row);
-    print::state(state);
-    print::line();
+    print::cycled(rt, answer)?;
+    print::row(rt, &row)?;
+    print::state(rt, state)?;
+    print::line(rt)
 }

@@ -4,6 +4,9 @@ ghost use Rattle.std.specs.Prelude.{◌≤◌, length};
 use crate::{compiling, print};
 use front_lexer::parts::part_of;
 use image_words::byte;
+use std::io::ErrorKind;
+use std::rt::Files;
+use std::{fs, io};
 use trace_lines::Begun;
 
 // Copies bytes to the beginning of a buffer, as many as there is room for, and answers how many.
@@ -55,40 +58,40 @@ fn put_trace(text: &[u8], rows: &[u8], out: &mut [u8]) -> usize {
 }
 
 // Opens a file of a folder; its path is put into a buffer.
-fn open(folder: &[u8], name: &[u8], path: &mut [u8]) -> i32 {
+fn open<R: Files>(rt: &R, folder: &[u8], name: &[u8], path: &mut [u8]) -> io::Result<R::File> {
     let k = copy(folder, path);
     let n = copy(name, &mut path[k..]);
     if path.len() - k < n {
-        return -1;
+        return Err(io::Error::from(ErrorKind::InvalidInput));
     }
-    os::open_read(part_of(path, 0, k + n))
+    match str::from_utf8(part_of(path, 0, k + n)) {
+        Ok(whole) => fs::open(rt, whole),
+        Err(_) => Err(io::Error::from(ErrorKind::InvalidInput)),
+    }
 }
 
 // A file of a folder; no bytes where it cannot be opened.
-fn read(folder: &[u8], name: &[u8], bytes: &mut [u8]) -> usize {
-    let mut path = io::buffer();
-    let fd = open(folder, name, &mut path);
-    if fd < 0 {
-        return 0;
+fn read(rt: &impl Files, folder: &[u8], name: &[u8], bytes: &mut [u8]) -> io::Result<usize> {
+    let mut path = [0u8; 4096];
+    match open(rt, folder, name, &mut path) {
+        Ok(mut file) => base_files::read_full(&mut file, bytes),
+        Err(_) => Ok(0),
     }
-    let n = io::read_full(fd, bytes);
-    libc::close(fd);
-    n
 }
 
 // The trace of a folder beside the one that stands there.
-pub(crate) fn report(folder: &[u8]) {
+pub(crate) fn report(rt: &(impl Files + Print), folder: &[u8]) -> io::Result<()> {
     let mut text = [0u8; 16385];
     let mut rows = [0u8; 65537];
-    let mut expected = io::large_buffer();
-    let mut out = io::large_buffer();
-    let n = read(folder, b"process.vhd", &mut text);
-    let m = read(folder, b"rows.txt", &mut rows);
-    let e = read(folder, b"trace.txt", &mut expected);
+    let mut expected = [0u8; 65536];
+    let mut out = [0u8; 65536];
+    let n = read(rt, folder, b"process.vhd", &mut text)?;
+    let m = read(rt, folder, b"rows.txt", &mut rows)?;
+    let e = read(rt, folder, b"trace.txt", &mut expected)?;
     let size = put_trace(part_of(&text, 0, n), part_of(&rows, 0, m), &mut out);
-    print::words(folder);
-    print::words(b": trace");
-    print::number(size);
-    compiling::print_same(part_of(&expected, 0, e), part_of(&out, 0, size));
-    print::line();
+    print::words(rt, folder)?;
+    print::words(rt, b": trace")?;
+    print::number(rt, size)?;
+    compiling::print_same(rt, part_of(&expected, 0, e), part_of(&out, 0, size))?;
+    print::line(rt)
 }

@@ -1,0 +1,79 @@
+#![tactic(auto)]
+// Arguments and files, read into buffers that the caller lends. Nothing here allocates.
+ghost use Rattle.std.specs.Prelude.{◌<◌, ◌≤◌, length, take, IfOk, IfSome};
+ghost use Rattle.std.specs.Io.KnownBytes.{Consumes, IsAtEnd};
+
+use std::env::{Env, FillError};
+use std::io::Read;
+use std::rt::Files;
+use std::{fs, io};
+
+/// How many arguments the program was started with, its own name among them.
+pub fn arg_count(rt: &impl Env) -> usize {
+    let mut first = [0u8; 1];
+    for i in 0..usize::MAX {
+        if let Err(FillError::NotPresent) = rt.arg(i, &mut first) {
+            return i;
+        }
+    }
+    usize::MAX
+}
+
+/// The length of an argument, put at the start of a buffer: 0 where it is missing or longer than the buffer.
+pub fn argument(rt: &impl Env, i: usize, buffer: &mut [u8]) -> usize
+    ensures { result ≤ length buffer.new }
+{
+    rt.arg(i, buffer).unwrap_or(0)
+}
+
+/// Reads until the buffer is full or the input ends, and answers how many bytes stand at the buffer's start.
+pub fn read_full<R: Read>(from: &mut R, buffer: &mut [u8]) -> io::Result<usize>
+    ensures bound { IfOk result (λ n. n ≤ length buffer.new) }
+    ensures bytes { IfOk result (λ n. Consumes (R.remaining from.old) (R.remaining from.new) (take n buffer.new)) }
+    ensures end { IfOk result (λ n. n < length buffer.new → IsAtEnd (R.remaining from.new)) }
+{
+    let mut done = 0;
+    while done < buffer.len() {
+        let n = from.read(&mut buffer[done..])?;
+        if n == 0 {
+            return Ok(done);
+        }
+        done += n;
+    }
+    Ok(done)
+}
+
+/// The bytes of the file that a path names, at most as many as there is room for; none where it cannot be opened.
+pub fn read_or_empty(rt: &impl Files, path: &str, buffer: &mut [u8]) -> io::Result<usize>
+    ensures { IfOk result (λ n. n ≤ length buffer.new) }
+{
+    match fs::open(rt, path) {
+        Ok(mut file) => read_full(&mut file, buffer),
+        Err(_) => Ok(0),
+    }
+}
+
+/// The bytes of the file that a path names, at most as many as there is room for. Where it cannot be opened, there are none, and standard error
+/// is told of it.
+pub fn read_or_tell(
+    rt: &(impl Files + Eprint),
+    path: &[u8],
+    buffer: &mut [u8],
+) -> io::Result<Option<usize>>
+    ensures { IfOk result (λ found. IfSome found (λ n. n ≤ length buffer.new)) }
+{
+    let Ok(name) = str::from_utf8(path) else {
+        eprintln!(rt; "a file's name is not UTF-8")?;
+        return Ok(None);
+    };
+    match fs::open(rt, name) {
+        Ok(mut file) => {
+            let n = read_full(&mut file, buffer)?;
+            Ok(Some(n))
+        }
+        Err(why) => {
+            eprintln!(rt; "{name}: {why}")?;
+            Ok(None)
+        }
+    }
+}
