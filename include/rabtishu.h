@@ -2,7 +2,7 @@
  * rabtishu.h: the C interface of Rabtishu, a compiler from ABC-VHDL to cycle tables for countdown boards.
  *
  * The functions are those of crates/api_c, proved to meet contracts by the definitions in crates/spec_interface/specs/CInterface.antt.
- * `rt staticlib api_c` proves and builds the library, target/staticlib/libapi_c.a; `./install` installs it as librabtishu.a, with this header and a
+ * `rt lib` in crates/api_c proves and builds the library, crates/api_c/out/libapi_c.a; `./install` installs it as librabtishu.a, with this header and a
  * file for pkg-config.
  * No function allocates memory, keeps anything between calls, reads or writes a file, or fails in another way than by its answer.
  *

@@ -4,7 +4,7 @@
 //!    relative path counts from this crate's folder); `none` builds without it, for documentation
 //!    and for programs that call nothing;
 //! 2. pkg-config, after `./install` of the repository;
-//! 3. target/staticlib of the repository, after `rt staticlib api_c`.
+//! 3. crates/api_c/out of the repository, after `rt lib` in crates/api_c.
 //!
 //! Where there is none the build ends with what to do. A crate that depends on this one is told by
 //! `DEP_RABTISHU_ARCHIVE` which archive was linked, or `none`.
@@ -84,15 +84,15 @@ fn manifest() -> PathBuf {
         .into()
 }
 
-fn staticlib() -> PathBuf {
-    manifest().join("../../target/staticlib")
+fn out() -> PathBuf {
+    manifest().join("../../crates/api_c/out")
 }
 
 fn built() -> Option<PathBuf> {
-    // Watched also while it is not there, so that a build behind `rt staticlib api_c` finds it.
-    let watched = staticlib().join("libapi_c.a");
+    // Watched also while it is not there, so that a build behind `rt lib` finds it.
+    let watched = out().join("libapi_c.a");
     println!("cargo:rerun-if-changed={}", watched.display());
-    inside(&staticlib())
+    inside(&out())
 }
 
 /// Links the archive under whatever name it has.
@@ -113,13 +113,13 @@ fn advice(given: Option<&OsStr>) -> String {
         ),
         None => format!(
             "pkg-config knows no rabtishu, and {} has no libapi_c.a",
-            staticlib().display()
+            out().display()
         ),
     };
     format!(
         "\nrabtishu: the archive of the proved crates was not found: {tried}.\n\
          Do one of these:\n  \
-         in the repository: rt staticlib api_c   (proves and builds target/staticlib/libapi_c.a)\n  \
+         in crates/api_c of the repository: rt lib   (proves and builds out/libapi_c.a)\n  \
          in the repository: ./install PREFIX     (and PKG_CONFIG_PATH=PREFIX/lib/pkgconfig here)\n  \
          here: RABTISHU_ARCHIVE=FOLDER, the folder that has librabtishu.a or libapi_c.a\n"
     )

@@ -11,7 +11,7 @@ use common::{examples, root, status, tally, Folder};
 /// The proved trace program, if it is built; `RABTISHU_REQUIRED=1` makes its absence a failure.
 fn proved() -> Option<PathBuf> {
     let program = std::env::var_os("RABTISHU_TRACE")
-        .map_or_else(|| root().join("target/bin/trace"), PathBuf::from);
+        .map_or_else(|| root().join("crates/trace/out/trace"), PathBuf::from);
     if program.exists() {
         return Some(program);
     }

@@ -112,7 +112,7 @@ fn an_installed_archive_comes_before_a_built_one_of_its_folder() {
 #[test]
 fn none_links_nothing() {
     let repository = Repository::new("none");
-    repository.file("target/staticlib/libapi_c.a", "");
+    repository.file("crates/api_c/out/libapi_c.a", "");
     let none = Some(Path::new("none"));
     assert_eq!(repository.linked(none), Path::new("none"));
     let told = repository.run(none).stdout;
@@ -122,7 +122,7 @@ fn none_links_nothing() {
 #[test]
 fn without_the_variable_the_installed_archive_comes_before_the_built_one() {
     let repository = Repository::new("in order");
-    let built = repository.file("target/staticlib/libapi_c.a", "");
+    let built = repository.file("crates/api_c/out/libapi_c.a", "");
     repository.links(None, &built);
     repository.links(Some(Path::new("")), &built);
     let installed = repository.installation();
@@ -147,7 +147,7 @@ fn a_missing_archive_ends_with_what_to_do() {
     let advice = repository.advice(None);
     assert!(advice.contains("rabtishu: the archive of the proved crates was not found"));
     assert!(advice.contains("pkg-config knows no rabtishu"));
-    for way in ["rt staticlib api_c", "./install", "RABTISHU_ARCHIVE=FOLDER"] {
+    for way in ["rt lib", "./install", "RABTISHU_ARCHIVE=FOLDER"] {
         assert!(advice.contains(way), "{way}");
     }
     let wrong = repository.0.join("nowhere");
@@ -160,7 +160,7 @@ fn a_missing_archive_ends_with_what_to_do() {
 fn a_missing_archive_is_watched() {
     let repository = Repository::new("watched");
     let told = String::from_utf8(repository.run(None).stdout).expect("text");
-    let watched = "target/staticlib/libapi_c.a\n";
+    let watched = "crates/api_c/out/libapi_c.a\n";
     assert!(told
         .split_inclusive('\n')
         .any(|line| line.starts_with("cargo:rerun-if-changed=") && line.ends_with(watched)));

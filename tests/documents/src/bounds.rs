@@ -139,19 +139,22 @@ fn contract(rest: &str) -> usize {
     count
 }
 
-/// The longest chain of `.before` in a proof file, if it is above its bound. A chain may go on in the next line.
+/// The longest chain of `.before` in a proof file, if it is above its bound: `c.before.before`. A chain may go on in the next line.
 fn longest_chain(file: &str, text: &str) -> Option<Finding> {
+    const STEP: &str = ".before";
+    let lines: Vec<&str> = text.lines().map(|l| without_comment(l, "--")).collect();
+    let code = lines.join("\n");
     let (mut longest, mut at) = (0, 0);
-    let mut run = 0;
-    for (number, line) in text.lines().enumerate() {
-        for word in without_comment(line, "--").split_whitespace() {
-            run = match word.trim_matches(['(', ')']) {
-                ".before" => run + 1,
-                _ => 0,
-            };
-            if run > longest {
-                (longest, at) = (run, number + 1);
-            }
+    let (mut run, mut end) = (0, 0);
+    for (begins, step) in code.match_indices(STEP) {
+        let between = &code[end..begins];
+        let joins = between
+            .chars()
+            .all(|c| c.is_whitespace() || "()".contains(c));
+        run = if run > 0 && joins { run + 1 } else { 1 };
+        end = begins + step.len();
+        if run > longest {
+            (longest, at) = (run, code[..begins].matches('\n').count() + 1);
         }
     }
     let says = format!("{longest} `.before` in a row (bound {CHAIN})");

@@ -20,7 +20,7 @@ pub const GROUPS: [Group; 8] = [
     Group {
         prefix: "base_",
         title: "what all share",
-        holds: "numbers under their names, answers, words, integers, operators, a design in arrays",
+        holds: "numbers under their names, answers, words, integers, operators, a design in arrays; files, for programs",
     },
     Group {
         prefix: "front_",

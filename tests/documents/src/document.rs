@@ -56,7 +56,7 @@ pub fn pieces(line: &str) -> Vec<Piece> {
 
 /// The words of a part of a line: letters, digits and what paths are made of.
 fn words(part: &str, offset: usize, pieces: &mut Vec<Piece>) {
-    let in_word = |c: char| c.is_alphanumeric() || "_-./*·".contains(c);
+    let in_word = |c: char| c.is_alphanumeric() || "_-./*".contains(c);
     let mut from = None;
     for (at, c) in part.char_indices().chain([(part.len(), ' ')]) {
         match (from, in_word(c)) {

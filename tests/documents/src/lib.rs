@@ -1,9 +1,10 @@
 //! Keeps the documents true: writes the parts of them that can be computed (the table of crates, their graph), and finds names, paths and numbers in them
-//! that do not exist. It reads README.md, tests/README.md and docs/*.md but docs/LANDINGS.md, which is history, and speaks in the names
-//! of its day.
+//! that do not exist. It reads README.md, tests/README.md and docs/*.md but docs/LANDINGS.md and docs/PORT.md, which are history, and speak in the
+//! names of their day, and docs/source, which has the documents that the repository is held to and says nothing of the repository.
 
 pub mod bounds;
 pub mod comments;
+pub mod copies;
 pub mod crates;
 pub mod document;
 pub mod generated;
@@ -48,6 +49,7 @@ pub fn check(project: &Project) -> Vec<Finding> {
     let mut found = crates::check(project);
     found.extend(generated::check(project));
     found.extend(comments::check(project));
+    found.extend(copies::check(project));
     for document in project.documents() {
         found.extend(names::check(project, &document));
         found.extend(numbers::check(project, &document));

@@ -8,10 +8,14 @@ use crate::project::{is_word, Project};
 use crate::Finding;
 
 /// Words in backticks that are no names of code here, each with the reason.
-const NOT_NAMES: [(&str, &str); 3] = [
+const NOT_NAMES: [(&str, &str); 7] = [
     ("variable_declaration", "a production of document 000"),
     ("s__x", "an example of a malformed word"),
     ("document_1", "a case in the stored output of test_vectors"),
+    ("clk'event", "of VHDL, and not of this language"),
+    ("nand", "of VHDL, and not of this language"),
+    ("natural", "of VHDL, and not of this language"),
+    ("rising_edge", "of VHDL, and not of this language"),
 ];
 
 pub fn check(project: &Project, document: &Document) -> Vec<Finding> {
@@ -72,7 +76,7 @@ fn quoted(project: &Project, content: &str) -> Vec<String> {
 }
 
 fn nowhere(name: &str) -> String {
-    format!("`{name}` is no name in crates/, include/ or tests/")
+    format!("`{name}` is no name in crates/, include/, bindings/, cli/ or tests/")
 }
 
 fn is_known(project: &Project, name: &str) -> bool {

@@ -5,7 +5,9 @@ use crate::document::{pieces, Piece};
 use crate::project::Project;
 
 /// Folders of the repository: a word that begins with one of them is a path.
-const FOLDERS: [&str; 6] = ["crates", "docs", "tests", "examples", "include", ".ci"];
+const FOLDERS: [&str; 9] = [
+    "crates", "docs", "tests", "examples", "include", "bindings", "cli", "tools", ".ci",
+];
 
 /// Endings of files: a word with one of them and no slash is the name of some file.
 const ENDINGS: [&str; 8] = ["antt", "rt", "rs", "md", "h", "txt", "vhd", "edit"];
@@ -33,9 +35,13 @@ pub fn resolve(project: &Project, word: &str) -> Resolved {
     let word = word
         .trim_start_matches("./")
         .trim_end_matches(['/', '.', ',', ';', ':', ')']);
-    if let Some(module) = word.strip_prefix("Rattle·") {
+    if let Some(module) = word.strip_prefix("Rattle.") {
         let parts: Vec<&str> = module.split('.').collect();
-        return in_crate(project, parts[0], &parts[1..]);
+        return match has_prefix(parts[0]) || project.is_crate(parts[0]) {
+            true => in_crate(project, parts[0], &parts[1..]),
+            // Of the toolchain.
+            false => Resolved::No,
+        };
     }
     let parts: Vec<&str> = word.split('/').collect();
     match parts.as_slice() {
@@ -76,10 +82,6 @@ fn matching(project: &Project, path: &str) -> Vec<String> {
     let parts: Vec<&str> = path.split('/').collect();
     if !parts.iter().any(|p| is_pattern(p)) {
         return Vec::new();
-    }
-    // examples is a link, so its files are listed where it leads.
-    if parts[0] == "examples" && parts.len() == 2 {
-        return vec!["examples".to_string()];
     }
     let fits = |file: &&String| {
         let names: Vec<&str> = file.split('/').collect();

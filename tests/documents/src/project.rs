@@ -21,7 +21,7 @@ pub struct Project {
     pub root: PathBuf,
     /// In the order of crates.txt.
     pub crates: Vec<Crate>,
-    /// Every file, by its path from the root; folders that hold builds are left out.
+    /// Every file, by its path from the root; folders that hold builds, and what rt keeps of a crate, are left out.
     pub files: BTreeSet<String>,
     /// The words of each source file, comments left out.
     words: HashMap<String, HashSet<String>>,
@@ -70,7 +70,7 @@ impl Project {
         self.crates.iter().any(|c| c.name == name)
     }
 
-    /// A file, a folder or a link: "examples" is one.
+    /// A file or a folder.
     pub fn exists(&self, path: &str) -> bool {
         self.root.join(path).exists()
     }
@@ -96,22 +96,25 @@ impl Project {
             })
     }
 
-    /// README.md, what stands in docs/, but for the history, and tests/README.md.
+    /// README.md, what stands in docs/, but for the history (landings, the port) and the sources, and tests/README.md.
     pub fn documents(&self) -> Vec<Document> {
         let is_document = |f: &&String| {
             ["README.md", "tests/README.md"].contains(&f.as_str())
                 || (f.starts_with("docs/") && f.ends_with(".md"))
         };
+        let is_source = |f: &str| f.starts_with("docs/source/");
         self.files
             .iter()
             .filter(is_document)
-            .filter(|f| *f != "docs/LANDINGS.md")
+            .filter(|f| {
+                !["docs/LANDINGS.md", "docs/PORT.md"].contains(&f.as_str()) && !is_source(f)
+            })
             .map(|f| Document::new(f, &self.text(f).unwrap_or_default()))
             .collect()
     }
 }
 
-/// Lists the files below a folder. Links are listed as files: they are not followed.
+/// Lists the files below a folder.
 fn list(root: &Path, folder: &str, files: &mut BTreeSet<String>) -> io::Result<()> {
     for entry in fs::read_dir(root.join(folder))? {
         let entry = entry?;
@@ -121,7 +124,7 @@ fn list(root: &Path, folder: &str, files: &mut BTreeSet<String>) -> io::Result<(
             _ => format!("{folder}/{name}"),
         };
         if entry.file_type()?.is_dir() {
-            if name != "target" && name != ".git" {
+            if name != "target" && name != ".git" && !is_kept_by_rt(&path) {
                 list(root, &path, files)?;
             }
         } else {
@@ -131,11 +134,18 @@ fn list(root: &Path, folder: &str, files: &mut BTreeSet<String>) -> io::Result<(
     Ok(())
 }
 
+/// Whether a folder is crates/NAME/out.
+fn is_kept_by_rt(path: &str) -> bool {
+    matches!(
+        path.split('/').collect::<Vec<_>>().as_slice(),
+        ["crates", _, "out"]
+    )
+}
+
 /// Files whose words count as names: code and definitions. The words of this program and of test data do not.
 fn is_source(path: &str) -> bool {
-    let inside = ["crates/", "include/", "tests/", ".ci/"]
-        .iter()
-        .any(|folder| path.starts_with(folder));
+    let folders = ["crates/", "include/", "bindings/", "cli/", "tests/", ".ci/"];
+    let inside = folders.iter().any(|folder| path.starts_with(folder));
     let ends = ["rt", "antt", "rs", "c", "h", "run"]
         .iter()
         .any(|end| path.rsplit(['.', '/']).next() == Some(end));
@@ -175,14 +185,15 @@ pub fn without_comment<'a>(line: &'a str, mark: &str) -> &'a str {
     }
 }
 
-/// The lines of crates.txt.
+/// The lines of crates.txt: "NAME: NAME ..", with a kind such as `staticlib` behind the first name where it is one.
 fn listed(root: &Path) -> io::Result<Vec<Crate>> {
     let text = fs::read_to_string(root.join("crates.txt"))?;
     let lines: Vec<(&str, Vec<&str>)> = text
         .lines()
         .filter(|line| !line.starts_with('#'))
         .filter_map(|line| line.split_once(':'))
-        .map(|(name, named)| (name.trim(), named.split_whitespace().collect()))
+        .filter_map(|(head, named)| Some((head.split_whitespace().next()?, named)))
+        .map(|(name, named)| (name, named.split_whitespace().collect()))
         .collect();
     let names: HashSet<&str> = lines.iter().map(|(name, _)| *name).collect();
     let mut crates = Vec::new();
@@ -199,7 +210,7 @@ fn listed(root: &Path) -> io::Result<Vec<Crate>> {
     Ok(crates)
 }
 
-/// The first sentence of the header comment of a crate's lib.rt or main.rt.
+/// The first sentence of the header comment of a crate's lib.rt or main.rt. Attributes such as `#![tactic(auto)]` stand before it.
 fn header(root: &Path, name: &str) -> String {
     let source = ["lib.rt", "main.rt"]
         .iter()
@@ -209,6 +220,7 @@ fn header(root: &Path, name: &str) -> String {
         .unwrap_or_default();
     let comment: Vec<&str> = source
         .lines()
+        .skip_while(|line| line.starts_with("#![") || line.trim().is_empty())
         .map_while(|line| line.strip_prefix("//"))
         .map(str::trim)
         .collect();

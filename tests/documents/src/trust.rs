@@ -66,7 +66,7 @@ pub fn check(project: &Project, document: &Document) -> Vec<Finding> {
         }
         for file in &row.files {
             let text = project.text(file).unwrap_or_default();
-            for used in used(&text).difference(&listed) {
+            for used in used(project, &text).difference(&listed) {
                 let says = format!("{file} uses {used}, which is not listed");
                 found.push(Finding::new(TRUST, row.line, says));
             }
@@ -75,15 +75,17 @@ pub fn check(project: &Project, document: &Document) -> Vec<Finding> {
     found
 }
 
-/// The modules of definitions that a module of definitions uses: "use Rattle·crate.specs.Module". What is declared in code is not among them.
-fn used(text: &str) -> BTreeSet<String> {
+/// The modules that a module of definitions uses: "use Rattle.crate.specs.Module". What is declared in code is not among them, nor what is the toolchain's.
+fn used(project: &Project, text: &str) -> BTreeSet<String> {
     text.lines()
-        .filter_map(|line| line.strip_prefix("use Rattle·"))
+        .map(|line| line.strip_prefix("pub ").unwrap_or(line))
+        .filter_map(|line| line.strip_prefix("use Rattle."))
         .filter_map(|name| {
             let mut parts = name.split(['.', ' ']);
-            let owner = parts.next()?.trim_end_matches("·specs");
-            let module = parts.nth(1).filter(|module| *module != "declared")?;
-            Some(format!("crates/{owner}/specs/{module}.antt"))
+            let owner = parts.next().filter(|owner| project.is_crate(owner))?;
+            let folder = parts.next()?;
+            let module = parts.next().filter(|module| *module != "declared")?;
+            Some(format!("crates/{owner}/{folder}/{module}.antt"))
         })
         .collect()
 }

@@ -5,19 +5,22 @@ use documents::{bounds, check, generated};
 use std::fs;
 use std::path::PathBuf;
 
-const FILES: [(&str, &str); 12] = [
-    ("crates.txt", "# a comment\nspec_rules:\nfront_reader: spec_rules\n"),
-    ("crates/spec_rules/src/lib.rt", "// The rules. Definitions only.\n"),
-    ("crates/spec_rules/specs/Rules.antt", "-- forgotten is only a word here.\nofText : ℕ\nfirst-rule : ℕ\n"),
-    ("crates/spec_rules/proofs/Main.antt", "rules-hold : ofText\n"),
-    ("crates/front_reader/src/lib.rt", "// Reads a text.\nghost use Rattle·spec_rules.specs.Rules;\npub fn read(text: &[u8]) -> bool\n    ensures { ⌜ ofText ⌝ }\n{\n    true\n}\n"),
+const FILES: [(&str, &str); 15] = [
+    ("crates.txt", "# a comment\nspec_rules:\nfront_reader staticlib: spec_rules\ntest_vectors:\n"),
+    ("crates/spec_rules/src/lib.rt", "#![tactic(auto)]\n// The rules. Definitions only.\n"),
+    ("crates/spec_rules/specs/Rules.antt", "-- forgotten is only a word here.\nof_text : ℕ\nfirst_rule : ℕ\n"),
+    ("crates/spec_rules/proofs/Main.antt", "rules_hold : of_text\nreturns-then-x : of_text\n"),
+    ("crates/front_reader/src/lib.rt", "#![tactic(auto)]\n// Reads a text.\nghost use Rattle.spec_rules.specs.Rules.{of_text};\n\npub fn read(text: &[u8]) -> bool\n    ensures of { of_text }\n{\n    true\n}\n"),
     ("crates/front_reader/must-fail/reads_nothing.edit", "# nothing\n"),
+    ("crates/test_vectors/src/main.rt", "#![tactic(auto)]\n// The cases.\n"),
+    ("crates/test_vectors/data/examples/one/rows.txt", "7\n"),
+    ("examples/one/rows.txt", "7\n"),
     ("README.md", "# One\n<!-- written by tests/documents: groups -->\n<!-- end of what tests/documents writes -->\nSee [the ways](docs/ARCHITECTURE.md#ways-and-means) and crates/spec_rules/specs/Rules.antt.\n"),
-    ("docs/ARCHITECTURE.md", "## Ways and means\n<!-- written by tests/documents: way -->\n<!-- end of what tests/documents writes -->\n<!-- written by tests/documents: graph -->\n<!-- end of what tests/documents writes -->\n<!-- written by tests/documents: crates -->\n<!-- end of what tests/documents writes -->\n`rules-hold` (spec_rules/Main), front_reader `read`, `front_reader::read`, front_reader/reads_nothing, spec_rules/specs Rules.\n"),
+    ("docs/ARCHITECTURE.md", "## Ways and means\n<!-- written by tests/documents: way -->\n<!-- end of what tests/documents writes -->\n<!-- written by tests/documents: graph -->\n<!-- end of what tests/documents writes -->\n<!-- written by tests/documents: crates -->\n<!-- end of what tests/documents writes -->\n`rules_hold`, `returns-then-x` (spec_rules/Main), front_reader `read`, `front_reader::read`, front_reader/reads_nothing, spec_rules/specs Rules.\n"),
     ("docs/DECISIONS.md", "| No | Question |\n|---|---|\n| 1 | a |\n| 2 | b (decision 1) |\n"),
-    ("docs/PROMISES.md", "| No | Promise | Theorem |\n|---|---|---|\n| 1 | a | spec_rules/Rules `ofText`, `first-rule` |\n"),
+    ("docs/PROMISES.md", "| No | Promise | Theorem |\n|---|---|---|\n| 1 | a | spec_rules/Rules `of_text`, `first_rule` |\n"),
     ("docs/TRUST.md", "| part | files | lines |\n|---|---|---|\n| rules | spec_rules/specs Rules; front_reader/must-fail | 4 |\n"),
-    ("docs/LANDINGS.md", "crates/gone/src, `gone-too`\n"),
+    ("docs/LANDINGS.md", "crates/gone/src, `gone_too`\n"),
 ];
 
 /// A repository of its own in a folder that is removed with it.
@@ -96,13 +99,57 @@ fn a_wrong_path() {
 }
 
 #[test]
+fn a_path_in_every_folder() {
+    for folder in ["bindings", "cli"] {
+        let repository = Repository::new(folder);
+        let path = format!("{folder}/src/lib.rs");
+        repository.put(&path, "pub fn lent() {}\n");
+        repository.replace("README.md", "# One", &format!("# One\n{path}, `lent`."));
+        assert_eq!(repository.found(), Vec::<String>::new());
+        repository.replace("README.md", "src/lib.rs", "src/gone.rs");
+        let found = repository.found();
+        assert!(
+            found[0].contains(&format!("there is no {folder}/src/gone.rs")),
+            "{found:?}"
+        );
+    }
+}
+
+#[test]
+fn sources_are_not_read() {
+    let repository = Repository::new("source");
+    let text = "`gone_too` in crates/gone/src, docs/GONE.md; decision 7\n";
+    repository.put("docs/source/01.md", text);
+    assert_eq!(repository.found(), Vec::<String>::new());
+    repository.put("docs/OTHER.md", text);
+    assert_ne!(repository.found(), Vec::<String>::new());
+}
+
+#[test]
+fn what_a_build_leaves_is_not_read() {
+    let repository = Repository::new("builds");
+    let left = "crates/front_reader/out/incremental/Gone.antt";
+    repository.put(left, "gone_too : ℕ\n");
+    assert!(!repository.read().files.contains(left));
+    repository.replace("README.md", "# One", "# One\n`gone_too`");
+    assert_ne!(repository.found(), Vec::<String>::new());
+}
+
+#[test]
 fn a_theorem_that_is_gone() {
     finds(
         "gone",
         "crates/spec_rules/proofs/Main.antt",
-        "rules-hold",
-        "rules-stand",
-        "`rules-hold` is no name",
+        "rules_hold",
+        "rules_stand",
+        "`rules_hold` is no name",
+    );
+    finds(
+        "hyphens",
+        "crates/spec_rules/proofs/Main.antt",
+        "returns-then-x",
+        "returns-else-x",
+        "`returns-then-x` is no name",
     );
 }
 
@@ -111,7 +158,7 @@ fn a_name_that_stands_in_comments_only() {
     finds(
         "comment",
         "docs/PROMISES.md",
-        "`first-rule`",
+        "`first_rule`",
         "`forgotten`",
         "`forgotten` is no name",
     );
@@ -124,14 +171,14 @@ fn a_theorem_in_another_module() {
         "docs/ARCHITECTURE.md",
         "(spec_rules/Main)",
         "(spec_rules/Rules)",
-        "Rules.antt has no `rules-hold`",
+        "Rules.antt has no `rules_hold`",
     );
     finds(
         "other",
         "docs/PROMISES.md",
-        "`first-rule`",
-        "`rules-hold`",
-        "Rules.antt has no `rules-hold`",
+        "`first_rule`",
+        "`rules_hold`",
+        "Rules.antt has no `rules_hold`",
     );
 }
 
@@ -189,7 +236,7 @@ fn a_link_to_no_heading() {
 #[test]
 fn a_crate_that_is_not_in_the_table() {
     let repository = Repository::new("table");
-    repository.put("crates/base_new/src/lib.rt", "// New.\n");
+    repository.put("crates/base_new/src/lib.rt", "#![tactic(auto)]\n// New.\n");
     assert!(repository
         .found()
         .iter()
@@ -259,19 +306,19 @@ fn numbers_out_of_order_or_twice() {
 
 #[test]
 fn bounds_on_functions_and_proofs() {
-    let source = "// fn none(a, b)\npub fn two<'a>(a: &[u8; 3], b: (u8, u8),) -> [u8; 2]\n    requires { ⌜ a  b ⌝ }\n    ensures { λ r. { } }\n{\n    f(1, 2, 3)\n}\n";
+    let source = "// fn none(a, b)\npub fn two<'a>(a: &[u8; 3], b: (u8, u8),) -> [u8; 2]\n    requires { a  b }\n    ensures low { result ≡ { } }\n    ensures high { b }\n{\n    f(1, 2, 3)\n}\n";
     let heads = bounds::heads(source);
     assert_eq!(heads.len(), 1);
     assert_eq!(
         (heads[0].line, heads[0].parameters, heads[0].contract),
-        (2, 2, 15)
+        (2, 2, 16)
     );
 
     let repository = Repository::new("bounds");
-    let chain = " .before".repeat(16);
+    let half = ".before".repeat(8);
     repository.put(
         "crates/spec_rules/proofs/Long.antt",
-        &format!("-- a path\nx = c{chain}\n"),
+        &format!("-- a path\nx = (c{half})\n  {half} c{half}\n"),
     );
     repository.replace("crates.txt", "spec_rules:\n", "spec_format:\n");
     let found: Vec<String> = bounds::check(&repository.read())
@@ -280,7 +327,7 @@ fn bounds_on_functions_and_proofs() {
         .collect();
     assert_eq!(
         found,
-        ["crates/spec_rules/proofs/Long.antt:2: 16 `.before` in a row (bound 15)"]
+        ["crates/spec_rules/proofs/Long.antt:3: 16 `.before` in a row (bound 15)"]
     );
 }
 
@@ -300,13 +347,27 @@ fn a_dependency_against_the_way_of_the_data() {
 }
 
 #[test]
+fn examples_that_differ_from_their_copy() {
+    let rows = "examples/one/rows.txt";
+    finds("differ", rows, "7", "8", "it differs from crates/");
+    let repository = Repository::new("copies");
+    repository.put("examples/two/rows.txt", "1\n");
+    let found = repository.found();
+    assert_eq!(found.len(), 1);
+    assert!(found[0].starts_with("examples/two/rows.txt: "), "{found:?}");
+    repository.put("crates/test_vectors/data/examples/two/rows.txt", "1\n");
+    repository.put("crates/test_vectors/data/examples/two/trace.txt", "1\n");
+    assert!(repository.found()[0].contains("examples has not"));
+}
+
+#[test]
 fn a_definition_that_is_used_and_not_listed() {
     let repository = Repository::new("used");
     repository.put("crates/spec_rules/specs/More.antt", "more : ℕ\n");
     repository.replace(
         "crates/spec_rules/specs/Rules.antt",
-        "ofText : ℕ\n",
-        "use Rattle·spec_rules·specs.specs.More.{more}\nofText : ℕ\n",
+        "of_text : ℕ\n",
+        "use Rattle.std.specs.Prelude.{ℕ}\nuse Rattle.spec_rules.specs.declared.Rule.{rule}\nuse Rattle.spec_rules.specs.More.{more}\nof_text : ℕ\n",
     );
     generated::write(&repository.read()).expect("the marks are there");
     let found = repository.found();

@@ -10,7 +10,10 @@ use reference::proved::PROVED;
 #[test]
 fn the_archive_is_there_if_it_must_be() {
     let required = std::env::var_os("RABTISHU_REQUIRED").is_some();
-    assert!(cfg!(proved) || !required, "rt staticlib api_c comes first");
+    assert!(
+        cfg!(proved) || !required,
+        "rt lib in crates/api_c comes first"
+    );
 }
 
 #[cfg(proved)]

@@ -3,7 +3,7 @@
 
 #[cfg(not(all(proved, benched)))]
 fn main() {
-    eprintln!("rt staticlib api_c and rt staticlib test_bench come first");
+    eprintln!("rt lib in crates/api_c and in crates/test_bench comes first");
     std::process::exit(1);
 }
 

@@ -3,7 +3,7 @@
 
 #[cfg(not(proved))]
 fn main() {
-    eprintln!("rt staticlib api_c comes first");
+    eprintln!("rt lib in crates/api_c comes first");
     std::process::exit(1);
 }
 
