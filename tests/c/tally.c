@@ -17,16 +17,6 @@ static const char bare[] =
     "entity bare is port (clk : in std_logic); end bare;\n"
     "architecture a of bare is begin process begin wait until clk = '1'; end process; end a;\n";
 
-/* A process without outputs, and one without data inputs: one of its rows is empty. */
-static const char taker[] =
-    "entity taker is port (clk : in std_logic; d : in integer); end taker;\n"
-    "architecture a of taker is begin process variable s : integer := 0; begin\n"
-    "s := s + d; wait until clk = '1'; end process; end a;\n";
-static const char giver[] =
-    "entity giver is port (clk : in std_logic; n : out integer := 0); end giver;\n"
-    "architecture a of giver is begin process variable s : integer := 0; begin\n"
-    "s := s + 1; n <= s; wait until clk = '1'; end process; end a;\n";
-
 /* A process that divides: the mean of a sum of seconds, what is left over, and the minutes and seconds of the mean. */
 static const char mean[] =
     "entity mean is port (clk : in std_logic; sum, count : in integer; minutes, seconds, over : out integer := 0); end mean;\n"
@@ -245,52 +235,6 @@ static void with_empty_rows(void)
     printf("place %d\n", state[0]);
 }
 
-/* NULL for the image, the input rows, the output rows or the answers of two rows of tally: refused, and nothing else is written. */
-static void without_one(const uint8_t *image, size_t n)
-{
-    int32_t state[49], outputs[2];
-    uint32_t answers[6], answer[3];
-    memset(state, 0xa5, sizeof state);
-    memset(outputs, 0xa5, sizeof outputs);
-    memset(answers, 0xa5, sizeof answers);
-    rabtishu_cycles(NULL, 0, state, 2, rows, 2, outputs, 2, answers, 6, answer);
-    told("two rows without image", answer);
-    rabtishu_cycles(image, n, state, 2, NULL, 0, outputs, 2, answers, 6, answer);
-    told("two rows without inputs", answer);
-    rabtishu_cycles(image, n, state, 2, rows, 2, NULL, 0, answers, 6, answer);
-    told("two rows without outputs", answer);
-    rabtishu_cycles(image, n, state, 2, rows, 2, outputs, 2, NULL, 0, answer);
-    told("two rows without answers", answer);
-    state_told(state);
-    printf("outputs %s\n", guarded(outputs, sizeof outputs) ? "untouched" : "altered");
-    printf("answers %s\n", guarded(answers, sizeof answers) ? "untouched" : "altered");
-}
-
-/* NULL for the rows that a process has not: cycles are performed, by table, in one call and by text. */
-static void with_one_row(const char *name, const char *process, const int32_t *inputs, size_t ni, int32_t *outputs, size_t no)
-{
-    const uint8_t *bytes = (const uint8_t *)process;
-    const size_t n = strlen(process);
-    uint8_t image[256];
-    int32_t state[49];
-    uint32_t answer[3], answers[6];
-    rabtishu_compile(bytes, n, image, sizeof image, answer);
-    told(name, answer);
-    const size_t size = answer[2];
-    rabtishu_fresh(image, size, state, answer);
-    rabtishu_cycle(image, size, state, inputs, ni, outputs, no, answer);
-    told("cycle", answer);
-    rabtishu_cycles(image, size, state, 2, inputs, 2 * ni, outputs, 2 * no, answers, 6, answer);
-    told("two rows", answer);
-    told("first", answers);
-    told("second", answers + 3);
-    printf("place %d output %d variable %d\n", state[0], state[1], state[17]);
-    rabtishu_direct_fresh(bytes, n, state, answer);
-    rabtishu_direct(bytes, n, state, inputs, ni, outputs, no, answer);
-    told("direct", answer);
-    printf("place %d output %d variable %d\n", state[0], state[1], state[17]);
-}
-
 /* The row of a process that divides, by the table where an image is given, else from the text. */
 static void divided(int k, const uint8_t *image, size_t n, int32_t state[49])
 {
@@ -380,11 +324,6 @@ int main(void)
     without_bytes();
     without_room(image, 134);
     with_empty_rows();
-    without_one(image, 134);
-    int32_t outputs[2] = {99, 99};
-    with_one_row("taker", taker, rows, 1, NULL, 0);
-    with_one_row("giver", giver, NULL, 0, outputs, 1);
-    printf("outputs %d %d\n", outputs[0], outputs[1]);
     division();
     return 0;
 }

@@ -1,6 +1,7 @@
 #![tactic(auto)]
-// Arguments and files, read into buffers that the caller lends. Nothing here allocates.
-ghost use Rattle.std.specs.Prelude.{◌<◌, ◌≤◌, length, take, IfOk, IfSome};
+// Arguments and files, read into buffers that the caller lends. Nothing here allocates. No contract can say what an argument or a file holds; what a failed
+// read leaves is a buffer of the same length, and of the bytes in it nothing is told.
+ghost use Rattle.std.specs.Prelude.{◌≡◌, ◌<◌, ◌≤◌, length, take, IfOk, IfSome};
 ghost use Rattle.std.specs.Io.KnownBytes.{Consumes, IsAtEnd};
 
 use std::env::{Env, FillError};
@@ -21,7 +22,8 @@ pub fn arg_count(rt: &impl Env) -> usize {
 
 /// The length of an argument, put at the start of a buffer: 0 where it is missing or longer than the buffer.
 pub fn argument(rt: &impl Env, i: usize, buffer: &mut [u8]) -> usize
-    ensures { result ≤ length buffer.new }
+    ensures bound { result ≤ length buffer.new }
+    ensures room { length buffer.new ≡ length buffer.old }
 {
     rt.arg(i, buffer).unwrap_or(0)
 }
@@ -31,6 +33,7 @@ pub fn read_full<R: Read>(from: &mut R, buffer: &mut [u8]) -> io::Result<usize>
     ensures bound { IfOk result (λ n. n ≤ length buffer.new) }
     ensures bytes { IfOk result (λ n. Consumes (R.remaining from.old) (R.remaining from.new) (take n buffer.new)) }
     ensures end { IfOk result (λ n. n < length buffer.new → IsAtEnd (R.remaining from.new)) }
+    ensures room { length buffer.new ≡ length buffer.old }
 {
     let mut done = 0;
     while done < buffer.len() {
@@ -45,7 +48,8 @@ pub fn read_full<R: Read>(from: &mut R, buffer: &mut [u8]) -> io::Result<usize>
 
 /// The bytes of the file that a path names, at most as many as there is room for; none where it cannot be opened.
 pub fn read_or_empty(rt: &impl Files, path: &str, buffer: &mut [u8]) -> io::Result<usize>
-    ensures { IfOk result (λ n. n ≤ length buffer.new) }
+    ensures bound { IfOk result (λ n. n ≤ length buffer.new) }
+    ensures room { length buffer.new ≡ length buffer.old }
 {
     match fs::open(rt, path) {
         Ok(mut file) => read_full(&mut file, buffer),
@@ -60,7 +64,8 @@ pub fn read_or_tell(
     path: &[u8],
     buffer: &mut [u8],
 ) -> io::Result<Option<usize>>
-    ensures { IfOk result (λ found. IfSome found (λ n. n ≤ length buffer.new)) }
+    ensures bound { IfOk result (λ found. IfSome found (λ n. n ≤ length buffer.new)) }
+    ensures room { length buffer.new ≡ length buffer.old }
 {
     let Ok(name) = str::from_utf8(path) else {
         eprintln!(rt; "a file's name is not UTF-8")?;

@@ -16,7 +16,7 @@
 // then q <= not f and a; null; else m <= n + k - j; end if; wait; if (k <= n) and (n > j) then j := j - 1; end if; end if;
 // Of gate: each field one more and one less (1 to 334), input values (335 to 370), each slot 2 and -1 (371 to 466), its std_logic slots (467 to 470), row
 // lengths (471 to 486), every place and the ends of the range (487 to 540), rows in turn (541 to 552), *, /, mod, rem (553 to 581).
-ghost use Rattle.std.specs.Prelude.{◌≤◌, length, IfOk};
+ghost use Rattle.std.specs.Prelude.{◌≡◌, ◌≤◌, length, IfOk};
 
 use base_answers::{Cycled, Opened, Refusal, Started, State};
 use image_words::{byte, word2, word4};
@@ -274,7 +274,8 @@ fn run_cases(rt: &impl Print, image: &[u8], cases: &[u8]) -> io::Result<()> {
 
 // The bytes of the file that an argument names.
 fn read_argument(rt: &(impl Env + Files + Eprint), i: usize, bytes: &mut [u8]) -> io::Result<usize>
-    ensures { IfOk result (λ n. n ≤ length bytes.new) }
+    ensures bound { IfOk result (λ n. n ≤ length bytes.new) }
+    ensures room { length bytes.new ≡ length bytes.old }
 {
     let mut path = [0u8; 4096];
     let length = base_files::argument(rt, i, &mut path);

@@ -1,7 +1,7 @@
 #![tactic(auto)]
 // The trace program: reads `process.vhd` and `rows.txt` in the folder it is run in, where a file that cannot be opened is empty, and prints the trace.
 // Everything that it prints comes from trace_header and trace_lines, chunk by chunk; here it is only read and written.
-ghost use Rattle.std.specs.Prelude.{◌≤◌, length, IfOk};
+ghost use Rattle.std.specs.Prelude.{◌≡◌, ◌≤◌, length, IfOk};
 
 use std::io;
 use std::rt::Files;
@@ -9,7 +9,8 @@ use trace_lines::{Begun, Filled, Progress};
 
 // The bytes of the file that a path names, at most as many as there is room for; none where it cannot be opened.
 fn read_file(rt: &impl Files, path: &str, bytes: &mut [u8]) -> io::Result<usize>
-    ensures { IfOk result (λ n. n ≤ length bytes.new) }
+    ensures bound { IfOk result (λ n. n ≤ length bytes.new) }
+    ensures room { length bytes.new ≡ length bytes.old }
 {
     base_files::read_or_empty(rt, path, bytes)
 }
