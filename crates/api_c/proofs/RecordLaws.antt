@@ -1,38 +1,14 @@
 -- Laws of the state record as 49 numbers. Assumes nothing.
-use Prim.Native.Nat.{ℕ, ◌-◌, ◌<◌, ◌≤◌}
+use Prim.Native.Nat.{ℕ, ◌≤◌}
 use native.Mathlib.Omega.{arith}
-use mathlib.Core.Path.{◌≡◌, refl, sym, ap, ◌∙◌}
-use mathlib.Core.Bool.{cond}
+use mathlib.Core.Path.{◌≡◌, sym, ap, ◌∙◌}
 use mathlib.Core.List.{List, [], ◌∷◌, ◌++◌, append-nil}
 use lib.ListN.{length, get_or, take, drop, set, drop_of_length-le, length-drop, length-set, length-append}
-use lib.Seq.{take_all, take_at, drop_at, length-take-le}
-use lib.IntN.{ℤ, pos, negsuc}
+use lib.Seq.{take_at, drop_at, length-take-le}
+use lib.IntN.{ℤ, pos}
 use borrow.Rule.Slice.PartMut.{put_mid}
-use mir.Syntax.{w32}
-use mir.Val.{SFits}
-use borrow.Author.Tests.{lt-ltb, le-ltb}
-use Rattle.spec_semantics.specs.Twos.{signed32, unsigned32}
 use Rattle.base_answers.specs.declared.State.{State}
 use Rattle.spec_interface.specs.CInterface.{place_of_c, state_of_c, c_of_state}
-
--- a place within 16 bits is read as it is
-pub place_in : (x : ℤ) (b : ℕ) → SFits w32 x → b ≡ unsigned32 x → b < 65536 → b ≡ place_of_c x
-place_in (pos n) b f e h = e ∙ sym (ap (λ t. cond t n 65535) (lt-ltb n 65536 (omega arith)))
-place_in (negsuc n) b f e h = absurd (omega (arith, f.sfits))
-
--- every other number is read as 65535
-pub place_out : (x : ℤ) (b : ℕ) → b ≡ unsigned32 x → 65536 ≤ b → 65535 ≡ place_of_c x
-place_out (pos n) b e h = sym (ap (λ t. cond t n 65535) (le-ltb n 65536 (omega arith)))
-place_out (negsuc n) b e h = refl
-
--- a place as a number
-pub place_as : (p : ℕ) (z : ℤ) → p < 65536 → z ≡ signed32 p → z ≡ pos p
-place_as p z h e = e ∙ ap (λ t. cond t (pos p) (negsuc (4294967295 - p))) (lt-ltb p 2147483648 (omega arith))
-
--- all elements copied
-pub copied : (from to : List ℤ) (k : ℕ) (u : List ℤ) → length from ≡ length to → length to ≤ k → u ≡ take k from ++ drop k to → u ≡ from
-copied from to k u e h f =
-    f ∙ ap (λ l. l ++ drop k to) (take_all k from (omega arith)) ∙ ap (λ l. from ++ l) (drop_of_length-le to h) ∙ append-nil from
 
 -- a state record, field by field
 pub state_of : (c : List ℤ) (p : ℕ) (o v : List ℤ) → p ≡ place_of_c (get_or c 0 (pos 0)) → o ≡ take 16 (drop 1 c) → v ≡ take 32 (drop 17 c)

@@ -1,11 +1,12 @@
 #![tactic(auto)]
 // The C interface: eight functions with plain names, for C and Rust to link; include/rabtishu.h declares them. Whatever is lent, each call is done or
-// refused as document 01 says; a refused one writes nothing but its answer.
+// refused as document 01 says; a refused one writes nothing but its answer. Functions on an image and on a text are two that read alike, since C calls each by its name.
 mod record;
 
 ghost use Rattle.std.specs.Prelude.{◌≡◌};
 ghost use Rattle.spec_interface.specs.CInterface.{compile_in_c, open_in_c, fresh_in_c, cycle_in_c, batch_in_c, direct_fresh_in_c, direct_in_c, token_in_c};
 
+use base_answers::numbers::answered;
 use base_codes::record::{ANSWER, STATE};
 
 // A text to an image in the caller's buffer.
@@ -13,9 +14,7 @@ use base_codes::record::{ANSWER, STATE};
 pub extern "C" fn rabtishu_compile(text: &[u8], image: &mut [u8], answer: &mut [u32; ANSWER])
     ensures { (answer.new ≡ (compile_in_c text.now image.old).0) × (image.new ≡ (compile_in_c text.now image.old).1) }
 {
-    let c = image_compiler::compile(text, image);
-    let numbers = base_answers::numbers::compiled(c);
-    *answer = numbers;
+    *answer = answered(image_compiler::compile(text, image));
 }
 
 // Any bytes checked as an image.
@@ -23,9 +22,7 @@ pub extern "C" fn rabtishu_compile(text: &[u8], image: &mut [u8], answer: &mut [
 pub extern "C" fn rabtishu_open(image: &[u8], answer: &mut [u32; ANSWER])
     ensures { answer.new ≡ open_in_c image.now }
 {
-    let o = image_loader::open(image);
-    let numbers = base_answers::numbers::opened(o);
-    *answer = numbers;
+    *answer = answered(image_loader::open(image));
 }
 
 // The fresh state of an image.
@@ -34,13 +31,9 @@ pub extern "C" fn rabtishu_fresh(image: &[u8], state: &mut [i32; STATE], answer:
     ensures { (answer.new ≡ (fresh_in_c image.now state.old).0) × (state.new ≡ (fresh_in_c image.now state.old).1) }
 {
     let f = image_runtime::fresh(image);
-    let started = f.answer;
-    let numbers = base_answers::numbers::started(started);
-    *answer = numbers;
-    if base_answers::is_fresh(started) {
-        let s = f.state;
-        let slots = record::from_state(s);
-        *state = slots;
+    *answer = answered(f.answer);
+    if f.answer.is_ok() {
+        *state = record::from_state(f.state);
     }
 }
 
@@ -58,16 +51,11 @@ pub extern "C" fn rabtishu_cycle(
         × (state.new ≡ c.slots)
         × (row.new ≡ c.row) }
 {
-    let before = *state;
-    let s = record::to_state(before);
+    let s = record::to_state(*state);
     let a = image_runtime::cycle(image, s, inputs, row);
-    let cycled = a.answer;
-    let numbers = base_answers::numbers::cycled(cycled);
-    *answer = numbers;
-    if base_answers::is_performed(cycled) {
-        let after = a.state;
-        let advanced = record::from_state(after);
-        *state = advanced;
+    *answer = answered(a.answer);
+    if a.answer.is_ok() {
+        *state = record::from_state(a.state);
     }
 }
 
@@ -88,16 +76,11 @@ pub extern "C" fn rabtishu_cycles(
         × (outputs.new ≡ c.rows)
         × (answers.new ≡ c.answers) }
 {
-    let before = *state;
-    let s = record::to_state(before);
+    let s = record::to_state(*state);
     let r = image_batch::cycles(image, s, count, inputs, outputs, answers);
-    let batched = r.answer;
-    let numbers = base_answers::numbers::batched(batched);
-    *answer = numbers;
+    *answer = answered(r.answer);
     if r.performed {
-        let after = r.state;
-        let stored = record::from_state(after);
-        *state = stored;
+        *state = record::from_state(r.state);
     }
 }
 
@@ -111,13 +94,9 @@ pub extern "C" fn rabtishu_direct_fresh(
     ensures { (answer.new ≡ (direct_fresh_in_c text.now state.old).0) × (state.new ≡ (direct_fresh_in_c text.now state.old).1) }
 {
     let f = direct_runtime::fresh(text);
-    let started = f.answer;
-    let numbers = base_answers::numbers::started(started);
-    *answer = numbers;
-    if base_answers::is_fresh(started) {
-        let s = f.state;
-        let slots = record::from_state(s);
-        *state = slots;
+    *answer = answered(f.answer);
+    if f.answer.is_ok() {
+        *state = record::from_state(f.state);
     }
 }
 
@@ -135,16 +114,11 @@ pub extern "C" fn rabtishu_direct(
         × (state.new ≡ c.slots)
         × (row.new ≡ c.row) }
 {
-    let before = *state;
-    let s = record::to_state(before);
+    let s = record::to_state(*state);
     let a = direct_runtime::run(text, s, inputs, row);
-    let cycled = a.answer;
-    let numbers = base_answers::numbers::cycled(cycled);
-    *answer = numbers;
-    if base_answers::is_performed(cycled) {
-        let after = a.state;
-        let moved = record::from_state(after);
-        *state = moved;
+    *answer = answered(a.answer);
+    if a.answer.is_ok() {
+        *state = record::from_state(a.state);
     }
 }
 
@@ -153,6 +127,5 @@ pub extern "C" fn rabtishu_direct(
 pub extern "C" fn rabtishu_token_at(text: &[u8], place: usize) -> usize
     ensures { result ≡ token_in_c text.now place }
 {
-    let t = front_lexer::token_at(text, place);
-    t.len()
+    front_lexer::token_at(text, place).len()
 }

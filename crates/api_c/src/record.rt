@@ -1,38 +1,15 @@
 // The state record from the 49 numbers of a C caller, and back.
-ghost use Rattle.std.specs.Prelude.{◌≡◌, length, pos};
+ghost use Rattle.std.specs.Prelude.{◌≡◌, length};
 ghost use Rattle.spec_interface.specs.CInterface.{place_of_c, state_of_c, c_of_state};
 
 use base_answers::State;
 use base_codes::{limit, record as numbers};
 
-// How many numbers a place can be.
-const PLACES: u32 = u16::MAX as u32 + 1;
-
 // A place; a number outside 0 to 65535 is read as 65535, which no state may have.
 fn place_from(x: i32) -> u16
     ensures { result ≡ place_of_c x }
 {
-    let bits = base_signed::to_bits(x);
-    if bits < PLACES { bits as u16 } else { u16::MAX }
-}
-
-// A place as a number.
-fn place_number(p: u16) -> i32
-    ensures { result ≡ pos p }
-{
-    base_signed::from_bits(p as u32)
-}
-
-// Slots from one place to another of the same length.
-fn copy(from: &[i32], to: &mut [i32])
-    requires { length from.now ≡ length to.old }
-    ensures { to.new ≡ from.now }
-{
-    let mut k: usize = 0;
-    while k < to.len() {
-        to[k] = from[k];
-        k += 1;
-    }
+    u16::try_from(x).unwrap_or(u16::MAX)
 }
 
 // The state record of 49 numbers.
@@ -41,9 +18,9 @@ pub(crate) fn to_state(slots: [i32; numbers::STATE]) -> State
 {
     let place = place_from(slots[numbers::PLACE]);
     let mut outputs = [0i32; limit::OUTPUTS];
-    copy(&slots[numbers::OUTPUTS..numbers::VARIABLES], &mut outputs);
+    outputs.copy_from_slice(&slots[numbers::OUTPUTS..numbers::VARIABLES]);
     let mut variables = [0i32; limit::VARIABLES];
-    copy(&slots[numbers::VARIABLES..numbers::STATE], &mut variables);
+    variables.copy_from_slice(&slots[numbers::VARIABLES..numbers::STATE]);
     State {
         place,
         outputs,
@@ -62,12 +39,9 @@ fn blank() -> [i32; numbers::STATE]
 pub(crate) fn from_state(s: State) -> [i32; numbers::STATE]
     ensures { result ≡ c_of_state s }
 {
-    let place = place_number(s.place);
-    let outputs = s.outputs;
-    let variables = s.variables;
     let mut slots = blank();
-    slots[numbers::PLACE] = place;
-    copy(&outputs, &mut slots[numbers::OUTPUTS..numbers::VARIABLES]);
-    copy(&variables, &mut slots[numbers::VARIABLES..numbers::STATE]);
+    slots[numbers::PLACE] = i32::from(s.place);
+    slots[numbers::OUTPUTS..numbers::VARIABLES].copy_from_slice(&s.outputs);
+    slots[numbers::VARIABLES..numbers::STATE].copy_from_slice(&s.variables);
     slots
 }

@@ -6,25 +6,16 @@ use mathlib.Core.List.{List, []}
 use lib.ListN.{length, take, drop}
 use borrow.Author.Tests.{le-leb, lt-leb}
 use denote.Ref.{Bor}
-use Rattle.base_answers.specs.Answers.{done, refused_by, number_of, place_of}
-use Rattle.base_answers.specs.declared.Refusal.{Refusal}
-use Rattle.base_answers.specs.declared.Sections.{Sections}
-use Rattle.spec_format.specs.Opening.{open_of}
-use Rattle.image_loader.specs.Open.{open_answer}
-use Rattle.image_loader.proofs.OpenLaws.{image_opened, image_refused}
+use Rattle.std.specs.Prelude.{refl}
+use Rattle.spec_format.specs.Opening.{Opened, opened, not_opened}
+use Rattle.image_loader.specs.Open.{places_of, open_answer}
+use Rattle.spec_interface.specs.Entry.{opening_told}
 use Rattle.spec_interface.specs.Lending.{within, Lends}
-use Rattle.api_rattle.specs.Lending.{no_sections, opening_of}
-use Rattle.api_rattle.specs.declared.Opening.{Opening}
 
--- an image that opens
-pub found_image : (b : List ℕ) (x : Sections) → done x ≡ open_answer b (open_of b)
-    → ◌≡◌ {A = Opening} (record { number = 0; place = 0; sections = x }) (opening_of b)
-found_image b x e = let g = image_opened b x e in rw (g.1, g.2)
-
--- an image that is refused
-pub found_none : (b : List ℕ) (r : Refusal) (n p : ℕ) → refused_by r ≡ open_answer b (open_of b) → n ≡ number_of r → p ≡ place_of r
-    → ◌≡◌ {A = Opening} (record { number = n; place = p; sections = no_sections }) (opening_of b)
-found_none b r n p e f g = rw (f, g, image_refused b r e)
+-- what the opener answers is what is told of opening
+pub found : (b : List ℕ) (o : Opened) → open_answer b o ≡ opening_told (places_of b) o
+found b (opened t) = refl
+found b (not_opened q k) = refl
 
 -- bounds that lie in the bytes, and bounds that do not
 pub lent : (s r : Bor (List ℕ)) (a e : ℕ) → a ≤ e → e ≤ length s.now → r.now ≡ take (e - a) (drop a s.now) → r.ref_ptr.0 ≡ s.ref_ptr.0

@@ -7,55 +7,34 @@ pub mod calls;
 ghost use Rattle.std.specs.Prelude.{◌≡◌, ◌+◌, length};
 ghost use Rattle.spec_language.specs.Lexer.{token_at};
 ghost use Rattle.spec_interface.specs.Lending.{Lends};
-ghost use Rattle.api_rattle.specs.Lending.{opening_of};
+ghost use Rattle.base_answers.specs.Answers.{told};
+ghost use Rattle.api_rattle.specs.Lending.{opening_of, bounds_in};
 
-use base_answers::{Opened, Sections};
+use base_answers::{Refusal, Sections};
 pub use calls::{direct, direct_fresh, fresh};
 pub use image_compiler::compile;
 pub use image_runtime::advance_state as cycle;
 
-// What opening an image finds: the refusal's number and place, or 0, and the bounds of the sections, which are 0 where the image is refused.
-#[derive(Clone, Copy)]
-pub struct Opening {
-    pub number: u32,
-    pub place: usize,
-    pub sections: Sections,
-}
+// The bounds of three empty sections.
+const NO_SECTIONS: Sections = Sections {
+    signature: 0,
+    lines: 0,
+    code: 0,
+    end: 0,
+};
 
-// An image with what opening it has found.
+// An image with what opening it has found: the bounds of its sections, or the refusal.
 #[derive(Clone, Copy)]
 pub struct Image<'a> {
     pub bytes: &'a [u8],
-    pub opening: Opening,
+    pub opening: Result<Sections, Refusal>,
 }
 
 // What opening finds.
-pub fn find(bytes: &[u8]) -> Opening
-    ensures { result ≡ opening_of bytes.now }
+pub fn find(bytes: &[u8]) -> Result<Sections, Refusal>
+    ensures { told result ≡ opening_of bytes.now }
 {
-    let o = image_loader::open(bytes);
-    match o {
-        Opened::Image(at) => Opening {
-            number: 0,
-            place: 0,
-            sections: at,
-        },
-        Opened::NotOpened(r) => {
-            let number = base_answers::number(r);
-            let place = base_answers::place(r);
-            let none = Sections {
-                signature: 0,
-                lines: 0,
-                code: 0,
-                end: 0,
-            };
-            Opening {
-                number: number,
-                place: place,
-                sections: none,
-            }
-        }
-    }
+    image_loader::open(bytes)
 }
 
 // The bytes from a start up to an end, as that part; an empty part where they do not lie in the bytes.
@@ -71,57 +50,38 @@ fn between<'a>(bytes: &'a [u8], start: usize, end: usize) -> &'a [u8]
     &bytes[start..end]
 }
 
-// The signature section by its bounds.
-fn signature_part<'a>(bytes: &'a [u8], o: Opening) -> &'a [u8]
-    ensures { Lends bytes.entry o.sections.signature o.sections.lines result }
-{
-    let at = o.sections;
-    between(bytes, at.signature, at.lines)
-}
-
-// The lines section by its bounds.
-fn lines_part<'a>(bytes: &'a [u8], o: Opening) -> &'a [u8]
-    ensures { Lends bytes.entry o.sections.lines o.sections.code result }
-{
-    let at = o.sections;
-    between(bytes, at.lines, at.code)
-}
-
-// The code section by its bounds.
-fn code_part<'a>(bytes: &'a [u8], o: Opening) -> &'a [u8]
-    ensures { Lends bytes.entry o.sections.code o.sections.end result }
-{
-    let at = o.sections;
-    between(bytes, at.code, at.end)
-}
-
 // Any bytes opened as an image, or refused by 11, 12 or 13.
 pub fn open<'a>(bytes: &'a [u8]) -> Image<'a>
-    ensures { (result.bytes ≡ bytes.entry) × (result.opening ≡ opening_of bytes.now) }
+    ensures { (result.bytes ≡ bytes.entry) × (told result.opening ≡ opening_of bytes.now) }
 {
-    let o = find(bytes);
-    Image { bytes, opening: o }
+    Image {
+        bytes,
+        opening: find(bytes),
+    }
 }
 
 // The signature section.
 pub fn signature<'a>(i: Image<'a>) -> &'a [u8]
-    ensures { Lends i.entry.bytes i.entry.opening.sections.signature i.entry.opening.sections.lines result }
+    ensures { Lends i.entry.bytes (bounds_in i.entry.opening).signature (bounds_in i.entry.opening).lines result }
 {
-    signature_part(i.bytes, i.opening)
+    let at = i.opening.unwrap_or(NO_SECTIONS);
+    between(i.bytes, at.signature, at.lines)
 }
 
 // The lines section.
 pub fn lines<'a>(i: Image<'a>) -> &'a [u8]
-    ensures { Lends i.entry.bytes i.entry.opening.sections.lines i.entry.opening.sections.code result }
+    ensures { Lends i.entry.bytes (bounds_in i.entry.opening).lines (bounds_in i.entry.opening).code result }
 {
-    lines_part(i.bytes, i.opening)
+    let at = i.opening.unwrap_or(NO_SECTIONS);
+    between(i.bytes, at.lines, at.code)
 }
 
 // The code section.
 pub fn code<'a>(i: Image<'a>) -> &'a [u8]
-    ensures { Lends i.entry.bytes i.entry.opening.sections.code i.entry.opening.sections.end result }
+    ensures { Lends i.entry.bytes (bounds_in i.entry.opening).code (bounds_in i.entry.opening).end result }
 {
-    code_part(i.bytes, i.opening)
+    let at = i.opening.unwrap_or(NO_SECTIONS);
+    between(i.bytes, at.code, at.end)
 }
 
 // So many bytes from a start on, as that part; an empty part where they do not lie in the bytes.

@@ -4,8 +4,8 @@ use mathlib.Core.List.{List}
 use Prim.Native.Nat.{ℕ, ◌≤◌}
 use native.Mathlib.Omega.{arith}
 use Rattle.base_answers.specs.declared.Refusal.{Refusal}
-use Rattle.base_answers.specs.Answers.{number_of, place_of, done, refusal}
-use Rattle.base_answers.specs.Numbers.{numbers_of, Narrow, refused_as}
+use Rattle.base_answers.specs.Answers.{number_of, place_of, done, refusal, refused_by}
+use Rattle.base_answers.specs.Numbers.{numbers_of, Narrow}
 use Rattle.base_answers.proofs.Refusals.{one_refusal}
 
 -- what is known of an answer is known of one that equals it
@@ -20,5 +20,5 @@ pub done_narrow : (n : ℕ) → n ≤ 65535 → Narrow (numbers_of (done n))
 done_narrow n h = record { place = omega arith; count = omega arith }
 
 -- a refusal is told in full: number and place stand among its three numbers
-pub numbers_tell : (r s : Refusal) → refused_as r ≡ refused_as s → r ≡ s
+pub numbers_tell : (r s : Refusal) → numbers_of (refused_by r) ≡ numbers_of (refused_by s) → r ≡ s
 numbers_tell r s e = let a : number_of r ≡ number_of s = cc in let b : place_of r ≡ place_of s = cc in one_refusal r s a b

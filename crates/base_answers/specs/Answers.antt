@@ -1,19 +1,9 @@
 -- Document 01's number, place and values for each case of an answer: what every contract says of an answer, it says through these. Assumes nothing.
-use Rattle.std.specs.Prelude.{Bool, true, false, cond, ℕ, eqb}
+use Rattle.std.specs.Prelude.{Bool, true, false, cond, ℕ, eqb, Result, Ok, Err}
 use Rattle.base_codes.specs.Refusal as F
 use Rattle.base_answers.specs.declared.Refusal.{Refusal}
 use Rattle.base_answers.specs.declared.Refusal.TheVariants.{TextTooLong, NoToken, NoSentence, LimitPassed, WrongName, WrongType, NoValue, WrongClock, WrongClass, BufferTooShort, BadSections, BadSignature, BadLine, BadRow, BadState, OutOfRange, BadLengths, ZeroDivisor}
-use Rattle.base_answers.specs.declared.Compiled.{Compiled}
-use Rattle.base_answers.specs.declared.Compiled.TheVariants.{Written, NotCompiled}
-use Rattle.base_answers.specs.declared.Sections.{Sections}
-use Rattle.base_answers.specs.declared.Opened.{Opened}
-use Rattle.base_answers.specs.declared.Opened.TheVariants.{Image, NotOpened}
-use Rattle.base_answers.specs.declared.Cycled.{Cycled}
-use Rattle.base_answers.specs.declared.Cycled.TheVariants.{Performed, NotPerformed}
-use Rattle.base_answers.specs.declared.Batched.{Batched}
-use Rattle.base_answers.specs.declared.Batched.TheVariants.{Taken, NotTaken}
-use Rattle.base_answers.specs.declared.Started.{Started}
-use Rattle.base_answers.specs.declared.Started.TheVariants.{Fresh, NotStarted}
+use Rattle.base_answers.specs.declared.Counts.{Counts}
 
 -- the column "No" of the table
 abbrev pub number_of : Refusal → ℕ
@@ -80,39 +70,21 @@ count_of (refusal number place) = 0
 abbrev pub refused_by : {A : Type 0} → Refusal → Told A
 refused_by r = refusal (number_of r) (place_of r)
 
--- a compile: the number of image bytes written
-abbrev pub compile_told : Compiled → Told ℕ
-compile_told (Written n) = done n
-compile_told (NotCompiled r) = refused_by r
+-- the answer of a call: of a compile the number of image bytes written, of an image opened its sections; a fresh state asked for, and many rows in one call, are done
+-- or turned back as a whole
+abbrev pub told : {A : Type 0} → Result A Refusal → Told A
+told (Ok x) = done x
+told (Err r) = refused_by r
 
--- an image opened: its sections
-abbrev pub open_told : Opened → Told Sections
-open_told (Image at) = done at
-open_told (NotOpened r) = refused_by r
-
--- a fresh state asked for
-abbrev pub fresh_told : Started → Told (Unit {0})
-fresh_told Fresh = done tt
-fresh_told (NotStarted r) = refused_by r
+-- where something of what is done is counted
+abbrev pub counted : {A : Type 0} → (A → ℕ) → Told A → Told ℕ
+counted f (done x) = done (f x)
+counted f (refusal q k) = refusal q k
 
 -- a cycle: "the number of lines performed, the wait it ends on included"
-abbrev pub cycle_told : Cycled → Told ℕ
-cycle_told (Performed c) = done c.lines
-cycle_told (NotPerformed r) = refused_by r
-
--- many rows in one call: taken, or turned back as a whole
-abbrev pub batch_told : Batched → Told (Unit {0})
-batch_told Taken = done tt
-batch_told (NotTaken r) = refused_by r
+abbrev pub cycle_told : Result Counts Refusal → Told ℕ
+cycle_told c = counted (λ n. n.lines) (told c)
 
 -- how many lines a cycle performed: "A refused cycle answers 0 lines."
-abbrev pub lines_of : Cycled → ℕ
+abbrev pub lines_of : Result Counts Refusal → ℕ
 lines_of c = count_of (cycle_told c)
-
--- whether a cycle was performed
-abbrev pub is_performed : Cycled → Bool
-is_performed c = is_done (cycle_told c)
-
--- whether a fresh state is there
-abbrev pub is_fresh : Started → Bool
-is_fresh s = is_done (fresh_told s)

@@ -1,15 +1,16 @@
 #![tactic(auto)]
-// What the public operations take and answer: the state record, the refusals of document 01's table, and one enum for each kind of answer.
+// What the public operations take and answer: the state record, the refusals of document 01's table, and what a call that was done tells; each answers a `Result`.
 pub mod numbers;
 
-ghost use Rattle.std.specs.Prelude.{◌≡◌};
-ghost use Rattle.base_answers.specs.Answers.{number_of, place_of, operator_refusal, is_performed, is_fresh};
-ghost use Rattle.base_answers.specs.declared.Cycled.TheVariants.{NotPerformed};
+ghost use Rattle.std.specs.Prelude.{◌≡◌, Err};
+ghost use Rattle.base_codes.specs.Fault.{number_of as fault_number};
+ghost use Rattle.base_answers.specs.Answers.{number_of, place_of, operator_refusal};
 
-use base_codes::{limit, refusal};
+use base_codes::fault::Fault;
+use base_codes::limit;
 
 // "A place (512 for the beginning, else a wait's line), 16 output and 32 variable slots".
-#[derive(Clone, Copy)]
+#[derive(Clone, Copy, Debug, PartialEq, Eq)]
 pub struct State {
     pub place: u16,
     pub outputs: [i32; limit::OUTPUTS],
@@ -18,7 +19,7 @@ pub struct State {
 
 // Why a call was turned back: a variant for each row of the table, in its order, with the refusal's place where that is not always 0.
 // Later requests add their rows (19 to 24) at the end.
-#[derive(Clone, Copy)]
+#[derive(Clone, Copy, Debug, PartialEq, Eq)]
 pub enum Refusal {
     TextTooLong,
     NoToken(usize),
@@ -41,7 +42,7 @@ pub enum Refusal {
 }
 
 // Where the sections of an opened image start, and where the last ends: signature, lines, code.
-#[derive(Clone, Copy)]
+#[derive(Clone, Copy, Debug, PartialEq, Eq)]
 pub struct Sections {
     pub signature: usize,
     pub lines: usize,
@@ -49,149 +50,96 @@ pub struct Sections {
     pub end: usize,
 }
 
-// A compile: the number of image bytes written.
-#[derive(Clone, Copy)]
-pub enum Compiled {
-    Written(usize),
-    NotCompiled(Refusal),
-}
-
-// An image opened: its sections.
-#[derive(Clone, Copy)]
-pub enum Opened {
-    Image(Sections),
-    NotOpened(Refusal),
-}
-
-// A fresh state asked for; the state itself stands beside the answer.
-#[derive(Clone, Copy)]
-pub enum Started {
-    Fresh,
-    NotStarted(Refusal),
-}
-
 // What a performed cycle counted: the lines, the wait it ends on included.
-#[derive(Clone, Copy)]
+#[derive(Clone, Copy, Debug, PartialEq, Eq)]
 pub struct Counts {
     pub lines: usize,
 }
 
-// A cycle, of an image or of a text: performed, with what it counted; or turned back.
-#[derive(Clone, Copy)]
-pub enum Cycled {
-    Performed(Counts),
-    NotPerformed(Refusal),
-}
-
-// Many rows in one call: all of them were run, each with an answer of its own; or none was.
-#[derive(Clone, Copy)]
-pub enum Batched {
-    Taken,
-    NotTaken(Refusal),
-}
-
-// A cycle's answer, and the state after it.
+// The answer of a cycle, of an image or of a text, and the state after it.
 #[derive(Clone, Copy)]
 pub struct Advanced {
     pub state: State,
-    pub answer: Cycled,
+    pub answer: Result<Counts, Refusal>,
 }
 
 // The answer to a fresh state asked for, and the state.
 #[derive(Clone, Copy)]
 pub struct FreshState {
     pub state: State,
-    pub answer: Started,
+    pub answer: Result<(), Refusal>,
 }
 
-// The refusal of an operator on a line, by its number: 18 for a zero divisor, else 16.
-pub fn operator_refusal(number: u8, line: usize) -> Refusal
-    ensures { result ≡ operator_refusal number line }
+// The refusal of an operator on a line: 18 for a zero divisor, else 16.
+pub fn operator_refusal(why: Fault, line: usize) -> Refusal
+    ensures { result ≡ operator_refusal (fault_number why) line }
 {
-    if number == refusal::ZERO_DIVISOR {
-        return Refusal::ZeroDivisor(line);
+    match why {
+        Fault::ZeroDivisor => Refusal::ZeroDivisor(line),
+        Fault::OutOfRange | Fault::NoExpression => Refusal::OutOfRange(line),
     }
-    Refusal::OutOfRange(line)
 }
 
 // A refused cycle: the state as it came.
 pub fn refused(s: State, r: Refusal) -> Advanced
-    ensures { result ≡ record { state = s; answer = NotPerformed r } }
+    ensures { result ≡ record { state = s; answer = Err r } }
 {
     Advanced {
         state: s,
-        answer: Cycled::NotPerformed(r),
+        answer: Err(r),
     }
 }
 
-// Whether a cycle was performed.
-pub fn is_performed(c: Cycled) -> bool
-    ensures { result ≡ is_performed c }
-{
-    match c {
-        Cycled::Performed(_) => true,
-        Cycled::NotPerformed(_) => false,
+impl Refusal {
+    // The refusal's number in the table.
+    pub fn number(self) -> u32
+        ensures { result ≡ number_of self }
+    {
+        match self {
+            Refusal::TextTooLong => 1,
+            Refusal::NoToken(_) => 2,
+            Refusal::NoSentence(_) => 3,
+            Refusal::LimitPassed(_) => 4,
+            Refusal::WrongName(_) => 5,
+            Refusal::WrongType(_) => 6,
+            Refusal::NoValue(_) => 7,
+            Refusal::WrongClock(_) => 8,
+            Refusal::WrongClass(_) => 9,
+            Refusal::BufferTooShort(_) => 10,
+            Refusal::BadSections => 11,
+            Refusal::BadSignature => 12,
+            Refusal::BadLine(_) => 13,
+            Refusal::BadRow(_) => 14,
+            Refusal::BadState => 15,
+            Refusal::OutOfRange(_) => 16,
+            Refusal::BadLengths => 17,
+            Refusal::ZeroDivisor(_) => 18,
+        }
     }
-}
 
-// Whether a fresh state is there.
-pub fn is_fresh(s: Started) -> bool
-    ensures { result ≡ is_fresh s }
-{
-    match s {
-        Started::Fresh => true,
-        Started::NotStarted(_) => false,
-    }
-}
-
-// The refusal's number in the table.
-pub fn number(r: Refusal) -> u32
-    ensures { result ≡ number_of r }
-{
-    match r {
-        Refusal::TextTooLong => 1,
-        Refusal::NoToken(_) => 2,
-        Refusal::NoSentence(_) => 3,
-        Refusal::LimitPassed(_) => 4,
-        Refusal::WrongName(_) => 5,
-        Refusal::WrongType(_) => 6,
-        Refusal::NoValue(_) => 7,
-        Refusal::WrongClock(_) => 8,
-        Refusal::WrongClass(_) => 9,
-        Refusal::BufferTooShort(_) => 10,
-        Refusal::BadSections => 11,
-        Refusal::BadSignature => 12,
-        Refusal::BadLine(_) => 13,
-        Refusal::BadRow(_) => 14,
-        Refusal::BadState => 15,
-        Refusal::OutOfRange(_) => 16,
-        Refusal::BadLengths => 17,
-        Refusal::ZeroDivisor(_) => 18,
-    }
-}
-
-// The refusal's place.
-pub fn place(r: Refusal) -> usize
-    ensures { result ≡ place_of r }
-{
-    match r {
-        Refusal::TextTooLong => 0,
-        Refusal::NoToken(p) => p,
-        Refusal::NoSentence(p) => p,
-        Refusal::LimitPassed(p) => p,
-        Refusal::WrongName(p) => p,
-        Refusal::WrongType(p) => p,
-        Refusal::NoValue(p) => p,
-        Refusal::WrongClock(p) => p,
-        Refusal::WrongClass(p) => p,
-        Refusal::BufferTooShort(p) => p,
-        Refusal::BadSections => 0,
-        Refusal::BadSignature => 0,
-        Refusal::BadLine(p) => p,
-        Refusal::BadRow(p) => p,
-        Refusal::BadState => 0,
-        Refusal::OutOfRange(p) => p,
-        Refusal::BadLengths => 0,
-        Refusal::ZeroDivisor(p) => p,
+    // The refusal's place.
+    pub fn place(self) -> usize
+        ensures { result ≡ place_of self }
+    {
+        match self {
+            Refusal::NoToken(p)
+            | Refusal::NoSentence(p)
+            | Refusal::LimitPassed(p)
+            | Refusal::WrongName(p)
+            | Refusal::WrongType(p)
+            | Refusal::NoValue(p)
+            | Refusal::WrongClock(p)
+            | Refusal::WrongClass(p)
+            | Refusal::BufferTooShort(p)
+            | Refusal::BadLine(p)
+            | Refusal::BadRow(p)
+            | Refusal::OutOfRange(p)
+            | Refusal::ZeroDivisor(p) => p,
+            Refusal::TextTooLong
+            | Refusal::BadSections
+            | Refusal::BadSignature
+            | Refusal::BadState
+            | Refusal::BadLengths => 0,
+        }
     }
 }

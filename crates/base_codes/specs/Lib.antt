@@ -4,6 +4,7 @@ pub mod Operation
 pub mod Types
 pub mod Statement
 pub mod Declaration
+pub mod Fault
 pub mod Image
 pub mod Limit
 pub mod Refusal

@@ -106,48 +106,33 @@ pub const NOWHERE: usize = limit::TEXT;
 pub fn is_operand(kind: u8) -> bool
     ensures { result ≡ one_of kind operands }
 {
-    match kind {
-        NAME | NUMBER | ZERO | ONE => true,
-        _ => false,
-    }
+    matches!(kind, NAME | NUMBER | ZERO | ONE)
 }
 
 // Whether a token is + or -.
 pub fn is_adding(kind: u8) -> bool
     ensures { result ≡ one_of kind adding }
 {
-    match kind {
-        PLUS | MINUS => true,
-        _ => false,
-    }
+    matches!(kind, PLUS | MINUS)
 }
 
 // Whether a token is *, /, mod or rem.
 pub fn is_multiplying(kind: u8) -> bool
     ensures { result ≡ one_of kind multiplying }
 {
-    match kind {
-        TIMES | DIVIDE | MOD | REM => true,
-        _ => false,
-    }
+    matches!(kind, TIMES | DIVIDE | MOD | REM)
 }
 
 // Whether a token compares: = /= < <= > >=.
 pub fn is_relational(kind: u8) -> bool
     ensures { result ≡ one_of kind relational }
 {
-    match kind {
-        EQ | NE | LT | LE | GT | GE => true,
-        _ => false,
-    }
+    matches!(kind, EQ | NE | LT | LE | GT | GE)
 }
 
 // Whether a token is and, or or xor.
 pub fn is_logical(kind: u8) -> bool
     ensures { result ≡ one_of kind logical }
 {
-    match kind {
-        AND | OR | XOR => true,
-        _ => false,
-    }
+    matches!(kind, AND | OR | XOR)
 }

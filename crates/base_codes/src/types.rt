@@ -17,10 +17,7 @@ pub const NONE: u8 = 255;
 pub fn is_type_byte(byte: u8) -> bool
     ensures { result ≡ is_type_byte byte }
 {
-    match byte {
-        STD_LOGIC | INTEGER => true,
-        _ => false,
-    }
+    matches!(byte, STD_LOGIC | INTEGER)
 }
 
 // The type in a row of declared names; no type for a number that is none's.

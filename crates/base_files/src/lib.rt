@@ -4,6 +4,8 @@
 ghost use Rattle.std.specs.Prelude.{◌≡◌, ◌<◌, ◌≤◌, length, take, IfOk, IfSome};
 ghost use Rattle.std.specs.Io.KnownBytes.{Consumes, IsAtEnd};
 
+pub mod shown;
+
 use std::env::{Env, FillError};
 use std::io::Read;
 use std::rt::Files;
@@ -81,4 +83,18 @@ pub fn read_or_tell(
             Ok(None)
         }
     }
+}
+
+/// The bytes of the file that an argument names, at most as many as there is room for, as `read_or_tell` reads them.
+pub fn read_argument(
+    rt: &(impl Env + Files + Eprint),
+    i: usize,
+    buffer: &mut [u8],
+) -> io::Result<Option<usize>>
+    ensures bound { IfOk result (λ found. IfSome found (λ n. n ≤ length buffer.new)) }
+    ensures room { length buffer.new ≡ length buffer.old }
+{
+    let mut path = [0u8; 4096];
+    let n = argument(rt, i, &mut path);
+    read_or_tell(rt, &path[..n], buffer)
 }

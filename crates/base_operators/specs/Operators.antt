@@ -1,6 +1,8 @@
 -- Operators by number, on operands of a type by number (document 01, "Types", "Image, form 1"): what they give, by design's types and semantics' values.
 -- Assumes nothing.
-use Rattle.std.specs.Prelude.{◌≡◌, List, ℕ, set, ℤ}
+use Rattle.std.specs.Prelude.{◌≡◌, List, ℕ, set, ℤ, Result, Err, IsOk}
+use Rattle.base_codes.specs.declared.fault.Fault.{Fault}
+use Rattle.base_codes.specs.Fault.{number_of}
 use Rattle.std.proofs.Math.Option.{Option, none, some}
 use Rattle.spec_design.specs.Types.{ExprTy}
 use Rattle.spec_design.specs.Expression.{Unary, Binary, type_of_unary, type_of_binary, Out, fine, fault}
@@ -32,8 +34,8 @@ unary_on op t x = unary_by (unary_for op) (type_of_tag t) x
 unfoldable pub binary_on : ℕ → ℕ → ℤ → ℤ → Out ℤ
 binary_on op t x y = binary_by (binary_for op) (type_of_tag t) x y
 
--- an operator that gives o has been applied at i of the stack a, which leaves b, and answered r: 0, and its value stands at i; or the number by which it is
--- refused, and the stack is as it was
-pub record Applied (o : Out ℤ) (a : List ℤ) (i : ℕ) (b : List ℤ) (r : ℕ) : Type 0 where
-  pub value : r ≡ 0 → (v : ℤ) × (o ≡ fine v) × (b ≡ set a i v)
-  pub refused : (r ≡ 0 → ⊥) → (o ≡ fault r) × (b ≡ a)
+-- an operator that gives o has been applied at i of the stack a, which leaves b, with the answer r: its value stands at i; or it is refused, and the stack is
+-- as it was
+pub record Applied (o : Out ℤ) (a : List ℤ) (i : ℕ) (b : List ℤ) (r : Result Unit Fault) : Type 0 where
+  pub value : IsOk r → (v : ℤ) × (o ≡ fine v) × (b ≡ set a i v)
+  pub refused : (q : Fault) → r ≡ Err q → (o ≡ fault (number_of q)) × (b ≡ a)

@@ -49,6 +49,14 @@ pub integer_high : (z : ℤ) → lt_z (pos 2147483647) z ≡ true → as_integer
 unfolding as_integer
 integer_high z e = rw (range_high z e)
 
+pub integer_outside : (z : ℤ) → (SFits w32 z → ⊥) → as_integer z ≡ fault 16
+integer_outside z h = go (lt_z z (negsuc 2147483647)) refl (lt_z (pos 2147483647) z) refl
+  where
+    go : (a : Bool) → lt_z z (negsuc 2147483647) ≡ a → (b : Bool) → lt_z (pos 2147483647) z ≡ b → as_integer z ≡ fault 16
+    go true p b q = integer_low z p
+    go false p true q = integer_high z q
+    go false p false q = absurd (h (fits_range z p q))
+
 mag_cond : (t : Bool) (a b n : ℕ) → a ≤ n → b ≤ n → mag (cond t (negsuc a) (pos b)) ≤ n
 mag_cond true a b n p q = p
 mag_cond false a b n p q = q
@@ -92,6 +100,13 @@ eq_z_other (negsuc a) (negsuc b) f = ne_eqb a b (λ e. f (ap negsuc e))
 
 pub bits_same : {x y : ℤ} → SFits w32 x → SFits w32 y → of_z w32 x ≡ of_z w32 y → x ≡ y
 bits_same p q e = sym (to_z-of_z p) ∙ ap (to_z w32) e ∙ to_z-of_z q
+
+-- the bits of 0 are those of no other integer
+pub zero_bits : {z : ℤ} → SFits w32 z → of_z w32 z ≡ 0 → z ≡ pos 0
+zero_bits f e = let o : SFits w32 (pos 0) = record { sfits = omega arith } in bits_same f o e
+
+pub other_bits : (z : ℤ) → (of_z w32 z ≡ 0 → ⊥) → eq_z z (pos 0) ≡ false
+other_bits z h = eq_z_other z (pos 0) (λ e. h (ap (of_z w32) e))
 
 pub equal_bits : {x y : ℤ} → SFits w32 x → SFits w32 y → eqb (of_z w32 x) (of_z w32 y) ≡ eq_z x y
 equal_bits {x} {y} p q = go (eqb (of_z w32 x) (of_z w32 y)) refl

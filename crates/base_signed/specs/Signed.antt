@@ -1,16 +1,8 @@
--- What the operators on 32-bit integers answer, and the values of a type byte (document 01, "Types", "Image, form 1").
+-- The values of a type byte (document 01, "Types", "Image, form 1").
 -- Assumes nothing.
 use Rattle.std.specs.Prelude.{Bool, false, ℕ, ℤ}
 use Rattle.std.proofs.Math.Option.{Option, none, some}
 use Rattle.spec_design.specs.Types.{Ty, in_type, type_of_byte}
-use Rattle.spec_design.specs.Expression.{Out, fine, fault}
-use Rattle.base_signed.specs.declared.Checked.{Checked}
-use Rattle.base_signed.specs.declared.Checked.TheVariants.{Value, Refused}
-
--- the answer for an outcome: its value, or its refusal's number
-abbrev pub checked_of : Out ℤ → Checked
-checked_of (fine z) = Value z
-checked_of (fault q) = Refused q
 
 -- z is a value of the type; where there is no type there is no value
 abbrev pub in_some : Option Ty → ℤ → Bool

@@ -12,9 +12,9 @@ use borrow.Author.Tests.{lt-ltb, le-ltb, eq-eqb, ne_eqb, leb-true}
 use lib.ListN.{length, get_or, take, drop, length-map, length-take}
 use lib.IntN.{ℤ, pos}
 use lib.Dec.{eqb, ltb, leb}
+use Rattle.std.specs.Prelude.{Err, Ok, Result as Judged}
 use Rattle.base_answers.specs.declared.State.{State}
 use Rattle.base_answers.specs.declared.Counts.{Counts}
-use Rattle.base_answers.specs.declared.Cycled.TheVariants.{Performed, NotPerformed}
 use Rattle.base_answers.specs.declared.Refusal.TheVariants.{BadRow, BadState}
 use Rattle.spec_design.specs.Types.{Ty, ExprTy, boolean, type_byte}
 use Rattle.spec_design.specs.Expression.{Expr, items, nth, plainly, type_of}
@@ -44,8 +44,8 @@ use Rattle.direct_cycle.specs.Calls.{Design, Names, call_of, fed_of, place_by, l
 use Rattle.spec_semantics.specs.Advances.{Advances}
 use Rattle.direct_statements.specs.declared.Progress.{Progress}
 use Rattle.direct_statements.specs.declared.Progress.TheVariants.{Passed, Reached, Refused}
-use Rattle.direct_cycle.specs.declared.RowCheck.{RowCheck}
-use Rattle.direct_cycle.specs.declared.RowCheck.TheVariants.{Right, WrongAt}
+use Rattle.base_codes.specs.declared.fault.Fault.{Fault}
+use Rattle.base_codes.specs.Fault.{number_of}
 use Rattle.base_answers.specs.declared.Advanced.{Advanced}
 use Rattle.base_answers.specs.Answers.{done, refusal, cycle_told, operator_refusal}
 use Rattle.base_answers.proofs.Refusals.{operator_told}
@@ -285,7 +285,7 @@ module _ (p : Process) (s : State) (f : fits_text p s ≡ true) where
 
     pub reached_advances : (x : ℕ) (k : Counts) (o' v' : List ℤ) → Stands Cycle (Reached x k.lines) o' v' → length o' ≡ length p.outputs
         → length v' ≡ length p.variables
-        → (a : Advanced) (row : List ℤ) → a ≡ record { state = Made x o' v'; answer = Performed k }
+        → (a : Advanced) (row : List ℤ) → a ≡ record { state = Made x o' v'; answer = Ok k }
         → row ≡ take (length o) (o' ++ drop (length p.outputs) s.outputs)
         → Advances (cycled p (kept_of p s) (call_of i o)) a row
     unfolding kept_of concluded
@@ -299,7 +299,7 @@ module _ (p : Process) (s : State) (f : fits_text p s ≡ true) where
 
     pub passed_advances : (k : Counts) (o' v' : List ℤ) → Stands Cycle (Passed k.lines) o' v' → length o' ≡ length p.outputs
         → length v' ≡ length p.variables
-        → (a : Advanced) (row : List ℤ) → a ≡ record { state = Made 512 o' v'; answer = Performed k }
+        → (a : Advanced) (row : List ℤ) → a ≡ record { state = Made 512 o' v'; answer = Ok k }
         → row ≡ take (length o) (o' ++ drop (length p.outputs) s.outputs)
         → Advances (cycled p (kept_of p s) (call_of i o)) a row
     unfolding kept_of concluded
@@ -311,16 +311,16 @@ module _ (p : Process) (s : State) (f : fits_text p s ≡ true) where
           row = q ∙ made_row o' a;
         })
 
-    pub refused_advances : (m x : ℕ) (o' v' : List ℤ) → Stands Cycle (Refused m x) o' v'
-        → (a : Advanced) → a ≡ record { state = s; answer = NotPerformed (operator_refusal m x) }
+    pub refused_advances : (m : Fault) (x : ℕ) (o' v' : List ℤ) → Stands Cycle (Refused m x) o' v'
+        → (a : Advanced) → a ≡ record { state = s; answer = Err (operator_refusal (number_of m) x) }
         → Advances (cycled p (kept_of p s) (call_of i o)) a o
     unfolding kept_of concluded
     refused_advances m x o' v' t A e =
-        let u = cycle_number i m x p.body (place_for s.place)
+        let u = cycle_number i (number_of m) x p.body (place_for s.place)
         (run [] (take (length p.outputs) s.outputs) (take (length p.variables) s.variables)) t.is in
         rw t.is
         (record {
-          answer = ap (λ (y : Advanced). cycle_told y.answer) e ∙ operator_told m x u;
+          answer = ap (λ (y : Advanced). cycle_told y.answer) e ∙ operator_told (number_of m) x u;
           state = ap (λ (y : Advanced). y.state) e ∙ sym (kept_laid p s f);
           row = refl;
         })
@@ -380,12 +380,12 @@ module _ (p : Process) (s : State) (f : fits_text p s ≡ true) (w : WellFormed 
   run_concluded (Passed k) a row t q x y =
       let u = q (omega arith) few in
       passed_advances p s f w i o room (record { lines = k }) o' v' (rw ran at t) (outputs_count x) (variables_count y) a row
-      (u.0 ∙ ap (λ (z : State). record { state = z; answer = Performed (record { lines = k }) }) (back 512)) (shown u.1)
+      (u.0 ∙ ap (λ (z : State). record { state = z; answer = Ok (record { lines = k }) }) (back 512)) (shown u.1)
   run_concluded (Reached z k) a row t q x y =
       let t' = rw ran at t in
       let u = q (reached_small p s f w i o room z k o' v' t') few in
       reached_advances p s f w i o room z (record { lines = k }) o' v' t' (outputs_count x) (variables_count y) a row
-      (u.0 ∙ ap (λ (y : State). record { state = y; answer = Performed (record { lines = k }) }) (back z)) (shown u.1)
+      (u.0 ∙ ap (λ (y : State). record { state = y; answer = Ok (record { lines = k }) }) (back z)) (shown u.1)
   run_concluded (Refused k z) a row t q x y =
       let u = q (omega arith) few in
       subst (λ (r : List ℤ). Advances (cycled p (kept_of p s) (call_of i o)) a r) (sym u.1)
@@ -399,33 +399,33 @@ module _ (p : Process) (s : State) (i o : List ℤ) where
   unfolding direct_row
   call_cycled a row z f k = rw (z, f) k
 
-  pub call_state : row_refusal p (fed_of i (length o)) ≡ none → fits_text p s ≡ false → (a : Advanced) → a ≡ record { state = s; answer = NotPerformed BadState }
+  pub call_state : row_refusal p (fed_of i (length o)) ≡ none → fits_text p s ≡ false → (a : Advanced) → a ≡ record { state = s; answer = Err BadState }
       → Advances (direct_row p s (call_of i o)) a o
   unfolding direct_row
   call_state z f a e = rw (z, f) (record { answer = ap (λ (y : Advanced). cycle_told y.answer) e; state = ap (λ (y : Advanced). y.state) e; row = refl })
 
-  pub call_row : (k : ℕ) (q : RowCheck) → q ≡ check_of (row_refusal p (fed_of i (length o))) → q ≡ WrongAt k → (a : Advanced)
-      → a ≡ record { state = s; answer = NotPerformed (BadRow k) }
+  pub call_row : (k : ℕ) (q : Judged Unit ℕ) → q ≡ check_of (row_refusal p (fed_of i (length o))) → q ≡ Err k → (a : Advanced)
+      → a ≡ record { state = s; answer = Err (BadRow k) }
       → Advances (direct_row p s (call_of i o)) a o
   unfolding direct_row
   call_row k q e f a ea = on (row_refusal p (fed_of i (length o))) refl
     where
       on : (b : Option ℕ) → row_refusal p (fed_of i (length o)) ≡ b → Advances (direct_row p s (call_of i o)) a o
       on none z =
-          let g : WrongAt k ≡ Right = sym f ∙ (e ∙ ap (λ (x : Option ℕ). check_of x) z) in
+          let g : ◌≡◌ {A = Judged Unit ℕ} (Err k) (Ok tt) = sym f ∙ (e ∙ ap (λ (x : Option ℕ). check_of x) z) in
           absurd (let d : ◌≡◌ {A = ℕ} 0 1 = cc in omega arith)
       on (some j) z =
-          let g : WrongAt k ≡ WrongAt j = sym f ∙ (e ∙ ap (λ (x : Option ℕ). check_of x) z) in
+          let g : ◌≡◌ {A = Judged Unit ℕ} (Err k) (Err j) = sym f ∙ (e ∙ ap (λ (x : Option ℕ). check_of x) z) in
           let y : k ≡ j = cc in
           rw z (record { answer = ap (λ (u : Advanced). cycle_told u.answer) ea ∙ ap (refusal 14) y; state = ap (λ (u : Advanced). u.state) ea; row = refl })
 
-  pub row_right : (q : RowCheck) → q ≡ check_of (row_refusal p (fed_of i (length o))) → q ≡ Right → row_refusal p (fed_of i (length o)) ≡ none
+  pub row_right : (q : Judged Unit ℕ) → q ≡ check_of (row_refusal p (fed_of i (length o))) → q ≡ Ok tt → row_refusal p (fed_of i (length o)) ≡ none
   row_right q e f = on (row_refusal p (fed_of i (length o))) refl
     where
       on : (b : Option ℕ) → row_refusal p (fed_of i (length o)) ≡ b → row_refusal p (fed_of i (length o)) ≡ none
       on none z = z
       on (some j) z =
-          let g : Right ≡ WrongAt j = sym f ∙ (e ∙ ap (λ (x : Option ℕ). check_of x) z) in
+          let g : ◌≡◌ {A = Judged Unit ℕ} (Ok tt) (Err j) = sym f ∙ (e ∙ ap (λ (x : Option ℕ). check_of x) z) in
           absurd (let d : ◌≡◌ {A = ℕ} 0 1 = cc in omega arith)
 
 -- THE TESTS

@@ -1,5 +1,5 @@
 -- The steps of the loops over rows and slots, and what their tests say of a process. Assumes nothing.
-use Prim.Native.Nat.{ℕ, suc, ◌+◌, ◌*◌, ◌≤◌, ◌<◌}
+use Prim.Native.Nat.{ℕ, suc, ◌+◌, ◌≤◌, ◌<◌}
 use native.Mathlib.Numerals.{add-one}
 use native.Mathlib.Omega.{arith}
 use native.Mathlib.Decide.{dec_lt}
@@ -10,14 +10,14 @@ use mathlib.Core.List.{List, [], ◌∷◌, map}
 use lib.ListN.{length, get_or, drop, drop_of_length-le}
 use lib.Seq.{drop-cons}
 use lib.IntN.{ℤ, pos}
-use lib.Dec.{ltb, leb, eqb}
+use lib.Dec.{ltb, leb}
 use borrow.Author.Tests.{lt-ltb, le-ltb, le-leb, lt-leb, eq-eqb, ne_eqb}
 use Rattle.spec_design.specs.Types.{Ty, std_logic, integer, eq_z, in_type, type_byte}
 use Rattle.spec_semantics.specs.Records.{zeros, slots_ok}
 use Rattle.spec_semantics.specs.Rows.{wrong_value}
 use Rattle.base_signed.specs.Signed.{in_type_byte}
-use Rattle.direct_cycle.specs.Checks.{check_of, wrong_in, row_is, slots_in, place_in}
-use Rattle.direct_cycle.specs.declared.RowCheck.TheVariants.{WrongAt}
+use Rattle.direct_cycle.specs.Checks.{check_of, wrong_in, row_is, slots_in}
+use Rattle.std.specs.Prelude.{Err}
 
 -- INPUT VALUES
 module _ (s : List ℕ) (l : List ℤ) (k : ℕ) where
@@ -39,11 +39,11 @@ module _ (s : List ℕ) (l : List ℤ) (k : ℕ) where
 
 -- the row, by the tests of its length and of the other's
 module _ (types : List ℕ) (i : List ℤ) (n room : ℕ) where
-  pub inputs_wrong : (length i ≡ length types → ⊥) → WrongAt 0 ≡ check_of (row_is types i n room)
+  pub inputs_wrong : (length i ≡ length types → ⊥) → Err 0 ≡ check_of (row_is types i n room)
   unfolding row_is
   inputs_wrong h = rw (ne_eqb (length i) (length types) h)
 
-  pub room_wrong : length i ≡ length types → (room ≡ n → ⊥) → WrongAt 0 ≡ check_of (row_is types i n room)
+  pub room_wrong : length i ≡ length types → (room ≡ n → ⊥) → Err 0 ≡ check_of (row_is types i n room)
   unfolding row_is
   room_wrong e h = rw (eq-eqb (length i) (length types) e, ne_eqb room n h)
 
@@ -85,20 +85,6 @@ module _ (s : List ℕ) (l : List ℤ) (k : ℕ) where
       go (no u) =
           let a : drop k s ≡ [] = drop_of_length-le s {i = k} (omega arith) in
           rw a (le-leb (length s) (length l) (omega arith))
-
--- PLACES
-module _ (rows : List ℕ) (size p : ℕ) where
-  pub place_beginning : p ≡ 512 → true ≡ place_in rows size p
-  unfolding place_in
-  place_beginning e = rw (eq-eqb p 512 e)
-
-  pub place_row : (k : ℕ) → (p ≡ 512 → ⊥) → p < size → k ≡ get_or rows (6 * p) 0 → eqb k 0 ≡ place_in rows size p
-  unfolding place_in
-  place_row k f h e = rw (ne_eqb p 512 f, lt-ltb p size h, e)
-
-  pub place_none : (p ≡ 512 → ⊥) → size ≤ p → false ≡ place_in rows size p
-  unfolding place_in
-  place_none f h = rw (ne_eqb p 512 f, le-ltb p size h)
 
 -- BY TYPES
 of_code : (t : Ty) (z : ℤ) → in_type_byte (type_byte t) z ≡ in_type t z

@@ -1,8 +1,8 @@
 -- What one call of the direct run is given: the arrays that hold a design, and the rows; and what its cycle leaves. Assumes nothing.
-use Rattle.std.specs.Prelude.{◌≡◌, List, map, ℕ, length, take, ℤ}
+use Rattle.std.specs.Prelude.{◌≡◌, List, map, ℕ, length, take, ℤ, Err, Ok}
 use Rattle.base_answers.specs.declared.State.{State}
 use Rattle.base_answers.specs.declared.Advanced.{Advanced}
-use Rattle.base_answers.specs.declared.Cycled.TheVariants.{Performed, NotPerformed}
+use Rattle.base_codes.specs.Fault.{number_of}
 use Rattle.base_answers.specs.Answers.{operator_refusal}
 use Rattle.spec_design.specs.Process.{Process, source_types, slot_types, WellFormed}
 use Rattle.spec_semantics.specs.Rows as R
@@ -41,9 +41,9 @@ place_by (Refused q x) = 0
 
 -- what it answers, and the state that it leaves, with the slots o and v; a refused one hands back the state s
 abbrev pub left_by : State → Progress → List ℤ → List ℤ → Advanced
-left_by s (Passed n) o v = record { state = record { place = 512; outputs = o; variables = v }; answer = Performed (record { lines = n }) }
-left_by s (Reached p n) o v = record { state = record { place = p; outputs = o; variables = v }; answer = Performed (record { lines = n }) }
-left_by s (Refused q x) o v = record { state = s; answer = NotPerformed (operator_refusal q x) }
+left_by s (Passed n) o v = record { state = record { place = 512; outputs = o; variables = v }; answer = Ok (record { lines = n }) }
+left_by s (Reached p n) o v = record { state = record { place = p; outputs = o; variables = v }; answer = Ok (record { lines = n }) }
+left_by s (Refused q x) o v = record { state = s; answer = Err (operator_refusal (number_of q) x) }
 
 -- the output row after it: as many of the output slots as it has places for; untouched where it is refused
 abbrev pub row_by : Progress → List ℤ → List ℤ → List ℤ

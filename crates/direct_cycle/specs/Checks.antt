@@ -1,5 +1,5 @@
 -- Refusals 14 and 15 by the numbers of types, 0 std_logic and 1 integer (document 01, "State", "Turned back"). Assumes nothing.
-use Rattle.std.specs.Prelude.{Bool, false, cond, ◌&&◌, ◌||◌, List, [], ◌∷◌, ℕ, suc, ◌*◌, ◌-◌, length, get_or, take, drop, ℤ, eqb, ltb}
+use Rattle.std.specs.Prelude.{Bool, false, cond, ◌&&◌, ◌||◌, List, [], ◌∷◌, ℕ, suc, ◌*◌, ◌-◌, length, get_or, take, drop, ℤ, eqb, ltb, Result, Ok, Err}
 use Rattle.std.proofs.Math.Option.{Option, none, some}
 use Rattle.base_codes.specs.Statement as S
 use Rattle.base_codes.specs.Limit as L
@@ -7,13 +7,11 @@ use Rattle.base_answers.specs.declared.State.{State}
 use Rattle.base_ir.specs.declared.Names.{Names}
 use Rattle.base_signed.specs.Signed.{in_type_byte}
 use Rattle.spec_semantics.specs.Records.{zeros}
-use Rattle.direct_cycle.specs.declared.RowCheck.{RowCheck}
-use Rattle.direct_cycle.specs.declared.RowCheck.TheVariants.{Right, WrongAt}
 
--- 14 at a place, or none
-abbrev pub check_of : Option ℕ → RowCheck
-check_of none = Right
-check_of (some k) = WrongAt k
+-- 14 at a place, or a row that is right
+abbrev pub check_of : Option ℕ → Result Unit ℕ
+check_of none = Ok tt
+check_of (some k) = Err k
 
 -- the lowest index of a value that is not of its type, the first having the index k
 unfoldable pub wrong_in : List ℕ → List ℤ → ℕ → Option ℕ

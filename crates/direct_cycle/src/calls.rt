@@ -1,8 +1,7 @@
 // One call of the direct run on a design in arrays: refusals 14 and 15, then a cycle.
-ghost use Rattle.std.specs.Prelude.{◌≡◌, true, ◌≤◌, ◌<◌, length, take};
+ghost use Rattle.std.specs.Prelude.{◌≡◌, true, ◌≤◌, ◌<◌, length, take, Ok};
 ghost use Rattle.std.proofs.Math.Option.{none};
 ghost use Rattle.spec_design.specs.Process.{Process, WellFormed};
-ghost use Rattle.base_answers.specs.declared.Cycled.TheVariants.{Performed};
 ghost use Rattle.spec_semantics.specs.Rows.{row_refusal, kept_at_first};
 ghost use Rattle.spec_semantics.specs.Records.{pad};
 ghost use Rattle.spec_semantics.specs.Comparison.{laid};
@@ -11,9 +10,8 @@ ghost use Rattle.direct_cycle.specs.Calls.{Design, call_of, fed_of, place_by, le
 ghost use Rattle.base_ir.specs.Arrays.{NamesIn, Holds, Bounded};
 ghost use Rattle.spec_semantics.specs.Advances.{Advances};
 
-use crate::RowCheck;
 use crate::checks::{row_check, state_right};
-use base_answers::{Advanced, Counts, Cycled, Refusal, State, operator_refusal, refused};
+use base_answers::{Advanced, Counts, Refusal, State, operator_refusal, refused};
 use base_codes::{limit, record};
 use base_ir::Declared;
 use direct_expressions::evaluation::number;
@@ -28,11 +26,8 @@ fn write_row(outputs: &[i32; limit::OUTPUTS], row: &mut [i32])
     requires { (length outputs.now ≡ 16) × (length row.old ≤ 16) }
     ensures { row.new ≡ take (length row.old) outputs.now }
 {
-    let mut k: usize = 0;
-    while k < row.len() {
-        row[k] = outputs[k];
-        k += 1;
-    }
+    let n = row.len();
+    row.copy_from_slice(&outputs[0..n]);
 }
 
 // A performed cycle: the place, what was counted, the slots, the output row. The two tests hold for no accepted text.
@@ -45,7 +40,7 @@ fn performed(
     row: &mut [i32],
 ) -> Advanced
     ensures { p < 65536 → length row.old ≤ 16
-        → (result ≡ record { state = record { place = p; outputs = outputs; variables = variables }; answer = Performed counts }) × (row.new ≡ take (length row.old) outputs) }
+        → (result ≡ record { state = record { place = p; outputs = outputs; variables = variables }; answer = Ok counts }) × (row.new ≡ take (length row.old) outputs) }
 {
     if limit::OUTPUTS < row.len() {
         return refused(s, Refusal::BadState);
@@ -61,7 +56,7 @@ fn performed(
     };
     Advanced {
         state: state,
-        answer: Cycled::Performed(counts),
+        answer: Ok(counts),
     }
 }
 
@@ -176,8 +171,8 @@ pub fn advance(
     let types = d.inputs.types;
     let check = row_check(&types[0..i], inputs, d.outputs.count, row.len());
     match check {
-        RowCheck::Right => judged(codes, args, rows, d, inputs, s, row),
-        RowCheck::WrongAt(k) => refused(s, Refusal::BadRow(k)),
+        Ok(()) => judged(codes, args, rows, d, inputs, s, row),
+        Err(k) => refused(s, Refusal::BadRow(k)),
     }
 }
 
@@ -185,10 +180,8 @@ pub fn advance(
 fn fill(values: &[i32], slots: &mut [i32])
     ensures { slots.new ≡ pad (length slots.old) values.now }
 {
-    let mut k: usize = 0;
-    while k < slots.len() {
+    for k in 0..slots.len() {
         slots[k] = number(values, k);
-        k += 1;
     }
 }
 

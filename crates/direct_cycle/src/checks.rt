@@ -5,39 +5,39 @@ ghost use Rattle.base_signed.specs.Signed.{in_type_byte};
 ghost use Rattle.direct_cycle.specs.Checks.{check_of, wrong_in, row_is, slots_in, place_in, in_use, state_is};
 ghost use Rattle.base_ir.specs.Arrays.{Bounded};
 
-use crate::RowCheck;
 use base_answers::State;
 use base_codes::{kind, limit, statement};
 use base_ir::Declared;
-use base_signed::{equal, in_type};
+use base_signed::in_type;
 use direct_statements::blocks::entry;
 
-// The lowest index of a value that is not of its type.
-fn first_wrong(types: &[u8], inputs: &[i32]) -> RowCheck
+// Every value is of its type; else the lowest index of one that is not.
+fn first_wrong(types: &[u8], inputs: &[i32]) -> Result<(), usize>
     requires { length inputs.now ≡ length types.now }
     ensures { result ≡ check_of (wrong_in types.now inputs.now 0) }
 {
-    let mut k: usize = 0;
-    while k < inputs.len() {
-        let right = in_type(types[k], inputs[k]);
-        if right {
-            k += 1;
-        } else {
-            return RowCheck::WrongAt(k);
+    for k in 0..inputs.len() {
+        if !in_type(types[k], inputs[k]) {
+            return Err(k);
         }
     }
-    RowCheck::Right
+    Ok(())
 }
 
-// Refusal 14: both lengths first, then the input values; `room` is the output row's length.
-pub(crate) fn row_check(types: &[u8], inputs: &[i32], outputs: usize, room: usize) -> RowCheck
+// Refusal 14, as the place: both lengths first, then the input values; `room` is the output row's length.
+pub(crate) fn row_check(
+    types: &[u8],
+    inputs: &[i32],
+    outputs: usize,
+    room: usize,
+) -> Result<(), usize>
     ensures { result ≡ check_of (row_is types.now inputs.now outputs room) }
 {
     if inputs.len() != types.len() {
-        return RowCheck::WrongAt(0);
+        return Err(0);
     }
     if room != outputs {
-        return RowCheck::WrongAt(0);
+        return Err(0);
     }
     first_wrong(types, inputs)
 }
@@ -49,7 +49,7 @@ fn slot_right(types: &[u8], k: usize, v: i32) -> bool
     if k < types.len() {
         in_type(types[k], v)
     } else {
-        equal(v, 0)
+        v == 0
     }
 }
 
@@ -57,12 +57,8 @@ fn slot_right(types: &[u8], k: usize, v: i32) -> bool
 fn slots_right(types: &[u8], slots: &[i32]) -> bool
     ensures { result ≡ slots_in types.now slots.now }
 {
-    let mut k: usize = 0;
-    while k < slots.len() {
-        let right = slot_right(types, k, slots[k]);
-        if right {
-            k += 1;
-        } else {
+    for k in 0..slots.len() {
+        if !slot_right(types, k, slots[k]) {
             return false;
         }
     }
@@ -70,17 +66,12 @@ fn slots_right(types: &[u8], slots: &[i32]) -> bool
 }
 
 // Whether a place is the beginning or a wait's number.
+#[tactic(auto, unfolding(crate::specs::Checks::place_in))]
 fn place_right(rows: &[u16], size: usize, place: usize) -> bool
     requires { place < 65536 }
     ensures { result ≡ place_in rows.now size place }
 {
-    if place == limit::BEGINNING {
-        return true;
-    }
-    if place < size {
-        return entry(rows, statement::ROW * place) == kind::WAIT;
-    }
-    false
+    place == limit::BEGINNING || place < size && entry(rows, statement::ROW * place) == kind::WAIT
 }
 
 // Refusal 15: place, outputs and variables of the state.

@@ -2,10 +2,3 @@
 // The direct run of a design in arrays: rows and states judged, then a cycle by the structure of its statements; no table and no image.
 pub mod calls;
 mod checks;
-
-// An input row is right, or refused by 14 at a place.
-#[derive(Clone, Copy)]
-enum RowCheck {
-    Right,
-    WrongAt(usize),
-}

@@ -21,8 +21,7 @@ use Rattle.base_ir.specs.Arrays.{ops_from}
 use Rattle.base_ir.proofs.Laid.{unary_op, binary_op, ops_laid}
 use Rattle.base_operators.specs.Operators.{unary_on, binary_on}
 use Rattle.base_operators.proofs.Laws.{unary_taken, binary_taken}
-use Rattle.direct_expressions.specs.Machine.{kind_of, pushed, step_of, run_ops, top_of, value_in, evaluated_of, Performable}
-use Rattle.direct_expressions.specs.declared.Evaluated.{Evaluated}
+use Rattle.direct_expressions.specs.Machine.{kind_of, pushed, step_of, run_ops, top_of, value_in, Performable}
 use Rattle.spec_semantics.proofs.Typed.{bind_cong, given_some, given2_some}
 
 -- NUMBERS
@@ -143,7 +142,7 @@ module _ (i v : List ℤ) where
       ∙ (ap (λ (r : Out (List ℤ)). bind r top_of) (run_expr e [] [] (omega (arith, n.short)) n) ∙ one (evaluate e i v)))
 
   -- an answer for what the operations leave is one for the expression's value
-  pub value_told : (codes : List ℕ) (args : List ℤ) (m n : ℕ) (r : Evaluated) → r ≡ evaluated_of (value_in codes args m n i v) → (e : Expr)
-      → ops_from codes args m (length (ops e)) ≡ ops e → n ≡ m + length (ops e) → Performable e → r ≡ evaluated_of (evaluate e i v)
+  pub value_told : (codes : List ℕ) (args : List ℤ) (m n : ℕ) (r : Out ℤ) → r ≡ value_in codes args m n i v → (e : Expr)
+      → ops_from codes args m (length (ops e)) ≡ ops e → n ≡ m + length (ops e) → Performable e → r ≡ evaluate e i v
   value_told codes args m n r q e h k l =
-      q ∙ ap (λ (x : Out ℤ). evaluated_of x) (ap (λ (y : ℕ). value_in codes args m y i v) k ∙ value_expr codes args m e h l)
+      q ∙ (ap (λ (y : ℕ). value_in codes args m y i v) k ∙ value_expr codes args m e h l)

@@ -1,6 +1,6 @@
 -- A stack in an array: one number more, one or two fewer, and what a turn of the evaluator's loop keeps. By induction on the depth. Assumes nothing.
 use Prim.Native.Nat.{ℕ, zero, suc, ◌+◌, ◌-◌, ◌≤◌, ◌<◌}
-use mathlib.Core.Path.{◌≡◌, refl, ap, ◌∙◌}
+use mathlib.Core.Path.{◌≡◌, refl, ◌∙◌}
 use mathlib.Core.List.{List}
 use native.Mathlib.Omega.{arith}
 use borrow.Author.Tests.{lt-ltb, le-ltb, ne_eqb}
@@ -14,22 +14,21 @@ use Rattle.spec_semantics.specs.Twos.{unsigned32}
 use Rattle.base_ir.specs.Operations.{op}
 use Rattle.base_ir.specs.Arrays.{ops_from}
 use Rattle.base_codes.specs.Operation.{operands_of}
+use Rattle.std.specs.Prelude.{Result, Ok, Err, IsOk}
+use Rattle.base_codes.specs.declared.fault.Fault.{Fault}
+use Rattle.base_codes.specs.Fault.{number_of}
 use Rattle.base_operators.specs.Operators.{unary_on, binary_on, Applied}
 use Rattle.base_codes.specs.Stack.{stack_of}
 use Rattle.base_codes.proofs.StackLaws.{stack_length, stack_push}
-use Rattle.direct_expressions.specs.Machine.{kind_of, pushed, pushed_within, unary_next, binary_next, step_of, run_ops, top_of, value_in, found, evaluated_of}
+use Rattle.direct_expressions.specs.Machine.{kind_of, pushed, pushed_within, unary_next, binary_next, step_of, run_ops, top_of, value_in}
 use Rattle.direct_expressions.specs.Stack.{Room, Says}
-use Rattle.direct_expressions.specs.declared.Evaluated.{Evaluated}
-use Rattle.direct_expressions.specs.declared.Evaluated.TheVariants.{Fault}
-use Rattle.direct_expressions.specs.declared.Transition.{Transition}
-use Rattle.direct_expressions.specs.declared.Transition.TheVariants.{Go, Stop}
 
 -- a transition that says one thing says what equals it
-pub saying : {a : List ℤ} {r : Transition} {m n : Out (List ℤ)} → n ≡ m → Says a r m → Says a r n
+pub saying : {a : List ℤ} {r : Result ℕ Fault} {m n : Out (List ℤ)} → n ≡ m → Says a r m → Says a r n
 saying e s = rw e s
 
 -- a number put at element i
-put : (a : List ℤ) (i : ℕ) (v : ℤ) → Room a (i + 1) → Says (set a i v) (Go (i + 1)) (pushed (fine v) (stack_of (pos 0) a i))
+put : (a : List ℤ) (i : ℕ) (v : ℤ) → Room a (i + 1) → Says (set a i v) (Ok (i + 1)) (pushed (fine v) (stack_of (pos 0) a i))
 put a i v m =
     record {
       room = record { numbers = length-set a i v ∙ m.numbers; depth = m.depth };
@@ -38,22 +37,22 @@ put a i v m =
 
 -- through a local
 pub kept : (a : List ℤ) (i : ℕ) (v : ℤ) → SFits w32 v → Room a (i + 1)
-    → Says (set a i (to_z w32 (of_z w32 v))) (Go (i + 1)) (pushed (fine v) (stack_of (pos 0) a i))
+    → Says (set a i (to_z w32 (of_z w32 v))) (Ok (i + 1)) (pushed (fine v) (stack_of (pos 0) a i))
 kept a i v f m = rw (to_z-of_z f) (put a i v m)
 
 -- a stop changes nothing
-pub stopped : (a : List ℤ) (n q : ℕ) {o : Out (List ℤ)} → Room a n → fault q ≡ o → Says a (Stop q) o
+pub stopped : (a : List ℤ) (n : ℕ) (q : Fault) {o : Out (List ℤ)} → Room a n → fault (number_of q) ≡ o → Says a (Err q) o
 stopped a n q m e = record { room = record { numbers = m.numbers; depth = omega arith }; says = e }
 
 -- an operator that gives o, applied at element i
-pub went : {b : List ℤ} {r : ℕ} {n : Out (List ℤ)} (o : Out ℤ) (a : List ℤ) (i : ℕ) → n ≡ pushed o (stack_of (pos 0) a i) → Applied o a i b r → r ≡ 0
+pub went : {b : List ℤ} {r : Result Unit Fault} {n : Out (List ℤ)} (o : Out ℤ) (a : List ℤ) (i : ℕ) → n ≡ pushed o (stack_of (pos 0) a i) → Applied o a i b r → IsOk r
     → Room a (i + 1)
-    → Says b (Go (i + 1)) n
+    → Says b (Ok (i + 1)) n
 went o a i h p e m = let v = p.value e in saying h (rw (v.1, v.2) (put a i v.0 m))
 
-pub halted : {b : List ℤ} {r : ℕ} {n : Out (List ℤ)} (o : Out ℤ) (a : List ℤ) (i : ℕ) → n ≡ pushed o (stack_of (pos 0) a i) → Applied o a i b r → (r ≡ 0 → ⊥)
-    → Room a (i + 1) → Says b (Stop r) n
-halted {r = r} o a i h p e m = let v = p.refused e in saying h (rw (v.0, v.1) (stopped a (i + 1) r m refl))
+pub halted : {b : List ℤ} {r : Result Unit Fault} {n : Out (List ℤ)} (f : Fault) (o : Out ℤ) (a : List ℤ) (i : ℕ) → n ≡ pushed o (stack_of (pos 0) a i) → Applied o a i b r → r ≡ Err f
+    → Room a (i + 1) → Says b (Err f) n
+halted f o a i h p e m = let v = p.refused f e in saying h (rw (v.0, v.1) (stopped a (i + 1) f m refl))
 
 pub push_full : (a : List ℤ) (n : ℕ) (z : ℤ) → 64 ≤ n → fault 13 ≡ pushed_within z (stack_of (pos 0) a n)
 push_full a n z h = rw (stack_length (pos 0) a n, le-ltb n 64 h)
@@ -90,12 +89,12 @@ binary_more a (suc (suc n)) k t h =
     rw (d, e)
 
 -- the number on top
-pub top_none : (a : List ℤ) (n : ℕ) → n < 1 → Fault 13 ≡ evaluated_of (top_of (stack_of (pos 0) a n))
+pub top_none : (a : List ℤ) (n : ℕ) → n < 1 → fault 13 ≡ top_of (stack_of (pos 0) a n)
 unfolding stack_of
 top_none a zero h = refl
 top_none a (suc n) h = absurd (omega arith)
 
-pub top_some : (a : List ℤ) (n : ℕ) → 1 ≤ n → found (get_or a (n - 1) (pos 0)) ≡ evaluated_of (top_of (stack_of (pos 0) a n))
+pub top_some : (a : List ℤ) (n : ℕ) → 1 ≤ n → fine (get_or a (n - 1) (pos 0)) ≡ top_of (stack_of (pos 0) a n)
 unfolding stack_of
 top_some a zero h = absurd (omega arith)
 top_some a (suc n) h = let e : suc n - 1 ≡ n = omega arith in rw e
@@ -141,24 +140,24 @@ module _ (codes : List ℕ) (args : List ℤ) (from to : ℕ) (i v : List ℤ) w
       let z : to - k ≡ suc (to - (k + 1)) = omega arith in
       rw e (rw z at p.same)
 
-  pub left_again : (n k : ℕ) (a a' : List ℤ) (r : Transition) (d : ℕ) → Left a n k → k < to
-      → Says a' r (step_of i v (op (get_or codes k 0) (get_or args k (pos 0))) (stack_of (pos 0) a n)) → r ≡ Go d → Left a' d (k + 1)
+  pub left_again : (n k : ℕ) (a a' : List ℤ) (r : Result ℕ Fault) (d : ℕ) → Left a n k → k < to
+      → Says a' r (step_of i v (op (get_or codes k 0) (get_or args k (pos 0))) (stack_of (pos 0) a n)) → r ≡ Ok d → Left a' d (k + 1)
   unfolding bind
   left_again n k a a' r d p h q e =
       let w = rw e at q in
       record { room = w.room; same = turn n k a (fine (stack_of (pos 0) a' d)) p h w.says }
 
-  pub left_stop : (n k : ℕ) (a a' : List ℤ) (r : Transition) (x : ℕ) → Left a n k → k < to
-      → Says a' r (step_of i v (op (get_or codes k 0) (get_or args k (pos 0))) (stack_of (pos 0) a n)) → r ≡ Stop x
-      → Fault x ≡ evaluated_of (value_in codes args from to i v)
+  pub left_stop : (n k : ℕ) (a a' : List ℤ) (r : Result ℕ Fault) (x : Fault) → Left a n k → k < to
+      → Says a' r (step_of i v (op (get_or codes k 0) (get_or args k (pos 0))) (stack_of (pos 0) a n)) → r ≡ Err x
+      → fault (number_of x) ≡ value_in codes args from to i v
   unfolding bind
   left_stop n k a a' r x p h q e =
       let w = rw e at q in
-      ap (λ (y : Out ℤ). evaluated_of y) (turn n k a (fault x) p h w.says)
+      turn n k a (fault (number_of x)) p h w.says
 
-  pub left_end : (n k : ℕ) (a : List ℤ) (r : Evaluated) → Left a n k → to ≤ k → r ≡ evaluated_of (top_of (stack_of (pos 0) a n))
-      → r ≡ evaluated_of (value_in codes args from to i v)
+  pub left_end : (n k : ℕ) (a : List ℤ) (r : Out ℤ) → Left a n k → to ≤ k → r ≡ top_of (stack_of (pos 0) a n)
+      → r ≡ value_in codes args from to i v
   unfolding bind run_ops ops_from
   left_end n k a r p h e =
       let z : to - k ≡ 0 = omega arith in
-      e ∙ ap (λ (y : Out ℤ). evaluated_of y) (rw z at p.same)
+      e ∙ (rw z at p.same)

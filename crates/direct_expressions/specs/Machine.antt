@@ -9,8 +9,6 @@ use Rattle.base_codes.specs.Types.{NONE}
 use Rattle.base_operators.specs.Operators.{unary_on, binary_on}
 use Rattle.base_ir.specs.Operations.{Op}
 use Rattle.base_ir.specs.Arrays.{ops_from}
-use Rattle.direct_expressions.specs.declared.Evaluated.{Evaluated}
-use Rattle.direct_expressions.specs.declared.Evaluated.TheVariants.{Value, Fault}
 
 -- the number of a type that an operator's operation has as its argument; 255, no type's, where it has none
 abbrev pub kind_of : ℤ → ℕ
@@ -57,15 +55,6 @@ top_of (x ∷ st) = fine x
 -- what the operations from .. to leave
 unfoldable pub value_in : List ℕ → List ℤ → ℕ → ℕ → List ℤ → List ℤ → Out ℤ
 value_in codes args from to i v = bind (run_ops (step_of i v) (ops_from codes args from (to - from)) []) top_of
-
--- a value
-abbrev pub found : ℤ → Evaluated
-found z = Value (record { value = z })
-
--- the answer for an outcome: the value, or the refusal's number
-abbrev pub evaluated_of : Out ℤ → Evaluated
-evaluated_of (fine z) = found z
-evaluated_of (fault q) = Fault q
 
 -- an expression that operations can perform: "64 literals, names and operators in an expression", and every operator takes the type that it stands with
 pub record Performable (e : Expr) : Type 0 where

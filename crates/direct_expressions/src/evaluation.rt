@@ -6,24 +6,25 @@ ghost use Rattle.spec_semantics.specs.Twos.{unsigned32};
 ghost use Rattle.base_ir.specs.Operations.{op as operation, ops};
 ghost use Rattle.base_ir.specs.Arrays.{ops_from};
 ghost use Rattle.base_codes.specs.Stack.{stack_of};
-ghost use Rattle.direct_expressions.specs.Machine.{kind_of, unary_next, binary_next, pushed_within, step_of, top_of, value_in, evaluated_of, Performable};
+ghost use Rattle.direct_expressions.specs.Machine.{kind_of, unary_next, binary_next, pushed_within, step_of, top_of, value_in, Performable};
+ghost use Rattle.base_codes.specs.Fault.{outcome};
 ghost use Rattle.direct_expressions.specs.Stack.{Room, Says};
 
-use crate::{Evaluated, Found, Transition};
-use base_codes::{limit, operation, refusal, types};
+use base_codes::fault::Fault;
+use base_codes::{limit, operation, types};
 
 // The k-th number of a row; 0 where it has none.
 pub fn number(row: &[i32], k: usize) -> i32
     ensures { result ≡ get_or row.now k (pos 0) }
 {
-    if k < row.len() { row[k] } else { 0 }
+    row.get(k).copied().unwrap_or(0)
 }
 
 // The k-th code; 0 where there is none.
 fn code_at(codes: &[u8], k: usize) -> u8
     ensures { result ≡ get_or codes.now k 0 }
 {
-    if k < codes.len() { codes[k] } else { 0 }
+    codes.get(k).copied().unwrap_or(0)
 }
 
 // The number of a row at the index that an operation has.
@@ -46,48 +47,47 @@ fn kind(arg: i32) -> u8
 }
 
 // Pushes an operand.
-fn push(stack: &mut [i32; limit::ITEMS], depth: usize, v: i32) -> Transition
+fn push(stack: &mut [i32; limit::ITEMS], depth: usize, v: i32) -> Result<usize, Fault>
     requires { Room stack.old depth }
     ensures { Says stack.new result (pushed_within v (stack_of (pos 0) stack.old depth)) }
 {
     if limit::ITEMS <= depth {
-        return Transition::Stop(refusal::BAD_LINE);
+        return Err(Fault::NoExpression);
     }
     stack[depth] = v;
-    Transition::Go(depth + 1)
+    Ok(depth + 1)
 }
 
 // Applies an operator of one operand of the type t.
-fn apply_unary(stack: &mut [i32; limit::ITEMS], depth: usize, op: u8, t: u8) -> Transition
+fn apply_unary(stack: &mut [i32; limit::ITEMS], depth: usize, op: u8, t: u8) -> Result<usize, Fault>
     requires { Room stack.old depth }
     ensures { Says stack.new result (unary_next op t (stack_of (pos 0) stack.old depth)) }
 {
     if depth < 1 {
-        return Transition::Stop(refusal::BAD_LINE);
+        return Err(Fault::NoExpression);
     }
     let i = depth - 1;
-    let q = base_operators::apply_unary(stack, i, op, t);
-    if q != 0 {
-        return Transition::Stop(q);
-    }
-    Transition::Go(i + 1)
+    base_operators::apply_unary(stack, i, op, t)?;
+    Ok(i + 1)
 }
 
 // Applies an operator of two operands of the type t; the left one lies below the right one.
-fn apply_binary(stack: &mut [i32; limit::ITEMS], depth: usize, op: u8, t: u8) -> Transition
+fn apply_binary(
+    stack: &mut [i32; limit::ITEMS],
+    depth: usize,
+    op: u8,
+    t: u8,
+) -> Result<usize, Fault>
     requires { Room stack.old depth }
     ensures { Says stack.new result (binary_next op t (stack_of (pos 0) stack.old depth)) }
 {
     if depth <= 1 {
-        return Transition::Stop(refusal::BAD_LINE);
+        return Err(Fault::NoExpression);
     }
     let right = depth - 1;
     let i = right - 1;
-    let q = base_operators::apply_binary(stack, i, op, t);
-    if q != 0 {
-        return Transition::Stop(q);
-    }
-    Transition::Go(i + 1)
+    base_operators::apply_binary(stack, i, op, t)?;
+    Ok(i + 1)
 }
 
 // Performs an operation: literals come first among the codes, then inputs and variables, then operators.
@@ -98,7 +98,7 @@ fn step(
     variables: &[i32],
     stack: &mut [i32; limit::ITEMS],
     depth: usize,
-) -> Transition
+) -> Result<usize, Fault>
     requires { Room stack.old depth }
     ensures { Says stack.new result (step_of inputs.now variables.now (operation op arg) (stack_of (pos 0) stack.old depth)) }
 {
@@ -118,16 +118,14 @@ fn step(
 }
 
 // The number on top of the stack.
-fn top(stack: &[i32; limit::ITEMS], depth: usize) -> Evaluated
+fn top(stack: &[i32; limit::ITEMS], depth: usize) -> Result<i32, Fault>
     requires { Room stack.now depth }
-    ensures { result ≡ evaluated_of (top_of (stack_of (pos 0) stack.now depth)) }
+    ensures { outcome result ≡ top_of (stack_of (pos 0) stack.now depth) }
 {
     if depth < 1 {
-        return Evaluated::Fault(refusal::BAD_LINE);
+        return Err(Fault::NoExpression);
     }
-    Evaluated::Value(Found {
-        value: stack[depth - 1],
-    })
+    Ok(stack[depth - 1])
 }
 
 // Runs the operations from .. to over a lent stack.
@@ -139,35 +137,25 @@ fn run(
     inputs: &[i32],
     variables: &[i32],
     stack: &mut [i32; limit::ITEMS],
-) -> Evaluated
+) -> Result<i32, Fault>
     requires { Room stack.old 0 }
-    ensures { result ≡ evaluated_of (value_in codes.now args.now from to inputs.now variables.now) }
+    ensures { outcome result ≡ value_in codes.now args.now from to inputs.now variables.now }
 {
     let mut depth: usize = 0;
-    let mut at = from;
-    while at < to {
-        let next = step(
+    for at in from..to {
+        depth = step(
             code_at(codes, at),
             number(args, at),
             inputs,
             variables,
             stack,
             depth,
-        );
-        match next {
-            Transition::Go(d) => {
-                depth = d;
-                at += 1;
-            }
-            Transition::Stop(q) => {
-                return Evaluated::Fault(q);
-            }
-        }
+        )?;
     }
     top(stack, depth)
 }
 
-// The value of the expression whose operations are from .. to, over the input row and the variables: a number, or the refusal's number.
+// The value of the expression whose operations are from .. to, over the input row and the variables.
 pub fn evaluate(
     codes: &[u8],
     args: &[i32],
@@ -175,10 +163,10 @@ pub fn evaluate(
     to: usize,
     inputs: &[i32],
     variables: &[i32],
-) -> Evaluated
-    ensures value { result ≡ evaluated_of (value_in codes.now args.now from to inputs.now variables.now) }
+) -> Result<i32, Fault>
+    ensures value { outcome result ≡ value_in codes.now args.now from to inputs.now variables.now }
     ensures of_expression { (e : Expr) → ops_from codes.now args.now from (length (ops e)) ≡ ops e → to ≡ from + length (ops e) → Performable e
-        → result ≡ evaluated_of (evaluate_of e inputs.now variables.now) }
+        → outcome result ≡ evaluate_of e inputs.now variables.now }
 {
     let mut stack = [0i32; limit::ITEMS];
     run(codes, args, from, to, inputs, variables, &mut stack)

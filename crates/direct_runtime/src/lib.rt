@@ -1,7 +1,7 @@
 #![tactic(auto)]
 // The direct run: a cycle from the text, without an image; whatever the text, the state and the rows are, it is performed or refused as document 01 says.
 ghost use Rattle.std.specs.Prelude.{◌≡◌, []};
-ghost use Rattle.base_answers.specs.Answers.{cycle_told, fresh_told};
+ghost use Rattle.base_answers.specs.Answers.{cycle_told, told};
 ghost use Rattle.spec_design.specs.Process.{Process, WellFormed};
 ghost use Rattle.base_ir.specs.Arrays.{Holds, Bounded};
 ghost use Rattle.spec_semantics.specs.Records.{state_for};
@@ -10,10 +10,9 @@ ghost use Rattle.spec_behaviour.specs.Direct.{direct_of, direct_fresh};
 ghost use Rattle.direct_cycle.specs.Calls.{call_of};
 ghost use Rattle.spec_semantics.specs.Advances.{Advances, start_of, cycle_answer, fresh_answer};
 
-use base_answers::{Advanced, Cycled, FreshState, Started, State};
+use base_answers::{Advanced, FreshState, State, refused};
 use base_codes::{limit, record, statement};
 use base_ir::Declared;
-use front_accept::Acceptance;
 
 // One call on the design of an accepted text.
 fn run_design(
@@ -41,14 +40,9 @@ pub fn run(text: &[u8], s: State, inputs: &[i32], row: &mut [i32]) -> Advanced
     let mut ops = [0u8; limit::TEXT];
     let mut args = [0i32; limit::TEXT];
     let mut lines = [0u16; statement::ROWS];
-    let front = front_accept::accept(text, &mut ops, &mut args, &mut lines);
-    let answer = front.answer;
-    match answer {
-        Acceptance::Accepted => run_design(&ops, &args, &lines, front.declared, s, inputs, row),
-        Acceptance::Refused(r) => Advanced {
-            state: s,
-            answer: Cycled::NotPerformed(r),
-        },
+    match front_accept::accept(text, &mut ops, &mut args, &mut lines) {
+        Ok(declared) => run_design(&ops, &args, &lines, declared, s, inputs, row),
+        Err(r) => refused(s, r),
     }
 }
 
@@ -65,27 +59,19 @@ fn blank() -> State
 
 // The fresh state of any text, or refusal 1 to 9.
 pub fn fresh(text: &[u8]) -> FreshState
-    ensures { (fresh_told result.answer ≡ fresh_answer (direct_fresh text.now)) × (result.state ≡ start_of (direct_fresh text.now)) }
+    ensures { (told result.answer ≡ fresh_answer (direct_fresh text.now)) × (result.state ≡ start_of (direct_fresh text.now)) }
 {
     let mut ops = [0u8; limit::TEXT];
     let mut args = [0i32; limit::TEXT];
     let mut lines = [0u16; statement::ROWS];
-    let front = front_accept::accept(text, &mut ops, &mut args, &mut lines);
-    let answer = front.answer;
-    match answer {
-        Acceptance::Accepted => {
-            let state = direct_cycle::calls::fresh(front.declared);
-            FreshState {
-                state: state,
-                answer: Started::Fresh,
-            }
-        }
-        Acceptance::Refused(r) => {
-            let state = blank();
-            FreshState {
-                state: state,
-                answer: Started::NotStarted(r),
-            }
-        }
+    match front_accept::accept(text, &mut ops, &mut args, &mut lines) {
+        Ok(declared) => FreshState {
+            state: direct_cycle::calls::fresh(declared),
+            answer: Ok(()),
+        },
+        Err(r) => FreshState {
+            state: blank(),
+            answer: Err(r),
+        },
     }
 }

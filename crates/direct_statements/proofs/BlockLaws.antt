@@ -13,6 +13,7 @@ use Rattle.base_ir.specs.Arrays.{Row}
 use Rattle.base_ir.proofs.Held.{at_output, at_variable, at_null, at_wait, at_if, at_while, at_else, at_first, at_rest}
 use Rattle.direct_statements.specs.Holding.{Ready, HeldIn, HeldRest, start_rest}
 use Rattle.direct_statements.specs.Standing.{run, Stands}
+use Rattle.base_codes.specs.declared.fault.Fault.{Fault}
 use Rattle.direct_statements.specs.declared.Progress.{Progress}
 use Rattle.direct_statements.specs.declared.Progress.TheVariants.{Passed, Reached, Refused}
 
@@ -156,7 +157,7 @@ module _ (codes : List ℕ) (args : List ℤ) (rows : List ℕ) where
             );
           }
 
-      pub going_refused : (m x : ℕ) → Going j n o v → j < e → next ≡ get_or rows (6 * j + 5) 0 → Answered → r ≡ Refused m x → Stands whole (Refused m x) o' v'
+      pub going_refused : (m : Fault) (x : ℕ) → Going j n o v → j < e → next ≡ get_or rows (6 * j + 5) 0 → Answered → r ≡ Refused m x → Stands whole (Refused m x) o' v'
       unfolding then
       going_refused m x g l q f h =
           let p : Front g.block j next e = rw q (front g.block j e g.held l) in

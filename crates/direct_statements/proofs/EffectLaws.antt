@@ -22,7 +22,7 @@ use Rattle.direct_statements.specs.Effects.{branch_of, effect_of, stored_of, val
 use Rattle.direct_statements.specs.Holding.{Ready, HeldIn, HeldRest, start_rest}
 use Rattle.direct_statements.specs.Standing.{run}
 use Rattle.direct_statements.specs.declared.Effect.{Effect}
-use Rattle.direct_statements.specs.declared.Effect.TheVariants.{Waits, Performed, Refuses}
+use Rattle.direct_statements.specs.declared.Effect.TheVariants.{Waits, Performed}
 use Rattle.direct_expressions.proofs.ExpressionLaws.{value_expr}
 
 module _ (codes : List ℕ) (args : List ℤ) (rows : List ℕ) (i : List ℤ) where
@@ -36,10 +36,10 @@ module _ (codes : List ℕ) (args : List ℤ) (rows : List ℕ) (i : List ℤ) w
     pub same : R ≡ start_rest block a i (run (w ++ (j ∷ [])) o v)
 
   -- the result R of statement j, as an effect tells it
-  abbrev pub EffectSays : ℕ → ℕ → List ℕ → Result → Effect → List ℤ → List ℤ → Type 0
-  EffectSays j next w R Waits o v = (R ≡ reached j (run (w ++ (j ∷ [])) o v))
-  EffectSays j next w R (Performed a b) o v = Inner j next w R a b o v
-  EffectSays j next w R (Refuses q) o v = (R ≡ refused q j)
+  abbrev pub EffectSays : ℕ → ℕ → List ℕ → Result → Out Effect → List ℤ → List ℤ → Type 0
+  EffectSays j next w R (fine Waits) o v = (R ≡ reached j (run (w ++ (j ∷ [])) o v))
+  EffectSays j next w R (fine (Performed a b)) o v = Inner j next w R a b o v
+  EffectSays j next w R (fault q) o v = (R ≡ refused q j)
 
   -- the effect by the row r says what R is
   abbrev By : ℕ → ℕ → List ℕ → Result → List ℤ → List ℤ → Row → Type 0
@@ -101,7 +101,7 @@ module _ (codes : List ℕ) (args : List ℤ) (rows : List ℕ) (i : List ℤ) w
         (go (value_in codes args h.m (h.m + 0) i v) (omega arith))
       where
         go : (r : Out ℤ) → j < next
-            → EffectSays j next w (passed (run (w ++ (j ∷ [])) o v)) (Performed (j + 1) (j + 1)) (stored_of 1 4 0 r o) (stored_of 2 4 0 r v)
+            → EffectSays j next w (passed (run (w ++ (j ∷ [])) o v)) (fine (Performed (j + 1) (j + 1))) (stored_of 1 4 0 r o) (stored_of 2 4 0 r v)
         go (fine z) l = alone (passed (run (w ++ (j ∷ [])) o v)) o v l refl
         go (fault q) l = alone (passed (run (w ++ (j ∷ [])) o v)) o v l refl
 
@@ -110,7 +110,7 @@ module _ (codes : List ℕ) (args : List ℤ) (rows : List ℕ) (i : List ℤ) w
     wait_says h = subst (λ (r : Row). By j next w (start wait j i (run w o v)) o v r) (sym (at_wait h.lies).line)
         (go (value_in codes args h.m (h.m + 0) i v))
       where
-        go : (r : Out ℤ) → EffectSays j next w (reached j (run (w ++ (j ∷ [])) o v)) Waits (stored_of 1 0 0 r o) (stored_of 2 0 0 r v)
+        go : (r : Out ℤ) → EffectSays j next w (reached j (run (w ++ (j ∷ [])) o v)) (fine Waits) (stored_of 1 0 0 r o) (stored_of 2 0 0 r v)
         go (fine z) = refl
         go (fault q) = refl
 
@@ -130,7 +130,7 @@ module _ (codes : List ℕ) (args : List ℤ) (rows : List ℕ) (i : List ℤ) w
     -- an if or a while, by its condition
     chosen : (f g : Run → Result) (a b : ℕ) (x : Bool)
         → Inner j next w (f (run (w ++ (j ∷ [])) o v)) (j + 1) a o v → Inner j next w (g (run (w ++ (j ∷ [])) o v)) a b o v
-        → EffectSays j next w (tested (fine x) j (run w o v) f g) (branch_of x j a b) o v
+        → EffectSays j next w (tested (fine x) j (run w o v) f g) (fine (branch_of x j a b)) o v
     unfolding tested log
     chosen f g a b true p q = p
     chosen f g a b false p q = q

@@ -25,6 +25,7 @@ use Rattle.direct_statements.specs.Resuming.{Waited, Within, ResumesAt}
 use Rattle.direct_statements.specs.Running.{Starts, GoesOn, Resumes}
 use Rattle.direct_statements.specs.declared.Inside.{Inside}
 use Rattle.direct_statements.specs.declared.Inside.TheVariants.{Nothing, Wait, Part}
+use Rattle.base_codes.specs.declared.fault.Fault.{Fault}
 use Rattle.direct_statements.specs.declared.Progress.{Progress}
 use Rattle.direct_statements.specs.declared.Progress.TheVariants.{Passed, Reached, Refused}
 use Rattle.direct_statements.proofs.BlockLaws.{then_none, size_some, row_end, first_held, rest_held}
@@ -351,6 +352,6 @@ module _ (codes : List ℕ) (args : List ℤ) (rows : List ℕ) (i : List ℤ) (
   unfolding then
   on_reached p n s h = let t = (rw h at s).is in rw t.1.1 (record { is = (t.0, (t.1.0, refl)) })
 
-  pub on_refused : (m x : ℕ) → Stands R r o v → r ≡ Refused m x → Stands Next (Refused m x) o v
+  pub on_refused : (m : Fault) (x : ℕ) → Stands R r o v → r ≡ Refused m x → Stands Next (Refused m x) o v
   unfolding then
   on_refused m x s h = let t = (rw h at s).is in rw t (record { is = refl })

@@ -7,7 +7,7 @@ use Rattle.spec_semantics.specs.Evaluation.{is_one}
 use Rattle.base_ir.specs.Arrays.{Row, row_in}
 use Rattle.direct_expressions.specs.Machine.{value_in}
 use Rattle.direct_statements.specs.declared.Effect.{Effect}
-use Rattle.direct_statements.specs.declared.Effect.TheVariants.{Waits, Performed, Refuses}
+use Rattle.direct_statements.specs.declared.Effect.TheVariants.{Waits, Performed}
 
 -- "An if takes the branch that its condition picks"; "A while .. tests its condition: false, it is passed; true, its body is started": the first
 -- part stands behind the statement j, the second at `other`, and a while's second part is empty
@@ -16,14 +16,14 @@ branch_of true j other end = Performed (j + 1) other
 branch_of false j other end = Performed other end
 
 -- what follows the value of a statement of kind k: 3 an if, 5 a while, else an assignment
-abbrev pub valued_of : ℕ → Out ℤ → ℕ → ℕ → ℕ → Effect
-valued_of k (fault q) j other end = Refuses q
-valued_of k (fine z) j other end = cond (eqb k S.IF) (branch_of (is_one z) j other end)
-    (cond (eqb k S.WHILE) (branch_of (is_one z) j other end) (Performed (j + 1) (j + 1)))
+abbrev pub valued_of : ℕ → Out ℤ → ℕ → ℕ → ℕ → Out Effect
+valued_of k (fault q) j other end = fault q
+valued_of k (fine z) j other end = cond (eqb k S.IF) (fine (branch_of (is_one z) j other end))
+    (cond (eqb k S.WHILE) (fine (branch_of (is_one z) j other end)) (fine (Performed (j + 1) (j + 1))))
 
 -- 0 is a wait and 4 is null
-abbrev pub effect_of : ℕ → Out ℤ → ℕ → ℕ → ℕ → Effect
-effect_of k e j other end = cond (eqb k S.WAIT) Waits (cond (eqb k S.NULL) (Performed (j + 1) (j + 1)) (valued_of k e j other end))
+abbrev pub effect_of : ℕ → Out ℤ → ℕ → ℕ → ℕ → Out Effect
+effect_of k e j other end = cond (eqb k S.WAIT) (fine Waits) (cond (eqb k S.NULL) (fine (Performed (j + 1) (j + 1))) (valued_of k e j other end))
 
 -- the value of the expression of a statement with the row r, over the input row i and the variables v
 abbrev pub value_of : List ℕ → List ℤ → List ℤ → List ℤ → Row → Out ℤ
@@ -35,7 +35,7 @@ stored_of w k n (fine z) s = cond (eqb k w) (set s n z) s
 stored_of w k n (fault q) s = s
 
 -- the statement j with the row r and the value e: its effect x, and the outputs o and variables v as they are left
-pub record Acts (r : Row) (j : ℕ) (e : Out ℤ) (o v : List ℤ) (x : Effect) (o' v' : List ℤ) : Type 0 where
+pub record Acts (r : Row) (j : ℕ) (e : Out ℤ) (o v : List ℤ) (x : Out Effect) (o' v' : List ℤ) : Type 0 where
   pub effect : x ≡ effect_of r.kind e j r.other r.end
   pub outputs : o' ≡ stored_of S.OUTPUT r.kind r.target e o
   pub variables : v' ≡ stored_of S.VARIABLE r.kind r.target e v

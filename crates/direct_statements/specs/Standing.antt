@@ -2,6 +2,7 @@
 -- Assumes nothing.
 use Rattle.std.specs.Prelude.{◌≡◌, List, ℕ, ◌+◌, ◌-◌, ◌≤◌, length, ℤ}
 use Rattle.base_codes.specs.Limit as L
+use Rattle.base_codes.specs.Fault.{number_of}
 use Rattle.spec_semantics.specs.Equations.{Run, Result, passed, reached, refused}
 use Rattle.direct_statements.specs.declared.Progress.{Progress}
 use Rattle.direct_statements.specs.declared.Progress.TheVariants.{Passed, Reached, Refused}
@@ -20,7 +21,7 @@ counted (Refused q x) = 0
 abbrev pub stands_for : Result → Progress → List ℤ → List ℤ → Type 0
 stands_for R (Passed n) o v = (w : List ℕ) × ((length w ≡ n) × (R ≡ passed (run w o v)))
 stands_for R (Reached p n) o v = (w : List ℕ) × ((length w ≡ n) × (R ≡ reached p (run w o v)))
-stands_for R (Refused q x) o v = (R ≡ refused q x)
+stands_for R (Refused q x) o v = (R ≡ refused (number_of q) x)
 
 -- an answer r with outputs o and variables v stands for the result R
 pub record Stands (R : Result) (r : Progress) (o v : List ℤ) : Type 0 where

@@ -1,6 +1,7 @@
 // Statements started and resumed, by the rows that hold them: blocks in blocks are a cycle of calls, the statements of a block a loop.
 ghost use Rattle.std.specs.Prelude.{◌≡◌, true, cond, ◌&&◌, ◌||◌, List, ℕ, ◌+◌, ◌-◌, ◌*◌, ◌≤◌, ◌<◌, get_or, set, ℤ, eqb, ltb, leb};
 ghost use Rattle.base_codes.specs.Statement as S;
+ghost use Rattle.base_codes.specs.Fault.{outcome};
 ghost use Rattle.spec_design.specs.Expression.{fine};
 ghost use Rattle.spec_design.specs.Statement.{Stmt, has};
 ghost use Rattle.spec_semantics.specs.Evaluation.{is_one};
@@ -13,9 +14,9 @@ ghost use Rattle.direct_statements.specs.Resuming.{inside_rows, ResumesAt};
 ghost use Rattle.direct_statements.specs.Running.{StartsOne, Starts, GoesOn, Resumes};
 
 use crate::{Effect, Inside, Progress};
+use base_codes::fault::Fault;
 use base_codes::{kind, statement as row};
 use direct_expressions::evaluation::evaluate;
-use direct_expressions::{Evaluated, Found};
 
 // The k-th number of the rows; 0 where there is none.
 pub fn entry(rows: &[u16], k: usize) -> usize
@@ -41,10 +42,7 @@ fn store(row: &mut [i32], w: usize, k: usize, n: usize, v: i32)
 fn has_parts(k: usize) -> bool
     ensures { result ≡ (eqb k S.IF || eqb k S.WHILE) }
 {
-    if k == kind::IF {
-        return true;
-    }
-    k == kind::WHILE
+    k == kind::IF || k == kind::WHILE
 }
 
 // The part of an if or a while that a condition's value picks.
@@ -65,14 +63,13 @@ fn assign(
     rows: &[u16],
     at: usize,
     k: usize,
-    f: Found,
+    v: i32,
     outputs: &mut [i32],
     variables: &mut [i32],
 ) -> Effect
     requires { Valued rows.now at k }
-    ensures { Acts (row_in rows.now at) at (fine f.value) outputs.old variables.old result outputs.new variables.new }
+    ensures { Acts (row_in rows.now at) at (fine v) outputs.old variables.old (fine result) outputs.new variables.new }
 {
-    let v = f.value;
     if has_parts(k) {
         return branch(
             at,
@@ -96,38 +93,29 @@ fn perform(
     inputs: &[i32],
     outputs: &mut [i32],
     variables: &mut [i32],
-) -> Effect
+) -> Result<Effect, Fault>
     requires { at < 512 }
     ensures { Acts (row_in rows.now at) at (value_of codes.now args.now inputs.now variables.old (row_in rows.now at))
-        outputs.old variables.old result outputs.new variables.new }
+        outputs.old variables.old (outcome result) outputs.new variables.new }
 {
     let k = entry(rows, row::ROW * at);
     if k == kind::WAIT {
-        return Effect::Waits;
+        return Ok(Effect::Waits);
     }
     if k == kind::NULL {
-        return Effect::Performed(at + 1, at + 1);
+        return Ok(Effect::Performed(at + 1, at + 1));
     }
     let from = entry(rows, row::ROW * at + row::FROM);
     let to = entry(rows, row::ROW * at + row::TO);
-    let e = evaluate(codes, args, from, to, inputs, variables);
-    match e {
-        Evaluated::Fault(q) => Effect::Refuses(q),
-        Evaluated::Value(f) => assign(rows, at, k, f, outputs, variables),
-    }
+    let v = evaluate(codes, args, from, to, inputs, variables)?;
+    Ok(assign(rows, at, k, v, outputs, variables))
 }
 
 // Whether a .. b lies inside at .. next.
 fn nested(at: usize, a: usize, b: usize, next: usize) -> bool
     ensures { result ≡ (ltb at a && (leb a b && leb b next)) }
 {
-    if a <= at {
-        return false;
-    }
-    if b < a {
-        return false;
-    }
-    b <= next
+    at < a && a <= b && b <= next
 }
 
 // The statement whose rows are at .. next, started.
@@ -149,25 +137,27 @@ fn statement(
 {
     let m = perform(codes, args, rows, at, inputs, outputs, variables);
     match m {
-        Effect::Waits => Progress::Reached(at, count + 1),
-        Effect::Refuses(q) => Progress::Refused(q, at),
-        Effect::Performed(a, b) => {
-            let right = nested(at, a, b, next);
-            if right {
-                return start(
-                    codes,
-                    args,
-                    rows,
-                    a,
-                    b,
-                    inputs,
-                    outputs,
-                    variables,
-                    count + 1,
-                );
+        Err(q) => Progress::Refused(q, at),
+        Ok(effect) => match effect {
+            Effect::Waits => Progress::Reached(at, count + 1),
+            Effect::Performed(a, b) => {
+                let right = nested(at, a, b, next);
+                if right {
+                    return start(
+                        codes,
+                        args,
+                        rows,
+                        a,
+                        b,
+                        inputs,
+                        outputs,
+                        variables,
+                        count + 1,
+                    );
+                }
+                Progress::Passed(count + 1)
             }
-            Progress::Passed(count + 1)
-        }
+        },
     }
 }
 

@@ -3,13 +3,13 @@
 pub mod blocks;
 pub mod cycles;
 
-// What a statement does itself: a wait is reached; it is performed, and the statements from .. to inside it follow, none where the two are equal;
-// or an operator of it is refused by that number.
+use base_codes::fault::Fault;
+
+// What a statement does itself: a wait is reached; or it is performed, and the statements from .. to inside it follow, none where the two are equal.
 #[derive(Clone, Copy)]
 enum Effect {
     Waits,
     Performed(usize, usize),
-    Refuses(u8),
 }
 
 // Where a block is resumed at a wait: nowhere, since the rows are those of no block with that wait; at a wait of its own, behind which the statements from
@@ -21,11 +21,11 @@ enum Inside {
     Part(usize, usize, usize),
 }
 
-// A statement is passed; a wait is reached; or an operator is refused, by which number and in which statement. The last number of the first two is
+// A statement is passed; a wait is reached; or an operator is refused, why and in which statement. The last number of the first two is
 // the length of the way.
 #[derive(Clone, Copy)]
 pub enum Progress {
     Passed(usize),
     Reached(usize, usize),
-    Refused(u8, usize),
+    Refused(Fault, usize),
 }

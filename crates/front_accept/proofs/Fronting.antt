@@ -5,6 +5,7 @@ use mathlib.Core.Option.{Option, none, some}
 use mathlib.Core.List.{List, [], ◌∷◌}
 use Prim.Native.Nat.{ℕ, zero, suc, ◌+◌, ◌≤◌, ◌<◌}
 use native.Mathlib.Omega.{arith}
+use Rattle.std.specs.Prelude.{Result, Ok, Err, MatchResult, IsOkAnd}
 use lib.Dec.{leb, ltb}
 use lib.ListN.{length, length-set}
 use lib.IntN.{ℤ}
@@ -28,37 +29,29 @@ use Rattle.spec_language.proofs.Offences.{lowest_none}
 use Rattle.spec_language.proofs.Judged.{clean}
 use Rattle.spec_language.proofs.Modes.{moded}
 use Rattle.spec_language.proofs.WellFormed.{well_formed}
-use Rattle.front_lexer.specs.declared.Lexed.{Lexed}
-use Rattle.front_lexer.specs.declared.Lexed.TheVariants.{Tokens, NotLexed}
 use Rattle.front_lexer.specs.Tokens as X
 use Rattle.front_lexer.specs.Tokens.{counted}
 use Rattle.front_limits.specs.Flags.{marked}
 use Rattle.front_limits.proofs.Held.{marked_size, tokens_held, words_held, flags_held}
 use Rattle.front_parser.specs.declared.Parsed.{Parsed}
-use Rattle.front_parser.specs.declared.Parsing.{Parsing}
-use Rattle.front_parser.specs.declared.Parsing.TheVariants.{Tree, NotParsed}
+use Rattle.front_cursor.specs.declared.Unread.{Unread}
+use Rattle.front_cursor.specs.declared.Unread.TheVariants as U
 use Rattle.front_parser.specs.Answers.{lent, ReadAs, parses_as, Parses}
 use Rattle.front_offences.specs.Laid.{Laid}
 use Rattle.front_scope.specs.Resolves as N
 use Rattle.front_limits.specs.Words.{WordsIn}
 use Rattle.front_offences.proofs.Tokens.{number_inside, picked, passed}
 use Rattle.base_ir.specs.declared.Declared.{Declared}
-use Rattle.front_accept.specs.declared.rules.Ruling.{Ruling}
-use Rattle.front_accept.specs.declared.rules.Ruling.TheVariants.{Free, Offended}
-use Rattle.front_accept.specs.declared.reading.Judgement.{Judgement}
-use Rattle.front_accept.specs.declared.reading.Judgement.TheVariants.{Sound, Unsound}
-use Rattle.front_accept.specs.declared.Front.{Front}
-use Rattle.front_accept.specs.declared.Acceptance.TheVariants.{Accepted}
-use Rattle.base_answers.specs.Answers.{number_of, refused_by}
+use Rattle.base_answers.specs.Answers.{number_of, refused_by, told}
 use Rattle.base_answers.specs.Answers as A
 use Rattle.base_answers.proofs.Told.{done_refused}
-use Rattle.front_accept.specs.Answered.{place_in}
-use Rattle.front_accept.specs.Stages.{shape_of, ruled_as, Ruled, Read, ruling_told}
+use Rattle.front_accept.specs.Answered.{place_in, unread_as}
+use Rattle.front_accept.specs.Stages.{shape_of, ruled_as, Ruled, Read}
 use Rattle.front_accept.specs.Designs.{Border}
-use Rattle.front_accept.specs.Readings.{Lexes, Holds, HoldsValues, by_ruling, judgement_of, JudgedAs}
+use Rattle.front_accept.specs.Readings.{Lexes, Holds, HoldsValues, judgement_of, JudgedAs}
 use Rattle.front_elaborator.specs.Positions.{value_at, Resolves}
 use Rattle.front_offences.specs.declared.Shape.{Shape}
-use Rattle.front_accept.specs.Fronts.{TreeIn, refused_front, DesignArrays, design_arrays, FrontAs}
+use Rattle.front_accept.specs.Fronts.{TreeIn, DesignArrays, design_arrays, FrontAs}
 use Rattle.front_layout.specs.Tokens.{token_at}
 use Rattle.front_layout.specs.Rows.{Row, set_row, store_rows, output}
 use Rattle.front_layout.specs.Items.{Arrays, arrays, Placed, store}
@@ -69,22 +62,22 @@ use Rattle.front_layout.proofs.Stored.{rows_held, items_held, names_held}
 -- THE RULES
 
 -- where the stages leave nothing, none is offended
-free_rules : (rs : List Stage) (t : Text) → ruling_told Free ≡ ruled_as (ruled rs t) → W.Free rs t × (ruled rs t ≡ accepted (elaborate t))
+free_rules : (rs : List Stage) (t : Text) → told {A = Unit {0}} (Ok tt) ≡ ruled_as (ruled rs t) → W.Free rs t × (ruled rs t ≡ accepted (elaborate t))
 unfolding ruled judged
 free_rules [] t e = (tt, refl)
 free_rules (r ∷ rs) t e = go (lowest_offence (r t)) refl e (free_rules rs t)
   where
-    go : (o : Option Offence) → lowest_offence (r t) ≡ o → ruling_told Free ≡ ruled_as (judged o (ruled rs t))
-        → (ruling_told Free ≡ ruled_as (ruled rs t) → W.Free rs t × (ruled rs t ≡ accepted (elaborate t)))
+    go : (o : Option Offence) → lowest_offence (r t) ≡ o → told {A = Unit {0}} (Ok tt) ≡ ruled_as (judged o (ruled rs t))
+        → (told {A = Unit {0}} (Ok tt) ≡ ruled_as (ruled rs t) → W.Free rs t × (ruled rs t ≡ accepted (elaborate t)))
         → ((r t ≡ []) × W.Free rs t) × (judged o (ruled rs t) ≡ accepted (elaborate t))
     go none q f ih = let s = ih f in ((lowest_none (r t) q, s.0), s.1)
     go (some o) q f ih = done_refused f
 
-pub free_text : (t : Text) → ruling_told Free ≡ ruled_as (ruled table t) → Clean t × (ruled table t ≡ accepted (elaborate t))
+pub free_text : (t : Text) → told {A = Unit {0}} (Ok tt) ≡ ruled_as (ruled table t) → Clean t × (ruled table t ≡ accepted (elaborate t))
 free_text t e = let s = free_rules table t e in (clean t s.0, s.1)
 
 -- an offence is the verdict's
-offended_as : (x : Refusal) (v : Verdict) → ruling_told (Offended x) ≡ ruled_as v → v ≡ refused (number_of x) (A.place_of x)
+offended_as : (x : Refusal) (v : Verdict) → told {A = Unit {0}} (Err x) ≡ ruled_as v → v ≡ refused (number_of x) (A.place_of x)
 offended_as x (accepted p) e = done_refused (sym e)
 offended_as x (refused n k) e = let y : n ≡ number_of x = cc in let z : k ≡ A.place_of x = cc in rw (y, z)
 
@@ -156,7 +149,18 @@ place_is {ts} {kinds} {starts} {n} l i T = go (ltb i n) refl
 
 -- THE FRONT END, FROM ITS END TO ITS BEGINNING
 
-module _ {text kinds starts sizes codes indices rows decls owners₀ owners : List ℕ} {n : ℕ} {p : Parsed} {x : Ruling}
+-- the judgement on a text of a shape, by what the rules say
+abbrev by_ruling : Shape → Result (Unit {0}) Refusal → Result Shape Refusal
+by_ruling p (Ok u) = Ok p
+by_ruling p (Err x) = Err x
+
+pub ruling_mapped : {s p : Shape} (x : Result (Unit {0}) Refusal) (j : Result Shape Refusal) → s ≡ p
+    → MatchResult x (λ u. IsOkAnd j (λ a. a ≡ s)) (λ e. j ≡ Err e) → j ≡ by_ruling p x
+ruling_mapped (Ok u) (Ok a) e h = ap Ok (h ∙ e)
+ruling_mapped (Ok u) (Err y) e h = absurd h
+ruling_mapped (Err y) j e h = h
+
+module _ {text kinds starts sizes codes indices rows decls owners₀ owners : List ℕ} {n : ℕ} {p : Parsed} {x : Result (Unit {0}) Refusal}
     (R : Ruled table (Read text starts sizes (shape_of n p) codes indices rows decls owners) x)
     (O : N.Resolves text kinds starts sizes n decls p.names owners₀ owners) (room : length owners₀ ≡ 16384) (ts : List Token) (t : Text)
     (I : TreeIn text ts t kinds starts sizes n p codes indices rows decls) where
@@ -171,19 +175,19 @@ module _ {text kinds starts sizes codes indices rows decls owners₀ owners : Li
         kinded = I.kinded;
       }
 
-  decided : ruling_told x ≡ ruled_as (ruled table t)
+  decided : told x ≡ ruled_as (ruled table t)
   decided =
       R.is t
       (record { held = record { tokens = ts; kinds = kinds; laid = all_laid; words = I.words; heads = I.heads }; process = I.process; within = I.limits })
 
   -- no rule is offended, or the refusal of one that is
-  pub judged_ruled : {j : Judgement} → j ≡ by_ruling (shape_of n p) x
+  pub judged_ruled : {j : Result Shape Refusal} → j ≡ by_ruling (shape_of n p) x
       → JudgedAs (Holds text ts kinds starts sizes codes indices rows decls owners) (ruled table t) j
   judged_ruled e = rw e (record { is = go x decided })
     where
-      go : (y : Ruling) → ruling_told y ≡ ruled_as (ruled table t)
+      go : (y : Result (Unit {0}) Refusal) → told y ≡ ruled_as (ruled table t)
           → judgement_of (Holds text ts kinds starts sizes codes indices rows decls owners) (ruled table t) (by_ruling (shape_of n p) y)
-      go Free h =
+      go (Ok u) h =
           let s = free_text t h in
           let q = s.0 in (
             t,
@@ -199,16 +203,16 @@ module _ {text kinds starts sizes codes indices rows decls owners₀ owners : Li
               lines_room = I.lines_room;
             },
           )
-      go (Offended y) h = offended_as y (ruled table t) h
+      go (Err y) h = offended_as y (ruled table t) h
 
-not_tree : {A : Type 0} {p : Parsed} {k i : ℕ} → Tree p ≡ NotParsed k i → A
+not_tree : {A : Type 0} {p : Parsed} {u : Unread} → ◌≡◌ {A = Result Parsed Unread} (Ok p) (Err u) → A
 not_tree e = absurd (let z : ◌≡◌ {A = ℕ} 0 1 = cc in omega arith)
 
-module _ {kinds starts codes₀ codes indices₀ indices rows₀ rows decls₀ decls : List ℕ} {n : ℕ} {x : Parsing} (l : ℕ) (ts : List Token)
+module _ {kinds starts codes₀ codes indices₀ indices rows₀ rows decls₀ decls : List ℕ} {n : ℕ} {x : Result Parsed Unread} (l : ℕ) (ts : List Token)
     (P₁ : Parses ts (lent (output (arrays codes₀ indices₀) rows₀) decls₀) (lent (output (arrays codes indices) rows) decls) x)
     (T : TokensIn ts kinds starts n) (Held : Shape → Text → Type 0) where
   -- a tree was read: the rules decide
-  pub judged_tree : {text sizes : List ℕ} {p : Parsed} (r : Judgement) → x ≡ Tree p → WordsIn text ts sizes n
+  pub judged_tree : {text sizes : List ℕ} {p : Parsed} (r : Result Shape Refusal) → x ≡ Ok p → WordsIn text ts sizes n
       → length codes₀ ≡ 16384 → length indices₀ ≡ 16384 → length rows₀ ≡ 3072 → length decls₀ ≡ 390
       → ((t : Text) → TreeIn text ts t kinds starts sizes n p codes indices rows decls → JudgedAs Held (ruled table t) r)
       → JudgedAs Held (parsed l ts (answer ts)) r
@@ -218,7 +222,7 @@ module _ {kinds starts codes₀ codes indices₀ indices rows₀ rows decls₀ d
       go : (a : P.Answer) → answer ts ≡ a → parses_as ts (lent (output (arrays codes₀ indices₀) rows₀) decls₀)
           (lent (output (arrays codes indices) rows) decls) a x → JudgedAs Held (parsed l ts a) r
       go (P.accepted t) h (q, g, w) =
-          let z : Tree p ≡ Tree q = sym e ∙ g in
+          let z : ◌≡◌ {A = Result Parsed Unread} (Ok p) (Ok q) = sym e ∙ g in
           let y : q ≡ p = cc in
           f t (tree_in h T Q lc li lr ld (subst (λ (u : Parsed). ReadAs ts t (lent (output (arrays codes₀ indices₀) rows₀) decls₀)
           (lent (output (arrays codes indices) rows) decls) u) y w))
@@ -226,34 +230,25 @@ module _ {kinds starts codes₀ codes indices₀ indices rows₀ rows decls₀ d
       go (P.past_limit k) h g = not_tree (sym e ∙ g)
 
   -- no tree was read: refusal 3 or 4 at the token's place
-  pub judged_unread : {k i w : ℕ} {y : Refusal} → x ≡ NotParsed k i → w ≡ place_in starts n l i
-      → ((k ≡ 3) → y ≡ NoSentence w) × ((k ≡ 4) → y ≡ LimitPassed w) → JudgedAs Held (parsed l ts (answer ts)) (Unsound y)
+  pub judged_unread : {u : Unread} {y : Refusal} → x ≡ Err u → y ≡ unread_as starts n l u → JudgedAs Held (parsed l ts (answer ts)) (Err y)
   unfolding parsed
-  judged_unread {k} {i} {w} {y} e hw hy = record { is = go (answer ts) P₁.is }
+  judged_unread {u} {y} e hy = record { is = go (answer ts) P₁.is }
     where
-      at : (j : ℕ) → i ≡ j → w ≡ place_of l ts j
-      at j h = hw ∙ (place_is l i T ∙ ap (place_of l ts) h)
-
       refused_as : Refusal → Verdict
-      refused_as u = refused (number_of u) (A.place_of u)
+      refused_as v = refused (number_of v) (A.place_of v)
+
+      same : (v : Unread) → x ≡ Err v → y ≡ unread_as starts n l v
+      same v g = let z : ◌≡◌ {A = Result Parsed Unread} (Err u) (Err v) = sym e ∙ g in let w : u ≡ v = cc in hy ∙ ap (unread_as starts n l) w
 
       go : (a : P.Answer) → parses_as ts (lent (output (arrays codes₀ indices₀) rows₀) decls₀) (lent (output (arrays codes indices) rows) decls) a x
           → parsed l ts a ≡ refused_as y
       go (P.accepted t) (q, g, _) = not_tree (sym g ∙ e)
-      go (P.no_sentence j) g =
-          let z : NotParsed k i ≡ NotParsed 3 j = sym e ∙ g in
-          let a : k ≡ 3 = cc in
-          let b : i ≡ j = cc in
-          sym (ap refused_as (hy.0 a ∙ ap NoSentence (at j b)))
-      go (P.past_limit j) g =
-          let z : NotParsed k i ≡ NotParsed 4 j = sym e ∙ g in
-          let a : k ≡ 4 = cc in
-          let b : i ≡ j = cc in
-          sym (ap refused_as (hy.1 a ∙ ap LimitPassed (at j b)))
+      go (P.no_sentence j) g = sym (ap refused_as (same (U.NoSentence j) g ∙ ap NoSentence (place_is l j T)))
+      go (P.past_limit j) g = sym (ap refused_as (same (U.LimitPassed j) g ∙ ap LimitPassed (place_is l j T)))
 
 -- the values of items beside the tree
 pub values_held : {text : List ℕ} {ts : List Token} {kinds starts sizes codes indices rows decls owners : List ℕ} {args₀ args : List ℤ} {v : Verdict}
-    {j : Judgement} {p : Shape} → j ≡ Sound p → JudgedAs (Holds text ts kinds starts sizes codes indices rows decls owners) v j
+    {j : Result Shape Refusal} {p : Shape} → j ≡ Ok p → JudgedAs (Holds text ts kinds starts sizes codes indices rows decls owners) v j
     → Resolves (value_at text starts sizes kinds owners) codes indices p.items args₀ args
     → JudgedAs (HoldsValues text ts kinds starts sizes codes rows decls owners args₀ args) v j
 values_held {text} {ts} {kinds} {starts} {sizes} {codes} {indices} {rows} {decls} {owners} {v = v} e h r =
@@ -261,18 +256,18 @@ values_held {text} {ts} {kinds} {starts} {sizes} {codes} {indices} {rows} {decls
     rw e (record { is = (w.0, w.1, record { indices = indices; tree = w.2; values = r }) })
 
 -- a refusal is the same whatever the arrays hold
-pub refused_still : (Held Kept : Shape → Text → Type 0) {v : Verdict} {j : Judgement} {x : Refusal} → j ≡ Unsound x → JudgedAs Held v j → JudgedAs Kept v j
+pub refused_still : (Held Kept : Shape → Text → Type 0) {v : Verdict} {j : Result Shape Refusal} {x : Refusal} → j ≡ Err x → JudgedAs Held v j → JudgedAs Kept v j
 refused_still Held Kept {v} e h = let w = subst (judgement_of Held v) e h.is in rw e (record { is = w })
 
-module _ (Held : Shape → Text → Type 0) {v : Verdict} {j : Judgement} (h : JudgedAs Held v j) where
+module _ (Held : Shape → Text → Type 0) {v : Verdict} {j : Result Shape Refusal} (h : JudgedAs Held v j) where
   -- no rule is offended: the design
-  pub front_sound : {text ops : List ℕ} {args : List ℤ} {lines : List ℕ} {d : Declared} {p : Shape} → j ≡ Sound p
+  pub front_sound : {text ops : List ℕ} {args : List ℤ} {lines : List ℕ} {d : Declared} {p : Shape} → j ≡ Ok p
       → ((t : Text) → Held p t → Border text (elaborate t) d ops args lines)
-      → FrontAs v text (record { declared = d; answer = Accepted }) (design_arrays ops args lines)
+      → FrontAs v text (Ok d) (design_arrays ops args lines)
   front_sound e f = let w = subst (judgement_of Held v) e h.is in rw w.1 (refl, f w.0 w.2)
 
   -- a refusal
-  pub front_unsound : (text : List ℕ) (after : DesignArrays) {r : Front} {x : Refusal} → j ≡ Unsound x → r ≡ refused_front x → FrontAs v text r after
+  pub front_unsound : (text : List ℕ) (after : DesignArrays) {r : Result Declared Refusal} {x : Refusal} → j ≡ Err x → r ≡ Err x → FrontAs v text r after
   front_unsound text after e f = let w = subst (judgement_of Held v) e h.is in rw (w, f) (refl, refl)
 
 -- flags that are marked are as many as before
@@ -280,36 +275,36 @@ pub flags_size : (text kinds starts sizes flags₀ : List ℕ) (n : ℕ) {flags 
     → length flags ≡ 16384
 flags_size text kinds starts sizes flags₀ n m l = ap length m ∙ (marked_size text kinds starts sizes flags₀ n ∙ l)
 
-not_tokens : {A : Type 0} {n : ℕ} {x : Refusal} → Tokens n ≡ NotLexed x → A
+not_tokens : {A : Type 0} {n : ℕ} {x : Refusal} → ◌≡◌ {A = Result ℕ Refusal} (Ok n) (Err x) → A
 not_tokens e = absurd (let z : ◌≡◌ {A = ℕ} 0 1 = cc in omega arith)
 
 -- the text has tokens: the parser decides
-pub front_tokens : (text : List ℕ) (n : ℕ) (r : Front) (after : DesignArrays) → Tokens n ≡ X.lexed text
+pub front_tokens : (text : List ℕ) (n : ℕ) (r : Result Declared Refusal) (after : DesignArrays) → Ok n ≡ X.lexed text
     → ((ts : List Token) → lex text ≡ tokens ts → FrontAs (parsed (length text) ts (answer ts)) text r after) → FrontAs (verdict text) text r after
 unfolding verdict X.lexed lexed
 front_tokens text n r after e f = go (ltb 16384 (length text)) refl (lex text) refl e
   where
-    go : (b : Bool) → ltb 16384 (length text) ≡ b → (k : L.Lexed) → lex text ≡ k → Tokens n ≡ cond b (NotLexed TextTooLong) (counted 0 k)
+    go : (b : Bool) → ltb 16384 (length text) ≡ b → (k : L.Lexed) → lex text ≡ k → Ok n ≡ cond b (Err TextTooLong) (counted 0 k)
         → FrontAs (cond (leb (length text) 16384) (lexed (length text) k) (refused 1 0)) text r after
     go true q k h g = not_tokens g
     go false q (tokens ts) h g = rw (le-leb (length text) 16384 (let z = ltb-false 16384 (length text) q in omega arith)) (f ts h)
     go false q (malformed p) h g = not_tokens g
 
 -- the text has none: refusal 1 or 2
-pub front_not_lexed : (text : List ℕ) (x : Refusal) {r : Front} (after : DesignArrays) → NotLexed x ≡ X.lexed text → r ≡ refused_front x
+pub front_not_lexed : (text : List ℕ) (x : Refusal) {r : Result Declared Refusal} (after : DesignArrays) → Err x ≡ X.lexed text → r ≡ Err x
     → FrontAs (verdict text) text r after
 unfolding verdict X.lexed lexed
-front_not_lexed text x after e f = subst (λ (z : Front). FrontAs (verdict text) text z after) (sym f) (go (ltb 16384 (length text)) refl (lex text) e)
+front_not_lexed text x after e f = subst (λ (z : Result Declared Refusal). FrontAs (verdict text) text z after) (sym f) (go (ltb 16384 (length text)) refl (lex text) e)
   where
-    go : (b : Bool) → ltb 16384 (length text) ≡ b → (k : L.Lexed) → NotLexed x ≡ cond b (NotLexed TextTooLong) (counted 0 k)
-        → FrontAs (cond (leb (length text) 16384) (lexed (length text) k) (refused 1 0)) text (refused_front x) after
+    go : (b : Bool) → ltb 16384 (length text) ≡ b → (k : L.Lexed) → Err x ≡ cond b (Err TextTooLong) (counted 0 k)
+        → FrontAs (cond (leb (length text) 16384) (lexed (length text) k) (refused 1 0)) text (Err x) after
     go true q k g = let z : x ≡ TextTooLong = cc in rw (lt-leb (length text) 16384 (ltb-true 16384 (length text) q)) (ap refused_by z, refl)
     go false q (tokens ts) g = not_tokens (sym g)
     go false q (malformed p) g = let z : x ≡ NoToken p = cc in
         rw (le-leb (length text) 16384 (let y = ltb-false 16384 (length text) q in omega arith)) (ap refused_by z, refl)
 
 -- the text was lexed: its tokens decide
-pub front_lexed : (text kinds₀ kinds starts₀ starts sizes₀ sizes long₀ : List ℕ) (n : ℕ) {x : Lexed} (r : Front) (after : DesignArrays) → x ≡ Tokens n
+pub front_lexed : (text kinds₀ kinds starts₀ starts sizes₀ sizes long₀ : List ℕ) (n : ℕ) {x : Result ℕ Refusal} (r : Result Declared Refusal) (after : DesignArrays) → x ≡ Ok n
     → X.Lexing text x kinds₀ kinds starts₀ starts sizes₀ sizes → length kinds₀ ≡ 16384 → length starts₀ ≡ 16384 → length sizes₀ ≡ 16384 → length long₀ ≡ 16384
     → ((ts : List Token) → Lexes text ts kinds starts sizes n (marked text kinds starts sizes n long₀)
     → FrontAs (parsed (length text) ts (answer ts)) text r after)
@@ -322,5 +317,5 @@ front_lexed text kinds₀ kinds starts₀ starts sizes₀ sizes long₀ n r afte
       flagged = flags_held text kinds₀ kinds starts₀ starts sizes₀ sizes n ts l t lk ls lz long₀ ll;
     }))
   where
-    l : X.Lexing text (Tokens n) kinds₀ kinds starts₀ starts sizes₀ sizes
-    l = subst (λ (y : Lexed). X.Lexing text y kinds₀ kinds starts₀ starts sizes₀ sizes) e lx
+    l : X.Lexing text (Ok n) kinds₀ kinds starts₀ starts sizes₀ sizes
+    l = subst (λ (y : Result ℕ Refusal). X.Lexing text y kinds₀ kinds starts₀ starts sizes₀ sizes) e lx

@@ -1,5 +1,5 @@
 -- What the front end's answer says of the verdict: the process of an accepted text with what holds it, or the refusal. Assumes nothing.
-use mathlib.Core.Path.{◌≡◌, refl, sym, ◌∙◌, ap}
+use mathlib.Core.Path.{◌≡◌, refl, sym, ◌∙◌, ap, subst}
 use mathlib.Core.List.{List}
 use Prim.Native.Nat.{ℕ}
 use lib.IntN.{ℤ}
@@ -11,8 +11,7 @@ use Rattle.spec_language.specs.Verdict.{Verdict, accepted, refused, verdict}
 use Rattle.spec_language.proofs.Judged.{accepts}
 use Rattle.spec_language.proofs.WellFormed.{valid_well_formed}
 use Rattle.base_ir.specs.declared.Declared.{Declared}
-use Rattle.front_accept.specs.declared.Front.{Front}
-use Rattle.front_accept.specs.declared.Acceptance.TheVariants.{Accepted, Refused}
+use Rattle.std.specs.Prelude.{Result, Ok, Err}
 use Rattle.front_accept.specs.Designs.{Border}
 use Rattle.front_accept.specs.Fronts.{DesignArrays, FrontAs, front_told}
 
@@ -23,16 +22,16 @@ pub record Design (text : List ℕ) (d : Declared) (ops : List ℕ) (args : List
   pub border : Border text process d ops args lines
   pub formed : WellFormed process
 
-module _ (text : List ℕ) (r : Front) (after : DesignArrays) (f : FrontAs (verdict text) text r after) where
-  pub design_of : r.answer ≡ Accepted → Design text r.declared after.ops after.args after.lines
-  design_of e = go (verdict text) refl f
+module _ (text : List ℕ) (r : Result Declared Refusal) (after : DesignArrays) (f : FrontAs (verdict text) text r after) where
+  pub design_of : {d : Declared} → r ≡ Ok d → Design text d after.ops after.args after.lines
+  design_of {d} e = go (verdict text) refl (subst (λ (x : Result Declared Refusal). FrontAs (verdict text) text x after) e f)
     where
-      go : (v : Verdict) → verdict text ≡ v → FrontAs v text r after → Design text r.declared after.ops after.args after.lines
+      go : (v : Verdict) → verdict text ≡ v → FrontAs v text (Ok d) after → Design text d after.ops after.args after.lines
       go (accepted p) h (g, k) = record { process = p; is_verdict = h; border = k; formed = valid_well_formed ((accepts text p).0 h) }
-      go (refused n k) h (g, u) = done_refused (sym (ap front_told e) ∙ g)
+      go (refused n k) h (g, u) = done_refused g
 
   -- a refused text: its verdict has the number and the place of the refusal that the front end answers
-  pub turned_of : {x : Refusal} → r.answer ≡ Refused x → verdict text ≡ refused (number_of x) (place_of x)
+  pub turned_of : {x : Refusal} → r ≡ Err x → verdict text ≡ refused (number_of x) (place_of x)
   turned_of {x} e = go (verdict text) refl f
     where
       go : (v : Verdict) → verdict text ≡ v → FrontAs v text r after → verdict text ≡ refused (number_of x) (place_of x)

@@ -1,23 +1,19 @@
 -- What the front end answers for a verdict, and what the arrays of a parsed text hold. Assumes nothing.
-use Rattle.std.specs.Prelude.{◌≡◌, List, ℕ, ◌*◌, length, replicate, ℤ, pos}
-use Rattle.base_codes.specs.Limit.{TEXT, STATEMENTS, VARIABLES}
+use Rattle.std.specs.Prelude.{◌≡◌, List, Result, Ok, Err, IfOk, IsErr, ℕ, ◌*◌, length, replicate, ℤ}
+use Rattle.base_codes.specs.Limit.{TEXT, STATEMENTS}
 use Rattle.base_codes.specs.Statement.{ROW}
 use Rattle.base_answers.specs.declared.Refusal.{Refusal}
 use Rattle.spec_grammar.specs.Token.{Token}
 use Rattle.spec_grammar.specs.Tree.{Text}
 use Rattle.spec_grammar.specs.Limits.{WithinLimits}
 use Rattle.spec_grammar.specs.Reader.{answer}
-use Rattle.spec_language.specs.Verdict.{Verdict, onAccepted, parsed, verdict}
+use Rattle.spec_language.specs.Verdict.{Verdict, on_accepted, parsed, verdict}
 use Rattle.spec_language.proofs.Modes.{Moded}
 use Rattle.front_parser.specs.declared.Parsed.{Parsed}
 use Rattle.front_limits.specs.Flags.{marked}
 use Rattle.front_limits.specs.Words.{WordsIn}
 use Rattle.front_scope.specs.Judges.{HeadsIn}
-use Rattle.base_ir.specs.declared.Names.{Names}
 use Rattle.base_ir.specs.declared.Declared.{Declared}
-use Rattle.front_accept.specs.declared.Front.{Front}
-use Rattle.front_accept.specs.declared.Acceptance.{Acceptance}
-use Rattle.front_accept.specs.declared.Acceptance.TheVariants.{Accepted, Refused}
 use Rattle.base_answers.specs.Answers.{Told, done, refusal, refused_by}
 use Rattle.front_accept.specs.Stages.{shape_of}
 use Rattle.front_accept.specs.Designs.{Sized, Border}
@@ -44,29 +40,13 @@ pub record TreeIn (text : List ℕ) (ts : List Token) (t : Text) (kinds starts s
   pub room : length codes ≡ TEXT
   pub lines_room : length rows ≡ ROW * STATEMENTS
 
--- nothing declared: what a refused text has in place of its declarations
-abbrev pub no_names : Names
-no_names = record {
-  count = 0;
-  types = replicate VARIABLES 0;
-  values = replicate VARIABLES (pos 0);
-  starts = replicate VARIABLES 0;
-  sizes = replicate VARIABLES 0;
-}
-
-abbrev pub nothing : Declared
-nothing = record { statements = 0; operations = 0; inputs = no_names; outputs = no_names; variables = no_names }
-
-abbrev pub refused_front : Refusal → Front
-refused_front r = record { declared = nothing; answer = Refused r }
-
 -- what the front end tells, and what is told of a verdict: number and place of a refusal
-abbrev pub front_told : Acceptance → Told (Unit {0})
-front_told Accepted = done tt
-front_told (Refused r) = refused_by r
+abbrev pub front_told : Result Declared Refusal → Told (Unit {0})
+front_told (Ok d) = done tt
+front_told (Err r) = refused_by r
 
 abbrev pub front_answer : Verdict → Told (Unit {0})
-front_answer v = onAccepted (λ p. done tt) refusal v
+front_answer v = on_accepted (λ p. done tt) refusal v
 
 -- the arrays that are lent
 pub record DesignArrays : Type 0 where
@@ -78,19 +58,19 @@ abbrev pub design_arrays : List ℕ → List ℤ → List ℕ → DesignArrays
 design_arrays ops args lines = record { ops = ops; args = args; lines = lines }
 
 -- what is handed out of a text: an accepted one's process; of a refused one nothing, and what is left in the arrays has no meaning
-abbrev pub LeftAs : Verdict → List ℕ → Declared → DesignArrays → Type 0
-LeftAs v text d b = onAccepted (λ p. Border text p d b.ops b.args b.lines) (λ n k. d ≡ nothing) v
+abbrev pub LeftAs : Verdict → List ℕ → Result Declared Refusal → DesignArrays → Type 0
+LeftAs v text r b = on_accepted (λ p. IfOk r (λ d. Border text p d b.ops b.args b.lines)) (λ n k. IsErr r) v
 
 -- the front end's answer and what it hands out
-abbrev pub FrontAs : Verdict → List ℕ → Front → DesignArrays → Type 0
-FrontAs v text r b = (front_told r.answer ≡ front_answer v) × LeftAs v text r.declared b
+abbrev pub FrontAs : Verdict → List ℕ → Result Declared Refusal → DesignArrays → Type 0
+FrontAs v text r b = (front_told r ≡ front_answer v) × LeftAs v text r b
 
 -- the front end on a text, where the arrays a that are lent have their sizes; b is what is left in them
-abbrev pub TextFront : List ℕ → Front → DesignArrays → DesignArrays → Type 0
+abbrev pub TextFront : List ℕ → Result Declared Refusal → DesignArrays → DesignArrays → Type 0
 TextFront text r a b = Sized a.ops a.args a.lines → FrontAs (verdict text) text r b
 
 -- the same on its tokens, which the arrays hold
-abbrev pub TokensFront : List ℕ → List ℕ → List ℕ → List ℕ → ℕ → Front → DesignArrays → DesignArrays → Type 0
+abbrev pub TokensFront : List ℕ → List ℕ → List ℕ → List ℕ → ℕ → Result Declared Refusal → DesignArrays → DesignArrays → Type 0
 TokensFront text kinds starts sizes n r a b =
     Sized a.ops a.args a.lines → (ts : List Token) → Lexes text ts kinds starts sizes n (marked text kinds starts sizes n (replicate TEXT 0))
     → FrontAs (parsed (length text) ts (answer ts)) text r b

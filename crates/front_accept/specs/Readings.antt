@@ -1,7 +1,8 @@
 -- What is read of a text's tokens: the tree that the arrays hold where it offends no rule, or the refusal. Assumes nothing.
-use Rattle.std.specs.Prelude.{◌≡◌, List, [], ℕ, ◌*◌, length, ℤ}
+use Rattle.std.specs.Prelude.{◌≡◌, List, [], Result, Ok, Err, ℕ, ◌*◌, length, ℤ}
 use Rattle.base_codes.specs.Limit.{TEXT, STATEMENTS}
 use Rattle.base_codes.specs.Statement.{ROW}
+use Rattle.base_answers.specs.declared.Refusal.{Refusal}
 use Rattle.base_answers.specs.Answers.{number_of, place_of}
 use Rattle.spec_grammar.specs.Token.{Token}
 use Rattle.spec_grammar.specs.Tree.{Text}
@@ -19,10 +20,6 @@ use Rattle.front_limits.specs.Words.{WordsIn}
 use Rattle.front_offences.specs.declared.Shape.{Shape}
 use Rattle.front_offences.specs.Judged.{LaidIn}
 use Rattle.front_elaborator.specs.Positions.{value_at, Resolves}
-use Rattle.front_accept.specs.declared.rules.Ruling.{Ruling}
-use Rattle.front_accept.specs.declared.rules.Ruling.TheVariants.{Free, Offended}
-use Rattle.front_accept.specs.declared.reading.Judgement.{Judgement}
-use Rattle.front_accept.specs.declared.reading.Judgement.TheVariants.{Sound, Unsound}
 use Rattle.front_accept.specs.declared.reading.Reading.{Reading}
 
 -- the arrays hold the tokens ts of the text, and their flags
@@ -49,17 +46,12 @@ pub record HoldsValues (text : List ℕ) (ts : List Token) (kinds starts sizes c
   pub tree : Holds text ts kinds starts sizes codes indices rows decls owners p t
   pub values : Resolves (value_at text starts sizes kinds owners) codes indices p.items args₀ args
 
--- the judgement on a text of a shape, by what the rules say
-abbrev pub by_ruling : Shape → Ruling → Judgement
-by_ruling p Free = Sound p
-by_ruling p (Offended x) = Unsound x
-
 -- what a judgement says of a verdict, where Held is what the arrays hold of a tree: they hold the tree of the accepted process; or its number and place
-abbrev pub judgement_of : (Shape → Text → Type 0) → Verdict → Judgement → Type 0
-judgement_of Held v (Sound p) = (t : Text) × (v ≡ accepted (elaborate t)) × Held p t
-judgement_of Held v (Unsound x) = v ≡ refused (number_of x) (place_of x)
+abbrev pub judgement_of : (Shape → Text → Type 0) → Verdict → Result Shape Refusal → Type 0
+judgement_of Held v (Ok p) = (t : Text) × (v ≡ accepted (elaborate t)) × Held p t
+judgement_of Held v (Err x) = v ≡ refused (number_of x) (place_of x)
 
-pub record JudgedAs (Held : Shape → Text → Type 0) (v : Verdict) (j : Judgement) : Type 0 where
+pub record JudgedAs (Held : Shape → Text → Type 0) (v : Verdict) (j : Result Shape Refusal) : Type 0 where
   pub is : judgement_of Held v j
 
 -- for the tokens that the arrays hold, where those that are lent have their sizes: the judgement is the verdict's

@@ -1,5 +1,5 @@
 -- Refusals 5 to 9 of a text whose arrays hold a tree: as the rules say one after the other. Assumes nothing.
-use Rattle.std.specs.Prelude.{◌≡◌, List, [], ◌∷◌, ℕ}
+use Rattle.std.specs.Prelude.{◌≡◌, List, [], ◌∷◌, Result, ℕ}
 use Rattle.spec_grammar.specs.Token.{Token}
 use Rattle.spec_grammar.specs.Tree.{Text}
 use Rattle.spec_grammar.specs.Limits.{WithinLimits}
@@ -9,15 +9,14 @@ use Rattle.spec_language.specs.Typing.{types}
 use Rattle.spec_language.specs.Values.{values}
 use Rattle.spec_language.specs.Clock.{clock}
 use Rattle.spec_language.specs.Classes.{loops}
-use Rattle.spec_language.specs.Verdict.{Verdict, onAccepted, ruled}
+use Rattle.spec_language.specs.Verdict.{Verdict, on_accepted, ruled}
 use Rattle.front_layout.specs.Tokens.{token_at}
 use Rattle.front_parser.specs.declared.Parsed.{Parsed}
 use Rattle.front_offences.specs.declared.Shape.{Shape}
 use Rattle.front_offences.specs.Judged.{LaidIn}
 use Rattle.front_scope.specs.Judges as N
-use Rattle.base_answers.specs.Answers.{Told, done, refusal, refused_by}
-use Rattle.front_accept.specs.declared.rules.Ruling.{Ruling}
-use Rattle.front_accept.specs.declared.rules.Ruling.TheVariants.{Free, Offended}
+use Rattle.base_answers.specs.declared.Refusal.{Refusal}
+use Rattle.base_answers.specs.Answers.{Told, done, refusal, told}
 
 -- the shape of a text of n tokens
 abbrev pub shape_of : ℕ → Parsed → Shape
@@ -35,18 +34,13 @@ shape_of n p =
       arch_end = p.arch_end;
     }
 
--- what a ruling tells
-abbrev pub ruling_told : Ruling → Told (Unit {0})
-ruling_told Free = done tt
-ruling_told (Offended r) = refused_by r
-
 -- what the rules leave of a verdict
 abbrev pub ruled_as : Verdict → Told (Unit {0})
-ruled_as v = onAccepted (λ p. done tt) refusal v
+ruled_as v = on_accepted (λ p. done tt) refusal v
 
 -- for every tree that the arrays hold, the answer is that of the stages rs
-pub record Ruled (rs : List Stage) (Held : Text → Type 0) (r : Ruling) : Type 0 where
-  pub is : (t : Text) → Held t → ruling_told r ≡ ruled_as (ruled rs t)
+pub record Ruled (rs : List Stage) (Held : Text → Type 0) (r : Result (Unit {0}) Refusal) : Type 0 where
+  pub is : (t : Text) → Held t → told r ≡ ruled_as (ruled rs t)
 
 -- "Stages in table order": the stages from 9, 8, 7 and 6 on
 abbrev pub from9 : List Stage

@@ -1,30 +1,20 @@
 // What is read of a text's tokens: all stages that judge the whole text, in table order, and the values of its items. Behind them nothing is refused.
 ghost use Rattle.std.specs.Prelude.{◌≡◌};
-ghost use Rattle.base_codes.specs.Refusal.{NO_SENTENCE, LIMIT_PASSED};
-ghost use Rattle.base_answers.specs.declared.Refusal.TheVariants.{NoSentence, LimitPassed};
-ghost use Rattle.front_accept.specs.Answered.{place_in};
-ghost use Rattle.front_accept.specs.Readings.{by_ruling, Judges, Reads};
+ghost use Rattle.front_accept.specs.Answered.{place_in, unread_as};
+ghost use Rattle.front_accept.specs.Readings.{Judges, Reads};
 
 use crate::rules;
-use crate::rules::Ruling;
 use base_answers::Refusal;
-use base_codes::{declaration, limit, refusal, statement};
+use base_codes::{declaration, limit, statement};
+use front_cursor::Unread;
 use front_elaborator::items;
-use front_offences::Shape;
-use front_parser::Parsing;
+use front_offences::{Shape, Tree};
 
-// The text has this shape and offends no rule; or its refusal.
-#[derive(Clone, Copy)]
-pub(crate) enum Judgement {
-    Sound(Shape),
-    Unsound(Refusal),
-}
-
-// The rows of the declared names, and the judgement on the text.
+// The rows of the declared names, and the judgement on the text: its shape where it offends no rule, or its refusal.
 #[derive(Clone, Copy)]
 pub(crate) struct Reading {
     pub decls: [u16; declaration::ROWS],
-    pub judgement: Judgement,
+    pub judgement: Result<Shape, Refusal>,
 }
 
 // The place of a token, or the text's length where there is no such token.
@@ -32,28 +22,19 @@ fn place_of(starts: &[u16; limit::TEXT], n: usize, length: usize, i: usize) -> u
     ensures { result ≡ place_in starts.now n length i }
 {
     if i < n {
-        return front_offences::place_at(starts, n, i) as usize;
+        usize::from(front_offences::place_at(starts, n, i))
+    } else {
+        length
     }
-    length
 }
 
-// Refusal 3 or 4.
-fn unread(number: u8, place: usize) -> Refusal
-    ensures { ((number ≡ NO_SENTENCE) → result ≡ NoSentence place) × ((number ≡ LIMIT_PASSED) → result ≡ LimitPassed place) }
+// The refusal of a text that is not read, with its place.
+fn unread(e: Unread, starts: &[u16; limit::TEXT], n: usize, length: usize) -> Refusal
+    ensures { result ≡ unread_as starts.now n length e }
 {
-    if number == refusal::NO_SENTENCE {
-        return Refusal::NoSentence(place);
-    }
-    Refusal::LimitPassed(place)
-}
-
-// The judgement on a text of this shape, by what the rules say.
-fn by_ruling(shape: Shape, ruling: Ruling) -> Judgement
-    ensures { result ≡ by_ruling shape ruling }
-{
-    match ruling {
-        Ruling::Free => Judgement::Sound(shape),
-        Ruling::Offended(r) => Judgement::Unsound(r),
+    match e {
+        Unread::NoSentence(i) => Refusal::NoSentence(place_of(starts, n, length, i)),
+        Unread::LimitPassed(i) => Refusal::LimitPassed(place_of(starts, n, length, i)),
     }
 }
 
@@ -76,20 +57,27 @@ fn judged(
     let mut decls = [0u16; declaration::ROWS];
     let parsing = front_parser::parse(kinds, owners, n, codes, indices, rows, &mut decls);
     match parsing {
-        Parsing::Tree(p) => {
+        Ok(p) => {
             front_scope::resolve(text, kinds, starts, sizes, n, &decls, p.names, owners);
             let shape = rules::shape_of(n, p);
-            let ruling = rules::judge(
-                text, starts, sizes, shape, codes, indices, rows, &decls, owners,
-            );
-            let judgement = by_ruling(shape, ruling);
+            let tree = Tree {
+                starts,
+                codes,
+                indices,
+                rows,
+                decls: &decls,
+                owners,
+                shape,
+            };
+            let ruling = rules::judge(text, sizes, &tree);
+            let judgement = ruling.map(|()| shape);
             Reading { decls, judgement }
         }
-        Parsing::NotParsed(number, i) => {
-            let r = unread(number, place_of(starts, n, text.len(), i));
+        Err(e) => {
+            let r = unread(e, starts, n, text.len());
             Reading {
                 decls,
-                judgement: Judgement::Unsound(r),
+                judgement: Err(r),
             }
         }
     }
@@ -124,22 +112,18 @@ pub(crate) fn read(
         &mut indices,
         rows,
     );
-    let judgement = r.judgement;
-    match judgement {
-        Judgement::Sound(shape) => {
-            items::resolve(
-                text,
-                starts,
-                sizes,
-                kinds,
-                owners,
-                codes,
-                &indices,
-                shape.items,
-                args,
-            );
-            r
-        }
-        Judgement::Unsound(_) => r,
+    if let Ok(shape) = r.judgement {
+        items::resolve(
+            text,
+            starts,
+            sizes,
+            kinds,
+            owners,
+            codes,
+            &indices,
+            shape.items,
+            args,
+        );
     }
+    r
 }

@@ -1,63 +1,31 @@
--- The rules on numbers of classes are those on classes; classes in sequence may be grouped from either side. Assumes nothing.
+-- The rules on classes as the code has them are those on classes; classes in sequence may be grouped from either side. Assumes nothing.
 use mathlib.Core.Path.{◌≡◌, refl}
 use mathlib.Core.Option.{Option, none, some}
 use Rattle.spec_design.specs.Statement.{Class, A, B, C, seq_class, if_class}
 use Rattle.spec_language.specs.Classes.{pair, looped, is_c, not_classed_wrong}
-use Rattle.front_classes.specs.Codes.{class_code, sequence_code, if_code, while_code, body_allowed}
-use lib.Dec.{eqb}
+use Rattle.front_classes.specs.Codes.{class_code, class_of, sequence_code, if_code, while_code, body_allowed}
+
+pub class_back : (x : Option Class) → class_of (class_code x) ≡ x
+unfolding class_code class_of
+class_back none = refl
+class_back (some A) = refl
+class_back (some B) = refl
+class_back (some C) = refl
 
 pub sequence_is : (x y : Option Class) → sequence_code (class_code x) (class_code y) ≡ class_code (pair seq_class x y)
-unfolding class_code pair seq_class
-sequence_is none y = refl
-sequence_is (some A) none = refl
-sequence_is (some B) none = refl
-sequence_is (some C) none = refl
-sequence_is (some A) (some A) = refl
-sequence_is (some A) (some B) = refl
-sequence_is (some A) (some C) = refl
-sequence_is (some B) (some A) = refl
-sequence_is (some B) (some B) = refl
-sequence_is (some B) (some C) = refl
-sequence_is (some C) (some A) = refl
-sequence_is (some C) (some B) = refl
-sequence_is (some C) (some C) = refl
+sequence_is x y = rw (class_back x, class_back y)
 
 pub if_is : (x y : Option Class) → if_code (class_code x) (class_code y) ≡ class_code (pair if_class x y)
-unfolding class_code pair if_class
-if_is none y = refl
-if_is (some A) none = refl
-if_is (some B) none = refl
-if_is (some C) none = refl
-if_is (some A) (some A) = refl
-if_is (some A) (some B) = refl
-if_is (some A) (some C) = refl
-if_is (some B) (some A) = refl
-if_is (some B) (some B) = refl
-if_is (some B) (some C) = refl
-if_is (some C) (some A) = refl
-if_is (some C) (some B) = refl
-if_is (some C) (some C) = refl
+if_is x y = rw (class_back x, class_back y)
 
 pub while_is : (x : Option Class) → while_code (class_code x) ≡ class_code (looped x)
-unfolding class_code looped
-while_is none = refl
-while_is (some A) = refl
-while_is (some B) = refl
-while_is (some C) = refl
+while_is x = rw (class_back x)
 
 pub allowed_is : (x : Option Class) → body_allowed (class_code x) ≡ not_classed_wrong x
-unfolding class_code not_classed_wrong
-allowed_is none = refl
-allowed_is (some A) = refl
-allowed_is (some B) = refl
-allowed_is (some C) = refl
+allowed_is x = rw (class_back x)
 
-pub whole_is : (x : Option Class) → eqb (class_code x) 3 ≡ is_c x
-unfolding class_code is_c
-whole_is none = refl
-whole_is (some A) = refl
-whole_is (some B) = refl
-whole_is (some C) = refl
+pub whole_is : (x : Option Class) → is_c (class_of (class_code x)) ≡ is_c x
+whole_is x = rw (class_back x)
 
 -- A before or behind changes no class
 pub sequence_first : (x : Option Class) → pair seq_class (some A) x ≡ x

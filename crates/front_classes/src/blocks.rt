@@ -1,49 +1,30 @@
 // Statements in sequence: a block is a loop over its statements; statements in statements are a cycle of calls, the rows left falling.
-ghost use Rattle.std.specs.Prelude.{◌≡◌, ◌+◌, ◌<◌, ◌≤◌, min, max};
+ghost use Rattle.std.specs.Prelude.{◌≡◌, ◌<◌, ◌≤◌};
 ghost use Rattle.front_classes.specs.Held.{number_of};
 ghost use Rattle.front_classes.specs.Positions.{StatementIs, BlockIs};
 
+use crate::rules::Class;
 use crate::{Summary, rules};
-use base_codes::{kind, limit, statement as row};
-use front_offences::{lower, offence, place_at, wide};
+use base_codes::{kind, statement as row};
+use front_offences::{Tree, lower, offence};
 
-// Number k of row j.
-fn number(rows: &[u16; row::ROWS], j: usize, k: usize) -> usize
+// Number k of row j, as a number of rows or an index of tokens.
+fn number(tree: &Tree, j: usize, k: usize) -> usize
     requires { (j < 512) × (k < 6) }
-    ensures { result ≡ number_of rows.now j k }
+    ensures { result ≡ number_of tree.now.rows.now j k }
 {
-    wide(rows[row::ROW * j + k])
-}
-
-// A number brought into a range, so that the calls stay within their rows whatever the array holds.
-fn clamp(x: usize, low: usize, high: usize) -> usize
-    requires { low ≤ high }
-    ensures { result ≡ max low (min x high) }
-{
-    if x < low {
-        return low;
-    }
-    if high < x {
-        return high;
-    }
-    x
+    usize::from(tree.statement(j, k))
 }
 
 // An if. A missing else is a block of no rows, which is A as null is.
 #[cycle(statements)]
-fn if_statement(
-    rows: &[u16; row::ROWS],
-    places: &[u16; limit::TEXT],
-    n: usize,
-    at: usize,
-    end: usize,
-) -> Summary
-    requires { (at < end) × (end ≤ 512) × (number_of rows.now at 0 ≡ 3) }
-    ensures { StatementIs rows.now places.now n at end result }
+fn if_statement(tree: &Tree, at: usize, end: usize) -> Summary
+    requires { (at < end) × (end ≤ 512) × (number_of tree.now.rows.now at 0 ≡ 3) }
+    ensures { StatementIs tree.now.rows.now tree.now.starts.now tree.now.shape.tokens at end result }
 {
-    let other = clamp(number(rows, at, row::OTHER), at + 1, end);
-    let a = block(rows, places, n, at + 1, other);
-    let b = block(rows, places, n, other, end);
+    let other = number(tree, at, row::OTHER).clamp(at + 1, end);
+    let a = block(tree, at + 1, other);
+    let b = block(tree, other, end);
     Summary {
         class: rules::if_class(a.class, b.class),
         lowest: lower(a.lowest, b.lowest),
@@ -52,18 +33,12 @@ fn if_statement(
 
 // A while, which is itself an offence where its body is classed and not C.
 #[cycle(statements)]
-fn while_statement(
-    rows: &[u16; row::ROWS],
-    places: &[u16; limit::TEXT],
-    n: usize,
-    at: usize,
-    end: usize,
-) -> Summary
-    requires { (at < end) × (end ≤ 512) × (number_of rows.now at 0 ≡ 5) }
-    ensures { StatementIs rows.now places.now n at end result }
+fn while_statement(tree: &Tree, at: usize, end: usize) -> Summary
+    requires { (at < end) × (end ≤ 512) × (number_of tree.now.rows.now at 0 ≡ 5) }
+    ensures { StatementIs tree.now.rows.now tree.now.starts.now tree.now.shape.tokens at end result }
 {
-    let body = block(rows, places, n, at + 1, end);
-    let place = place_at(places, n, number(rows, at, row::TOKEN));
+    let body = block(tree, at + 1, end);
+    let place = tree.place(number(tree, at, row::TOKEN));
     let own = offence(rules::body_allowed(body.class), place);
     Summary {
         class: rules::while_class(body.class),
@@ -73,53 +48,37 @@ fn while_statement(
 
 // A statement, by its kind; assignments and null are A, a wait is C.
 #[cycle(statements)]
-fn statement(
-    rows: &[u16; row::ROWS],
-    places: &[u16; limit::TEXT],
-    n: usize,
-    at: usize,
-    end: usize,
-) -> Summary
+fn statement(tree: &Tree, at: usize, end: usize) -> Summary
     requires { (at < end) × (end ≤ 512) }
-    ensures { StatementIs rows.now places.now n at end result }
+    ensures { StatementIs tree.now.rows.now tree.now.starts.now tree.now.shape.tokens at end result }
 {
-    let kind = number(rows, at, row::KIND);
-    if kind == kind::IF {
-        return if_statement(rows, places, n, at, end);
-    }
-    if kind == kind::WHILE {
-        return while_statement(rows, places, n, at, end);
-    }
-    if kind == kind::WAIT {
-        return Summary {
-            class: rules::C,
-            lowest: 0,
-        };
-    }
-    Summary {
-        class: rules::A,
-        lowest: 0,
+    match number(tree, at, row::KIND) {
+        kind::IF => if_statement(tree, at, end),
+        kind::WHILE => while_statement(tree, at, end),
+        kind::WAIT => Summary {
+            class: Some(Class::C),
+            lowest: None,
+        },
+        _ => Summary {
+            class: Some(Class::A),
+            lowest: None,
+        },
     }
 }
 
-// A block: the statements in sequence from one row up to another. A block of no statements is A.
+// A block: the statements in sequence from one row up to another. A block of no statements is A. The numbers of rows are brought into their range, so that the calls stay within
+// it whatever the array holds.
 #[cycle(statements)]
-pub(crate) fn block(
-    rows: &[u16; row::ROWS],
-    places: &[u16; limit::TEXT],
-    n: usize,
-    from: usize,
-    to: usize,
-) -> Summary
+pub(crate) fn block(tree: &Tree, from: usize, to: usize) -> Summary
     requires { (from ≤ to) × (to ≤ 512) }
-    ensures { BlockIs rows.now places.now n from to result }
+    ensures { BlockIs tree.now.rows.now tree.now.starts.now tree.now.shape.tokens from to result }
 {
     let mut at = from;
-    let mut class: u8 = rules::A;
-    let mut lowest: usize = 0;
+    let mut class = Some(Class::A);
+    let mut lowest = None;
     while at < to {
-        let end = clamp(number(rows, at, row::END), at + 1, to);
-        let s = statement(rows, places, n, at, end);
+        let end = number(tree, at, row::END).clamp(at + 1, to);
+        let s = statement(tree, at, end);
         class = rules::sequence_class(class, s.class);
         lowest = lower(lowest, s.lowest);
         at = end;

@@ -5,6 +5,8 @@ use mathlib.Core.Option.{Option, none, some}
 use mathlib.Core.List.{List, [], ◌++◌}
 use Prim.Native.Nat.{ℕ, ◌+◌, ◌*◌, ◌≤◌, ◌<◌, min}
 use native.Mathlib.Omega.{arith}
+use Rattle.std.specs.Prelude.{None, Some}
+use Rattle.std.specs.Prelude as P
 use borrow.Author.Tests.{lt-ltb, le-ltb, eqb-true}
 use lib.Dec.{eqb, ltb}
 use lib.ListN.{get_or}
@@ -99,12 +101,12 @@ for_parts Δ l w ok e =
     rw e (lowest_append (unless ok w.place) (each (strays w.value) l ++ cond ok (each (reads_of w.value) l) [])
     ∙ ap (lower (lowest_of (unless ok w.place))) (lowest_append (each (strays w.value) l) (cond ok (each (reads_of w.value) l) [])))
 
-parts_same : (ok : Bool) (p S : ℕ) (l : List ℕ) (p' S' R : ℕ) → p ≡ p' → S ≡ S' → lowest_of l ≡ R
-    → lower (lowest_of (unless ok p)) (lower S (lowest_of (cond ok l []))) ≡ choose ok (lower S' R) (lower (p' + 1) S')
-unfolding unless L.number lowest lower
-parts_same true p S l p' S' R e f g = ap (λ (a : ℕ). lower a (lowest_of l)) f ∙ ap (lower S') g
+parts_same : (ok : Bool) (p : ℕ) (S : P.Option ℕ) (l : List ℕ) (p' : ℕ) (S' R : P.Option ℕ) → p ≡ p' → S ≡ S' → lowest_of l ≡ R
+    → lower (lowest_of (unless ok p)) (lower S (lowest_of (cond ok l []))) ≡ choose ok (lower S' R) (lower (Some p') S')
+unfolding unless L.option_of lowest lower
+parts_same true p S l p' S' R e f g = ap (λ (a : P.Option ℕ). lower a (lowest_of l)) f ∙ ap (lower S') g
 parts_same false p S l p' S' R e f g =
-    ap (λ (a : ℕ). lower a (lower S 0)) (lowest_unless false p refl ∙ ap (λ (a : ℕ). a + 1) e) ∙ ap (lower (p' + 1)) (lower_none S ∙ f)
+    ap (λ (a : P.Option ℕ). lower a (lower S None)) (lowest_unless false p refl ∙ ap Some e) ∙ ap (lower (Some p')) (lower_none S ∙ f)
 
 module _ (ts : List Token) (t : Text) (kinds places : List ℕ) (n : ℕ) (codes indices : List ℕ) (k : ℕ) (rows : List ℕ) (s : ℕ) (decls : List ℕ) (d : ℕ)
     (owners : List ℕ)
@@ -123,12 +125,12 @@ module _ (ts : List Token) (t : Text) (kinds places : List ℕ) (n : ℕ) (codes
 
     stray_is : (j : ℕ) → NamedRow (get_or rows (6 * j) 0) (token_at ts (get_or rows (6 * j + 1) 0))
         → stray_at rows places owners n (position (declared t) v) j ≡ lowest_of (stray_rule v (get_or rows (6 * j) 0) (token_at ts (get_or rows (6 * j + 1) 0)))
-    unfolding stray_at stray_rule has_name L.number lowest
+    unfolding stray_at stray_rule has_name L.option_of lowest
     stray_is j h = go (eqb (get_or rows (6 * j) 0) 0) refl
       where
         go : (b : Bool) → eqb (get_or rows (6 * j) 0) 0 ≡ b
             → choose b (lowest_of (unless (eqb (number_in owners n (get_or rows (6 * j + 1) 0)) (position (declared t) v))
-            (number_in places n (get_or rows (6 * j + 1) 0)))) 0
+            (number_in places n (get_or rows (6 * j + 1) 0)))) None
             ≡ lowest_of (choose b (unless (eqb (token_at ts (get_or rows (6 * j + 1) 0)).value v) (token_at ts (get_or rows (6 * j + 1) 0)).place) [])
         go true q =
             let z = eqb-true (get_or rows (6 * j) 0) 0 q in
@@ -144,11 +146,11 @@ module _ (ts : List Token) (t : Text) (kinds places : List ℕ) (n : ℕ) (codes
 
     read_is : (j : ℕ) → NamedItem (get_or codes j 0) (token_at ts (get_or indices j 0))
         → read_at codes indices places owners n (position (declared t) v) j ≡ lowest_of (of_item (read_rule v) (get_or codes j 0) (token_at ts (get_or indices j 0)))
-    unfolding read_at read_rule L.number lowest
+    unfolding read_at read_rule L.option_of lowest
     read_is j h = go (eqb (get_or codes j 0) I.NAME) refl
       where
         go : (b : Bool) → eqb (get_or codes j 0) I.NAME ≡ b
-            → choose b (lowest_of (unless (not (eqb (number_in owners n (get_or indices j 0)) (position (declared t) v))) (number_in places n (get_or indices j 0)))) 0
+            → choose b (lowest_of (unless (not (eqb (number_in owners n (get_or indices j 0)) (position (declared t) v))) (number_in places n (get_or indices j 0)))) None
             ≡ lowest_of (choose b (unless (not (eqb (token_at ts (get_or indices j 0)).value v)) (token_at ts (get_or indices j 0)).place) [])
         go true q =
             ap (λ (b : Bool). lowest_of (unless (not b) (number_in places n (get_or indices j 0))))
@@ -207,7 +209,7 @@ module _ (ts : List Token) (t : Text) (kinds places : List ℕ) (n : ℕ) (codes
       go : (o : ℕ) → o ≡ position (declared t) x.value → (p : ℕ) → p ≡ x.place → (ok : Bool) → is_a clock_like (find (declared t) x.value) ≡ ok
           → lowest_of (clock_for (declared t) (statements t.body) (some x))
           ≡ choose (is_clock_in decls d o) (lower (strays_in rows s places owners n o) (reads_in codes indices k places owners n o))
-          (lower (p + 1) (strays_in rows s places owners n o))
+          (lower (Some p) (strays_in rows s places owners n o))
       go o w p v ok c =
           for_parts (declared t) (statements t.body) x ok c
           ∙ (parts_same ok x.place (lowest_of (each (strays x.value) (statements t.body))) (each (reads_of x.value) (statements t.body))
@@ -215,11 +217,11 @@ module _ (ts : List Token) (t : Text) (kinds places : List ℕ) (n : ℕ) (codes
           (sym (ap (strays_in rows s places owners n) w ∙ strays_are x.value y f))
           (sym (ap (reads_in codes indices k places owners n) w ∙ reads_are x.value y f))
           ∙ ap (λ (b : Bool). choose b (lower (strays_in rows s places owners n o) (reads_in codes indices k places owners n o))
-          (lower (p + 1) (strays_in rows s places owners n o)))
+          (lower (Some p) (strays_in rows s places owners n o)))
           (sym (ap (is_clock_in decls d) w ∙ (clock_is x.value ∙ c))))
 
   lowest_none : n ≤ wait_in rows s → lowest_over places n codes indices k rows s decls d owners ≡ lowest_of (clock_for (declared t) (statements t.body) none)
-  unfolding lowest_over clock_for L.number lowest
+  unfolding lowest_over clock_for L.option_of lowest
   lowest_none h = sym (passed (ltb (wait_in rows s) n) _ _ _ (le-ltb (wait_in rows s) n h) refl)
 
   lowest_is : names t ≡ [] → lowest_over places n codes indices k rows s decls d owners ≡ lowest_of (clock t)

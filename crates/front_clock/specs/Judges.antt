@@ -1,5 +1,6 @@
 -- What the stage of the clock answers, on any arrays and on those of a tree. Assumes nothing.
 use Rattle.std.specs.Prelude.{◌≡◌, List, [], ℕ}
+use Rattle.std.specs.Prelude as P
 use Rattle.std.proofs.Math.Option.{Option, none, some}
 use Rattle.base_codes.specs.Limit as L
 use Rattle.spec_grammar.specs.Token.{Token}
@@ -8,8 +9,8 @@ use Rattle.spec_language.specs.Declarations.{Decl, declared, clock_of}
 use Rattle.spec_language.specs.Elaboration.{position}
 use Rattle.spec_language.specs.Names.{names}
 use Rattle.spec_language.specs.Clock.{clock}
-use Rattle.front_offences.specs.declared.Finding.{Finding}
 use Rattle.front_offences.specs.declared.Shape.{Shape}
+use Rattle.front_offences.specs.declared.tree.Tree.{Tree}
 use Rattle.front_offences.specs.Laid.{Laid}
 use Rattle.front_offences.specs.Judged.{LaidIn, Judged}
 use Rattle.front_clock.specs.Positions.{owner_in, lowest_in}
@@ -22,9 +23,9 @@ pub record Held (starts : List ℕ) (p : Shape) (codes indices rows decls owners
   pub named : names t ≡ []
 
 -- the stage's answer: the lowest place by position; and for such a tree the lowest offence of refusal 8
-abbrev pub Judges : List ℕ → Shape → List ℕ → List ℕ → List ℕ → List ℕ → List ℕ → Finding → Type 0
-Judges starts p codes indices rows decls owners r = Judged (lowest_in starts p codes indices rows decls owners)
-    (Held starts p codes indices rows decls owners) clock r
+abbrev pub Judges : Tree → P.Option ℕ → Type 0
+Judges tree r = Judged (lowest_in tree.starts.now tree.shape tree.codes.now tree.indices.now tree.rows.now tree.decls.now tree.owners.now)
+    (Held tree.starts.now tree.shape tree.codes.now tree.indices.now tree.rows.now tree.decls.now tree.owners.now) clock r
 
 -- the number of the declaration of the clock's name; 65 without a wait
 unfoldable pub owner_of : List Decl → Option Token → ℕ

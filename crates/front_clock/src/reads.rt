@@ -3,46 +3,25 @@ ghost use Rattle.std.specs.Prelude.{◌≡◌, ◌<◌};
 ghost use Rattle.front_clock.specs.Positions.{read_at, reads_in};
 
 use base_codes::{item, limit};
+use front_offences::Tree;
 
 // An item that is a name and stands for o.
-fn read_at(
-    codes: &[u8; limit::TEXT],
-    indices: &[u16; limit::TEXT],
-    places: &[u16; limit::TEXT],
-    owners: &[u8; limit::TEXT],
-    n: usize,
-    o: usize,
-    j: usize,
-) -> usize
+fn read_at(tree: &Tree, o: usize, j: usize) -> Option<usize>
     requires { j < 16384 }
-    ensures { result ≡ read_at codes.now indices.now places.now owners.now n o j }
+    ensures { result ≡ read_at tree.now.codes.now tree.now.indices.now tree.now.starts.now tree.now.owners.now tree.now.shape.tokens o j }
 {
-    if codes[j] != item::NAME {
-        return 0;
+    if tree.codes[j] != item::NAME {
+        return None;
     }
-    let i = front_offences::wide(indices[j]);
-    let other = front_offences::owner_at(owners, n, i) != o;
-    front_offences::offence(other, front_offences::place_at(places, n, i))
+    let i = usize::from(tree.indices[j]);
+    front_offences::offence(tree.owner(i) != o, tree.place(i))
 }
 
 // The lowest of those.
-pub(crate) fn reads(
-    codes: &[u8; limit::TEXT],
-    indices: &[u16; limit::TEXT],
-    k: usize,
-    places: &[u16; limit::TEXT],
-    owners: &[u8; limit::TEXT],
-    n: usize,
-    o: usize,
-) -> usize
-    ensures { result ≡ reads_in codes.now indices.now k places.now owners.now n o }
+pub(crate) fn reads(tree: &Tree, o: usize) -> Option<usize>
+    ensures { result ≡ reads_in tree.now.codes.now tree.now.indices.now tree.now.shape.items
+        tree.now.starts.now tree.now.owners.now tree.now.shape.tokens o }
 {
-    let end = front_offences::at_most(k, limit::TEXT);
-    let mut low = 0;
-    let mut j = 0;
-    while j < end {
-        low = front_offences::lower(low, read_at(codes, indices, places, owners, n, o, j));
-        j += 1;
-    }
-    low
+    let end = tree.shape.items.min(limit::TEXT);
+    front_offences::lowest_below(end, |j| read_at(tree, o, j))
 }

@@ -3,10 +3,9 @@ use mathlib.Core.Path.{◌≡◌}
 use mathlib.Core.Bool.{Bool, true, false}
 use Prim.Native.Nat.{◌≤◌, ◌<◌}
 use borrow.Author.Tests.{le-leb, lt-leb, eq-eqb, ne_eqb}
-use Rattle.front_cursor.specs.declared.Cursor.{Cursor}
-use Rattle.front_cursor.specs.Reading.{refuse, step, step_item, item_at, expect_at}
+use Rattle.front_cursor.specs.Reading.{Read, refuse, step, step_item, item_at, expect_at}
 
-module _ (q : Cursor) where
+module _ (q : Read) where
   pub item_stays : (b : Bool) → (q.fault ≡ 0 → ⊥) → q ≡ item_at b q
   unfolding item_at
   item_stays b f = rw (ne_eqb q.fault 0 f)

@@ -20,9 +20,10 @@ use Rattle.spec_grammar.specs.Reader.{choose, elem, first, compose, take, no_rul
 use Rattle.spec_grammar.proofs.Steps.{Ok}
 use Rattle.spec_grammar.proofs.Trees.{nil_cons, cons_head}
 use Rattle.spec_grammar.proofs.Laws.{by_rule_lem, taken, not_taken, missing, left_out, run_stuck}
-use Rattle.front_cursor.specs.declared.Cursor.{Cursor}
 use Rattle.front_layout.specs.Tokens.{token_at, no_token, alone, kind_in, flag_in, Holds}
-use Rattle.front_cursor.specs.Reading.{meter, ending, from, Fine, Asks, Moves, refuse, step, step_item, item_at, expect_at, expect_one, follows_at}
+use Rattle.front_cursor.specs.declared.Unread.{Unread}
+use Rattle.front_cursor.specs.declared.Unread.TheVariants.{NoSentence, LimitPassed}
+use Rattle.front_cursor.specs.Reading.{Read, unread, meter, ending, from, Fine, Asks, Moves, refuse, step, step_item, item_at, expect_at, expect_one, follows_at}
 use Rattle.front_cursor.proofs.Measures.{three, or_true}
 use Rattle.front_cursor.proofs.Arms.{item_stays, item_long, item_full, item_taken, expect_stays, expect_writtenot, expect_long, expect_taken}
 
@@ -111,19 +112,19 @@ unfolding ending
 ending_goes S k ts o e = rw e
 
 -- what has refused stays so, whatever is still to come
-pub from_stays : (ts : List Token) (S : NonTerminal) (s l s' l' : ℕ) (h h' : InHeading) (q r : Cursor) (d d' : ℕ) (γ δ : List Sym) (κ : Fun γ (Says S))
+pub from_stays : (ts : List Token) (S : NonTerminal) (s l s' l' : ℕ) (h h' : InHeading) (q r : Read) (d d' : ℕ) (γ δ : List Sym) (κ : Fun γ (Says S))
     (κ' : Fun δ (Says S))
     → (q.fault ≡ 0 → ⊥) → q.fault ≡ r.fault → q.at ≡ r.at → from ts S s l h q d γ κ ≡ from ts S s' l' h' r d' δ κ'
 unfolding from ending
 from_stays ts S s l s' l' h h' q r d d' γ δ κ κ' f e a = rw (sym e, sym a, ne_eqb q.fault 0 f)
 
 -- the number of items written is no part of it
-pub from_same : (ts : List Token) (S : NonTerminal) (s l : ℕ) (h : InHeading) (q r : Cursor) (d : ℕ) (γ : List Sym) (κ : Fun γ (Says S)) → q.fault ≡ r.fault
+pub from_same : (ts : List Token) (S : NonTerminal) (s l : ℕ) (h : InHeading) (q r : Read) (d : ℕ) (γ : List Sym) (κ : Fun γ (Says S)) → q.fault ≡ r.fault
     → q.at ≡ r.at → q.items ≡ r.items → from ts S s l h q d γ κ ≡ from ts S s l h r d γ κ
 unfolding from
 from_same ts S s l h q r d γ κ e a i = rw (e, a, i)
 
-module _ (ts : List Token) (S : NonTerminal) (s l : ℕ) (h : InHeading) (q : Cursor) (d : ℕ) where
+module _ (ts : List Token) (S : NonTerminal) (s l : ℕ) (h : InHeading) (q : Read) (d : ℕ) where
   cut : q.at < length ts → drop q.at ts ≡ token_at ts q.at ∷ drop (q.at + 1) ts
   cut i = rw (add-one, drop-cons ts q.at no_token)
 
@@ -185,7 +186,7 @@ module _ (ts : List Token) (S : NonTerminal) (s l : ℕ) (h : InHeading) (q : Cu
       ∙ ap (λ (b : Bool). keep (token_at ts q.at ∷ drop (q.at + 1) ts) b
       (run over (drop (q.at + 1) ts) S (tick (meter q.items d s l h) m (token_at ts q.at)) γ (κ (token_at ts q.at)))) o)
 
-  pub token_taken : (m : Mark) (k : ℕ) (γ : List Sym) (κ : Token → Fun γ (Says S)) (r : Cursor) (s' l' d' : ℕ) (h' : InHeading) → (token_at ts q.at).kind ≡ k
+  pub token_taken : (m : Mark) (k : ℕ) (γ : List Sym) (κ : Token → Fun γ (Says S)) (r : Read) (s' l' d' : ℕ) (h' : InHeading) → (token_at ts q.at).kind ≡ k
       → q.at < length ts → q.fault ≡ 0
       → over (tick (meter q.items d s l h) m (token_at ts q.at)) ≡ false
       → settle (tick (meter q.items d s l h) m (token_at ts q.at)) ≡ meter r.items d' s' l' h' → r.fault ≡ 0 → r.at ≡ q.at + 1
@@ -208,7 +209,7 @@ module _ (ts : List Token) (S : NonTerminal) (s l : ℕ) (h : InHeading) (q : Cu
       x : Token
       x = token_at ts q.at
 
-      To : Cursor → Type 0
+      To : Read → Type 0
       To r = from ts S s l h q d (tk item k ∷ γ) κ ≡ from ts S s l h r d γ (κ (token_at ts q.at))
 
       past : (i : ℕ) → 64 ≤ i → ltb 64 (suc i) ≡ true
@@ -239,7 +240,7 @@ module _ (ts : List Token) (S : NonTerminal) (s l : ℕ) (h : InHeading) (q : Cu
       x : Token
       x = token_at ts q.at
 
-      To : Cursor → Type 0
+      To : Read → Type 0
       To r = from ts S s l h q d (tk m k ∷ γ) κ ≡ from ts S s l' h r d' γ (κ (token_at ts q.at))
 
       inside : (token_at ts q.at).kind ≡ k → q.at < length ts
@@ -259,7 +260,7 @@ module _ (ts : List Token) (S : NonTerminal) (s l : ℕ) (h : InHeading) (q : Cu
           (token_taken m k γ κ (step q) s l' d' h e (inside e) (eqb-true q.fault 0 z) (o ∙ eb (inside e) ∙ bv) w (eqb-true q.fault 0 z) refl)
 
 -- How the steps move.
-pub item_moves : (n : ℕ) (q : Cursor) (b : Bool) → Asks n q → q.at < n → Moves n q (item_at b q)
+pub item_moves : (n : ℕ) (q : Read) (b : Bool) → Asks n q → q.at < n → Moves n q (item_at b q)
 unfolding item_at
 item_moves n q b a i = go (eqb q.fault 0) refl b (leb 64 q.items) refl
   where
@@ -271,7 +272,7 @@ item_moves n q b a i = go (eqb q.fault 0) refl b (leb 64 q.items) refl
     go true w false false e = let f = leb-false 64 q.items e in
         record { on = omega arith; inside = omega arith; room = omega arith; few = omega arith; began = λ z. eqb-true q.fault 0 w }
 
-pub expect_moves : (n : ℕ) (q : Cursor) (a b : Bool) → Asks n q → (a ≡ true → q.at < n) → Moves n q (expect_at a b q)
+pub expect_moves : (n : ℕ) (q : Read) (a b : Bool) → Asks n q → (a ≡ true → q.at < n) → Moves n q (expect_at a b q)
 unfolding expect_at
 expect_moves n q a b h i = go (eqb q.fault 0) refl a refl b
   where
@@ -286,7 +287,7 @@ expect_moves n q a b h i = go (eqb q.fault 0) refl a refl b
 abbrev pub Into : (M A : NonTerminal) (δ : List Sym) → Fun (nt A ∷ δ) (Says M) → ℕ → Type 0
 Into M A δ f k = (pick (productions M) k ≡ take (nt A ∷ δ ↠ f)) ⊎ ((pick (productions M) k ≡ no_rule) × (pick (productions A) k ≡ no_rule))
 
-module _ (ts : List Token) (S : NonTerminal) (s l : ℕ) (h : InHeading) (q : Cursor) (d : ℕ) where
+module _ (ts : List Token) (S : NonTerminal) (s l : ℕ) (h : InHeading) (q : Read) (d : ℕ) where
   pub into_at : (M A : NonTerminal) (δ : List Sym) (f : Fun (nt A ∷ δ) (Says M)) (γ : List Sym) (κ : Says M → Fun γ (Says S))
       → Into M A δ f (token_at ts q.at).kind
       → from ts S s l h q d (nt M ∷ γ) κ ≡ from ts S s l h q d (nt A ∷ (δ ++ γ)) (compose M S (nt A ∷ δ) γ f κ)
@@ -311,15 +312,31 @@ module _ (ts : List Token) (S : NonTerminal) (s l : ℕ) (h : InHeading) (q : Cu
           ∙ sym (run_stuck over S c A (δ ++ γ) κ' (token_at ts q.at) (drop (q.at + 1) ts) e.1)))
 
 -- a token that must be there is not written
-pub expect_written : (q : Cursor) (a b : Bool) → (expect_at a b q).written ≡ q.written
+pub expect_written : (q : Read) (a b : Bool) → (expect_at a b q).fault ≡ 0 → (expect_at a b q).written ≡ q.written
 unfolding expect_at
-expect_written q a b = go (eqb q.fault 0) a b
+expect_written q a b = go (eqb q.fault 0) refl a b
   where
-    go : (w u v : Bool) → (choose w (choose u (choose v (refuse 4 q) (step q)) (refuse 3 q)) q).written ≡ q.written
-    go false u v = refl
-    go true false v = refl
-    go true true true = refl
-    go true true false = refl
+    go : (w : Bool) → eqb q.fault 0 ≡ w → (u v : Bool) → (choose w (choose u (choose v (refuse 4 q) (step q)) (refuse 3 q)) q).fault ≡ 0
+        → (choose w (choose u (choose v (refuse 4 q) (step q)) (refuse 3 q)) q).written ≡ q.written
+    go false e u v f = refl
+    go true e false v f = absurd (let g : 3 ≡ 0 = f in omega arith)
+    go true e true true f = absurd (let g : 4 ≡ 0 = f in omega arith)
+    go true e true false f = refl
+
+pub expect_less : (q : Read) (a b : Bool) → (expect_at a b q).written ≤ q.written
+unfolding expect_at
+expect_less q a b = go (eqb q.fault 0) a b
+  where
+    go : (w u v : Bool) → (choose w (choose u (choose v (refuse 4 q) (step q)) (refuse 3 q)) q).written ≤ q.written
+    go false u v = omega arith
+    go true false v = omega arith
+    go true true true = omega arith
+    go true true false = omega arith
+
+-- a refusal does not go on
+pub unread_ends : (e : Unread) → (unread e).fault ≡ 0 → ⊥
+unread_ends (NoSentence at) f = let g : ◌≡◌ {A = ℕ} 3 0 = f in omega arith
+unread_ends (LimitPassed at) f = let g : ◌≡◌ {A = ℕ} 4 0 = f in omega arith
 
 -- the test whether a token of a kind follows
 pub follows_true : (f k j : ℕ) → follows_at f k j ≡ true → (f ≡ 0) × (k ≡ j)
@@ -335,15 +352,23 @@ unfolding follows_at
 follows_false f k j e z w = eqb-false k j (rw z at e) w
 
 -- one step after another
-pub asks_then : {n : ℕ} {q r : Cursor} → Asks n q → Moves n q r → Asks n r
+pub asks_then : {n : ℕ} {q r : Read} → Asks n q → Moves n q r → Asks n r
 asks_then a m = record { short = omega arith; inside = omega arith; room = omega arith; few = omega arith }
 
-pub moves_then : {n : ℕ} {q r s : Cursor} → Moves n q r → Moves n r s → Moves n q s
+pub moves_then : {n : ℕ} {q r s : Read} → Moves n q r → Moves n r s → Moves n q s
 moves_then u v = record { on = omega arith; inside = omega arith; room = omega arith; few = omega arith; began = λ z. u.began (v.began z) }
 
-pub one_moves : (kinds long : List ℕ) (n k : ℕ) (q : Cursor) → 0 < k → Asks n q → Moves n q (expect_one kinds long n k q)
+pub one_moves : (kinds long : List ℕ) (n k : ℕ) (q : Read) → 0 < k → Asks n q → Moves n q (expect_one kinds long n k q)
 one_moves kinds long n k q pos a = expect_moves n q (eqb (kind_in kinds n q.at) k) (flag_in long q.at) a
     (λ z. kind_inside kinds n q.at k (eqb-true (kind_in kinds n q.at) k z) pos)
 
-pub one_asks : (kinds long : List ℕ) {n : ℕ} (k : ℕ) {q r : Cursor} → 0 < k → Asks n q → r ≡ expect_one kinds long n k q → Asks n r
-one_asks kinds long {n} k {q} pos a e = subst (λ (v : Cursor). Asks n v) (sym e) (asks_then a (one_moves kinds long n k q pos a))
+pub one_asks : (kinds long : List ℕ) {n : ℕ} (k : ℕ) {q r : Read} → 0 < k → Asks n q → r ≡ expect_one kinds long n k q → Asks n r
+one_asks kinds long {n} k {q} pos a e = subst (λ (v : Read). Asks n v) (sym e) (asks_then a (one_moves kinds long n k q pos a))
+
+-- what has refused takes no token, and none follows
+pub expect_ended : (kinds long : List ℕ) (n k : ℕ) (e : Unread) → unread e ≡ expect_one kinds long n k (unread e)
+expect_ended kinds long n k e = expect_stays (unread e) (eqb (kind_in kinds n (unread e).at) k) (flag_in long (unread e).at) (unread_ends e)
+
+pub follows_ended : (e : Unread) (k j : ℕ) → follows_at (unread e).fault k j ≡ false
+unfolding follows_at
+follows_ended e k j = rw (ne_eqb (unread e).fault 0 (unread_ends e))

@@ -12,12 +12,11 @@ use Rattle.spec_grammar.specs.Grammar.{text, text_production}
 use Rattle.spec_grammar.specs.Meter.{InHeading}
 use Rattle.spec_grammar.specs.Acceptance.{accepted, no_sentence, past_limit}
 use Rattle.spec_grammar.specs.Reader.{run, at_end, after, advance, read_text, placed, answer}
-use Rattle.front_cursor.specs.declared.Cursor.{Cursor}
 use Rattle.front_layout.specs.Tokens.{no_token}
-use Rattle.front_cursor.specs.Reading.{ending, from}
+use Rattle.front_cursor.specs.Reading.{Read, ending, from}
 
 -- before the first token
-abbrev pub start : Cursor
+abbrev pub start : Read
 start = record { fault = 0; at = 0; items = 0; written = 0 }
 
 abbrev pub no_heading : InHeading
@@ -29,7 +28,7 @@ unfolding answer read_text from ending
 text_starts ts = refl
 
 -- nothing is still to come
-module _ (ts : List Token) (v : Text) (s l : ℕ) (h : InHeading) (r : Cursor) (d : ℕ) (inside : r.at ≤ length ts) where
+module _ (ts : List Token) (v : Text) (s l : ℕ) (h : InHeading) (r : Read) (d : ℕ) (inside : r.at ≤ length ts) where
   back : length ts - length (drop r.at ts) ≡ r.at
   back = let e = length-drop r.at ts in omega arith
 

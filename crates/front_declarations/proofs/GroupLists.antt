@@ -3,7 +3,7 @@ use mathlib.Core.Path.{◌≡◌, refl, sym, ◌∙◌, ap, subst}
 use mathlib.Core.Bool.{Bool, true, false}
 use mathlib.Core.Logic.{inl, inr}
 use mathlib.Core.List.{List, [], ◌∷◌, ◌++◌, append_assoc, append-nil}
-use Prim.Native.Nat.{ℕ, ◌+◌, ◌-◌, ◌≤◌, ◌<◌}
+use Prim.Native.Nat.{ℕ, ◌<◌}
 use native.Mathlib.Omega.{arith}
 use borrow.Author.Tests.{ne_eqb, eqb-true, eqb-false}
 use lib.Dec.{eqb}
@@ -16,15 +16,14 @@ use Rattle.spec_grammar.specs.Reader.{compose, elem, first, firsts, follow, null
 use Rattle.spec_grammar.proofs.Steps.{Ok, ok_rule_lem}
 use Rattle.spec_grammar.proofs.Tables.{inside_ok}
 use Rattle.front_layout.specs.Tokens.{token_at, kind_in, Holds}
-use Rattle.front_cursor.specs.Reading.{follows_at}
-use Rattle.front_cursor.proofs.Measures.{turn_falls}
-use Rattle.front_cursor.proofs.Steps.{kind_is, from_stays, rule_at, left_at, into_at, Into, follows_false}
-use Rattle.front_declarations.specs.declared.Header.{Header}
-use Rattle.front_declarations.specs.Headers.{heading_of, from_header, take_at, AsksHeader, MovesHeader}
+use Rattle.front_cursor.specs.declared.Unread.{Unread}
+use Rattle.front_cursor.specs.Reading.{unread}
+use Rattle.front_cursor.proofs.Steps.{unread_ends, kind_is, from_stays, rule_at, left_at, into_at, Into}
+use Rattle.front_declarations.specs.Headers.{HeaderRead, header_at, heading_of, from_header, take_at, AsksHeader, MovesHeader}
 use Rattle.front_layout.specs.Headings.{Heading, group_headings, groups_names, WroteNames}
 use Rattle.front_declarations.specs.Rows.{declared_by}
 use Rattle.front_declarations.specs.Readers.{AsksGroup, PortsOver, VariableOver, VariablesOver}
-use Rattle.front_declarations.proofs.Steps.{asks_header, moves_header, stay_header, took_plain}
+use Rattle.front_declarations.proofs.Steps.{halted, from_halted, asks_header, moves_header, stay_header, took_plain}
 use Rattle.front_declarations.proofs.Picks.{next_port_rule, pick_next_port}
 use Rattle.front_declarations.proofs.Values.{Kept, took_kept, inside_token}
 use Rattle.front_layout.proofs.NameRows.{names_wrote_none, names_wrote_then}
@@ -41,7 +40,7 @@ into_ports k = go (eqb k NAME) refl
     go false u = inr (rw u, rw u)
 
 -- The loop over ports: what comes after the first group has grown by those read.
-pub record PortsOn (ts : List Token) (p r : Header) (before after : List ℕ) : Type 0 where
+pub record PortsOn (ts : List Token) (p r : HeaderRead) (before after : List ℕ) : Type 0 where
   pub grow : List Group → List Group
   pub extra : List Heading
   pub grows : (gs : List Group) → groups_names (grow gs) ≡ extra ++ groups_names gs
@@ -49,12 +48,12 @@ pub record PortsOn (ts : List Token) (p r : Header) (before after : List ℕ) : 
       → from_header ts S false p (nt more_ports ∷ γ) φ ≡ from_header ts S false r (nt more_ports ∷ γ) (λ gs. φ (grow gs))
   pub wrote : r.cursor.fault ≡ 0 → WroteNames ts (declared_by p) (declared_by r) before after extra
 
-pub record PortsOnOver (kinds long : List ℕ) (n : ℕ) (p : Header) (before : List ℕ) (r : Header) (after : List ℕ) : Type 0 where
+pub record PortsOnOver (kinds long : List ℕ) (n : ℕ) (p : HeaderRead) (before : List ℕ) (r : HeaderRead) (after : List ℕ) : Type 0 where
   pub moves : MovesHeader n p r
   pub none : r.cursor.fault ≡ 0 → r.waiting ≡ 0
   pub reads : (ts : List Token) → Holds ts kinds long n → PortsOn ts p r before after
 
-pub ports_none : {kinds long : List ℕ} {n : ℕ} {p : Header} (l : List ℕ) → AsksGroup n p → PortsOnOver kinds long n p l p l
+pub ports_none : {kinds long : List ℕ} {n : ℕ} {p : HeaderRead} (l : List ℕ) → AsksGroup n p → PortsOnOver kinds long n p l p l
 ports_none {p = p} l a = record {
   moves = stay_header a.asks;
   none = a.none;
@@ -62,12 +61,12 @@ ports_none {p = p} l a = record {
 }
 
 -- after a token no name waits if none did before
-pub took_group : (kinds long : List ℕ) {n : ℕ} (k : ℕ) {p r : Header} → 0 < k → AsksGroup n p → r ≡ take_at kinds long n k p → AsksGroup n r
+pub took_group : (kinds long : List ℕ) {n : ℕ} (k : ℕ) {p r : HeaderRead} → 0 < k → AsksGroup n p → r ≡ take_at kinds long n k p → AsksGroup n r
 took_group kinds long k pos a e = let t = took_kept kinds long k pos a.asks e in
     record { asks = asks_header a.asks t.moves; none = λ z. t.waiting ∙ a.none (t.moves.began z) }
 
 -- a semicolon and a group more
-pub ports_again : {kinds long : List ℕ} {n : ℕ} {p a b r : Header} {before middle after : List ℕ} → AsksHeader n p → PortsOnOver kinds long n p before a middle
+pub ports_again : {kinds long : List ℕ} {n : ℕ} {p a b r : HeaderRead} {before middle after : List ℕ} → AsksHeader n p → PortsOnOver kinds long n p before a middle
     → kind_in kinds n a.cursor.at ≡ 7 → b ≡ take_at kinds long n 7 a → PortsOver port group_headings kinds long n b middle r after
     → PortsOnOver kinds long n p before r after
 unfolding compose productions groups_names
@@ -105,8 +104,8 @@ ports_again {kinds} {long} {n} {p} {a} {b} {r} {before} {middle} {after} asks u 
     same = let k = kb in omega arith
 
 -- the groups end where no semicolon stands, or where the reader has refused
-ports_end : {ts : List Token} {kinds long : List ℕ} {n : ℕ} (holds : Holds ts kinds long n) (r : Header)
-    → follows_at r.cursor.fault (kind_in kinds n r.cursor.at) 7 ≡ false → (S : NonTerminal) (γ : List Sym) (φ : List Group → Fun γ (Says S))
+ports_end : {ts : List Token} {kinds long : List ℕ} {n : ℕ} (holds : Holds ts kinds long n) (r : HeaderRead)
+    → (r.cursor.fault ≡ 0 → kind_in kinds n r.cursor.at ≡ 7 → ⊥) → (S : NonTerminal) (γ : List Sym) (φ : List Group → Fun γ (Says S))
     → Ok (nt more_ports ∷ γ)
     → from_header ts S false r (nt more_ports ∷ γ) φ ≡ from_header ts S false r γ (φ [])
 unfolding productions first elem
@@ -115,13 +114,13 @@ ports_end {ts} {kinds} {long} {n} holds r e S γ φ o = go (eqb r.cursor.fault 0
     go : (w : Bool) → eqb r.cursor.fault 0 ≡ w → from_header ts S false r (nt more_ports ∷ γ) φ ≡ from_header ts S false r γ (φ [])
     go true w = left_at ts S 0 1 (heading_of false r) r.cursor 0 more_ports γ φ o [] here
         (λ t. rw (ne_eqb (token_at ts r.cursor.at).kind 7
-        (λ z. follows_false r.cursor.fault (kind_in kinds n r.cursor.at) 7 e (eqb-true r.cursor.fault 0 w) (kind_is holds r.cursor.at ∙ z)))
+        (λ z. e (eqb-true r.cursor.fault 0 w) (kind_is holds r.cursor.at ∙ z)))
         at t)
     go false w = from_stays ts S 0 1 0 1 (heading_of false r) (heading_of false r) r.cursor r.cursor 0 0 (nt more_ports ∷ γ) γ φ (φ [])
         (eqb-false r.cursor.fault 0 w) refl refl
 
-pub ports_read : {kinds long : List ℕ} {n : ℕ} {p a r : Header} {before middle after : List ℕ} → PortsOver port group_headings kinds long n p before a middle
-    → PortsOnOver kinds long n a middle r after → follows_at r.cursor.fault (kind_in kinds n r.cursor.at) 7 ≡ false
+pub ports_read : {kinds long : List ℕ} {n : ℕ} {p a r : HeaderRead} {before middle after : List ℕ} → PortsOver port group_headings kinds long n p before a middle
+    → PortsOnOver kinds long n a middle r after → (r.cursor.fault ≡ 0 → kind_in kinds n r.cursor.at ≡ 7 → ⊥)
     → PortsOver ports groups_names kinds long n p before r after
 unfolding compose productions groups_names
 ports_read {kinds} {long} {n} {p} {a} {r} {before} {middle} {after} u v e = record {
@@ -148,7 +147,7 @@ ports_read {kinds} {long} {n} {p} {a} {r} {before} {middle} {after} u v e = reco
 }
 
 -- The loop over variables: the groups have grown by those read; the flag says whether there were any.
-pub record VariablesOn (ts : List Token) (p r : Header) (before after : List ℕ) : Type 0 where
+pub record VariablesOn (ts : List Token) (p r : HeaderRead) (before after : List ℕ) : Type 0 where
   pub flag : Bool
   pub grow : List Group → List Group
   pub extra : List Heading
@@ -157,11 +156,11 @@ pub record VariablesOn (ts : List Token) (p r : Header) (before after : List ℕ
       → from_header ts S false p (nt vars ∷ γ) φ ≡ from_header ts S flag r (nt vars ∷ γ) (λ gs. φ (grow gs))
   pub wrote : r.cursor.fault ≡ 0 → WroteNames ts (declared_by p) (declared_by r) before after extra
 
-pub record VariablesOnOver (kinds long : List ℕ) (n : ℕ) (p : Header) (before : List ℕ) (r : Header) (after : List ℕ) : Type 0 where
+pub record VariablesOnOver (kinds long : List ℕ) (n : ℕ) (p : HeaderRead) (before : List ℕ) (r : HeaderRead) (after : List ℕ) : Type 0 where
   pub moves : MovesHeader n p r
   pub reads : (ts : List Token) → Holds ts kinds long n → VariablesOn ts p r before after
 
-pub variables_none : {kinds long : List ℕ} {n : ℕ} {p : Header} (l : List ℕ) → AsksHeader n p → VariablesOnOver kinds long n p l p l
+pub variables_none : {kinds long : List ℕ} {n : ℕ} {p : HeaderRead} (l : List ℕ) → AsksHeader n p → VariablesOnOver kinds long n p l p l
 variables_none {p = p} l a = record {
   moves = stay_header a;
   reads = λ ts holds. record {
@@ -176,7 +175,7 @@ variables_none {p = p} l a = record {
 }
 
 -- a group more
-pub variables_again : {kinds long : List ℕ} {n : ℕ} {p a r : Header} {before middle after : List ℕ} → VariablesOnOver kinds long n p before a middle
+pub variables_again : {kinds long : List ℕ} {n : ℕ} {p a r : HeaderRead} {before middle after : List ℕ} → VariablesOnOver kinds long n p before a middle
     → VariableOver kinds long n a middle r after → VariablesOnOver kinds long n p before r after
 unfolding groups_names
 variables_again {kinds} {long} {n} {p} {a} {r} {before} {middle} {after} u v = record {
@@ -194,8 +193,8 @@ variables_again {kinds} {long} {n} {p} {a} {r} {before} {middle} {after} u v = r
       };
 }
 
-variables_end : {ts : List Token} {kinds long : List ℕ} {n : ℕ} (holds : Holds ts kinds long n) (r : Header)
-    → follows_at r.cursor.fault (kind_in kinds n r.cursor.at) 33 ≡ false → (S : NonTerminal) (b : Bool) (γ : List Sym) (φ : List Group → Fun γ (Says S))
+variables_end : {ts : List Token} {kinds long : List ℕ} {n : ℕ} (holds : Holds ts kinds long n) (r : HeaderRead)
+    → (r.cursor.fault ≡ 0 → kind_in kinds n r.cursor.at ≡ 33 → ⊥) → (S : NonTerminal) (b : Bool) (γ : List Sym) (φ : List Group → Fun γ (Says S))
     → Ok (nt vars ∷ γ)
     → from_header ts S b r (nt vars ∷ γ) φ ≡ from_header ts S b r γ (φ [])
 unfolding productions first elem
@@ -204,13 +203,13 @@ variables_end {ts} {kinds} {long} {n} holds r e S b γ φ o = go (eqb r.cursor.f
     go : (w : Bool) → eqb r.cursor.fault 0 ≡ w → from_header ts S b r (nt vars ∷ γ) φ ≡ from_header ts S b r γ (φ [])
     go true w = left_at ts S 0 1 (heading_of b r) r.cursor 0 vars γ φ o [] here
         (λ t. rw (ne_eqb (token_at ts r.cursor.at).kind 33
-        (λ z. follows_false r.cursor.fault (kind_in kinds n r.cursor.at) 33 e (eqb-true r.cursor.fault 0 w) (kind_is holds r.cursor.at ∙ z)))
+        (λ z. e (eqb-true r.cursor.fault 0 w) (kind_is holds r.cursor.at ∙ z)))
         at t)
     go false w = from_stays ts S 0 1 0 1 (heading_of b r) (heading_of b r) r.cursor r.cursor 0 0 (nt vars ∷ γ) γ φ (φ [])
         (eqb-false r.cursor.fault 0 w) refl refl
 
-pub variables_read : {kinds long : List ℕ} {n : ℕ} {p r : Header} {before after : List ℕ} → VariablesOnOver kinds long n p before r after
-    → follows_at r.cursor.fault (kind_in kinds n r.cursor.at) 33 ≡ false → VariablesOver kinds long n p before r after
+pub variables_read : {kinds long : List ℕ} {n : ℕ} {p r : HeaderRead} {before after : List ℕ} → VariablesOnOver kinds long n p before r after
+    → (r.cursor.fault ≡ 0 → kind_in kinds n r.cursor.at ≡ 33 → ⊥) → VariablesOver kinds long n p before r after
 unfolding groups_names
 variables_read {kinds} {long} {n} {p} {r} {before} {after} u e = record {
   moves = u.moves;
@@ -227,8 +226,21 @@ variables_read {kinds} {long} {n} {p} {r} {before} {after} u e = record {
       };
 }
 
--- a turn brings a loop nearer to its end
-pub group_falls : (n : ℕ) (a b r : Header) → a.cursor.at ≤ n → a.cursor.fault ≡ 0 → MovesHeader n a b → MovesHeader n b r
-    → (r.cursor.fault ≡ 0 → b.cursor.at < r.cursor.at) → (n - r.cursor.at) + (1 - r.cursor.fault) < (n - a.cursor.at) + (1 - a.cursor.fault)
-group_falls n a b r i z m v f = turn_falls n a.cursor.at r.cursor.at a.cursor.fault r.cursor.fault v.inside z
-    (let x = m.on in let y = v.on in omega arith) (λ w. let g = f w in let x = m.on in omega arith)
+-- groups that were refused, whatever the counts are
+pub variables_halted : {kinds long : List ℕ} {n : ℕ} {p : HeaderRead} {before after : List ℕ} (a : HeaderRead) (e : Unread)
+    → AsksHeader n p
+    → VariablesOver kinds long n p before (header_at (unread e) a) after → VariablesOver kinds long n p before (header_at (unread e) p) after
+variables_halted {p = p} a e asks v = record {
+  moves = halted a e asks v.moves;
+  reads = λ ts holds.
+      let x = v.reads ts holds in
+      let y = x.reads in
+      record {
+        flag = x.flag;
+        reads = record {
+          value = y.value;
+          goes = λ S γ κ o. y.goes S γ κ o ∙ from_halted ts S x.flag e a p γ (κ y.value);
+          wrote = λ z. absurd (unread_ends e z);
+        };
+      };
+}

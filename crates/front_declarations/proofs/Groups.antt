@@ -10,23 +10,22 @@ use lib.Dec.{eqb}
 use lib.ListN.{length}
 use Rattle.spec_grammar.specs.Token.{Token}
 use Rattle.base_codes.specs.Token.{NAME, SEMI, COLON, VARIABLE}
-use Rattle.spec_grammar.specs.Tree.{Mode, variable_mode}
+use Rattle.spec_grammar.specs.Tree.{Group, Mode, variable_mode, without}
 use Rattle.spec_grammar.specs.Grammar.{NonTerminal, port, names, mode, type, init, vars, Says, variables, Sym, tk, nt, tok, Fun, Production, productions, ◌↠◌}
 use Rattle.spec_grammar.specs.Meter.{tick, over}
 use Rattle.spec_grammar.specs.Derivation.{here, there}
 use Rattle.spec_grammar.specs.Reader.{choose, compose, elem, first, firsts, follow, nullable, nullables, chosen, pick}
 use Rattle.spec_grammar.proofs.Steps.{Ok, ok_rule_lem}
 use Rattle.spec_grammar.proofs.Tables.{inside_ok}
-use Rattle.front_cursor.specs.declared.Cursor.{Cursor}
-use Rattle.front_layout.specs.Tokens.{token_at, alone, kind_in, flag_in, Holds}
-use Rattle.front_cursor.specs.Reading.{meter, refuse, step, expect_at}
-use Rattle.front_cursor.proofs.Steps.{kind_is, kind_inside, rule_at, into_at, Into, token_over, token_taken}
-use Rattle.front_declarations.specs.declared.Header.{Header}
-use Rattle.front_declarations.specs.Headers.{heading_of, header_at, from_header, take_at, variable_at, mode_at, tail_at, AsksHeader, MovesHeader}
-use Rattle.front_layout.specs.Headings.{mode_code, group_headings}
+use Rattle.front_layout.specs.Tokens.{token_at, no_token, alone, kind_in, flag_in, Holds}
+use Rattle.front_cursor.specs.declared.Unread.{Unread}
+use Rattle.front_cursor.specs.Reading.{Read, unread, meter, refuse, step, expect_at}
+use Rattle.front_cursor.proofs.Steps.{unread_ends, from_stays, kind_is, kind_inside, rule_at, into_at, Into, token_over, token_taken}
+use Rattle.front_declarations.specs.Headers.{HeaderRead, heading_of, header_at, from_header, take_at, variable_at, mode_at, tail_at, AsksHeader, MovesHeader}
+use Rattle.front_layout.specs.Headings.{Heading, mode_code, group_headings}
 use Rattle.front_declarations.specs.Rows.{mode_of, declared_by, store_group}
 use Rattle.front_declarations.specs.Readers.{NamesOver, AsksGroup, PortsOver, VariableOver}
-use Rattle.front_declarations.proofs.Steps.{asks_header, moves_header, took_one, took_moves, took_plain}
+use Rattle.front_declarations.proofs.Steps.{halted, from_halted, stay_header, asks_header, moves_header, took_one, took_moves, took_plain}
 use Rattle.front_declarations.proofs.Picks.{variable_rule, pick_variable}
 use Rattle.front_declarations.proofs.Values.{Kept, took_kept, Moded, mode_moves, mode_at_lem, mode_from, tail_moves, tail_at_lem, init_from, inside_token}
 use Rattle.front_declarations.proofs.RowLists.{group_wrote}
@@ -52,7 +51,7 @@ mode_number {ts} holds at = rw (kind_is holds at) (go (eqb (token_at ts at).kind
     go true = refl
     go false = refl
 
-pub port_read : {kinds long : List ℕ} {n : ℕ} {p a b c e : Header} {before after : List ℕ} → AsksGroup n p → NamesOver kinds long n p false a
+pub port_read : {kinds long : List ℕ} {n : ℕ} {p a b c e : HeaderRead} {before after : List ℕ} → AsksGroup n p → NamesOver kinds long n p false a
     → b ≡ take_at kinds long n 8 a → c ≡ mode_at (kind_in kinds n b.cursor.at) b → e ≡ header_at (tail_at kinds long n c.cursor) c
     → (e.cursor.fault ≡ 0 → after ≡ store_group kinds n p e p.cursor.at (mode_of (kind_in kinds n b.cursor.at)) c.cursor.at before)
     → PortsOver port group_headings kinds long n p before e after
@@ -110,7 +109,7 @@ port_read {kinds} {long} {n} {p} {a} {b} {c} {e} {before} {after} asks na eb ec 
     later = moves_header mc.moves ke.moves
 
 -- The word `variable`: from here on names are variables.
-over_variables : {n : ℕ} {p : Header} (b : Bool) → AsksHeader n p → (x : Token)
+over_variables : {n : ℕ} {p : HeaderRead} (b : Bool) → AsksHeader n p → (x : Token)
     → over (tick (meter p.cursor.items 0 0 1 (heading_of b p)) variables x) ≡ alone x
 unfolding over tick alone
 over_variables {p = p} b a x = rw (
@@ -121,10 +120,10 @@ over_variables {p = p} b a x = rw (
       p.vars a.vars,
 )
 
-abbrev zeroed : Cursor → Header → Header
+abbrev pub zeroed : Read → HeaderRead → HeaderRead
 zeroed q p = record { cursor = q; waiting = 0; inputs = p.inputs; outputs = p.outputs; vars = p.vars }
 
-variable_word : {ts : List Token} {kinds long : List ℕ} {n : ℕ} → Holds ts kinds long n → {p r : Header} → AsksHeader n p → p.cursor.fault ≡ 0
+variable_word : {ts : List Token} {kinds long : List ℕ} {n : ℕ} → Holds ts kinds long n → {p r : HeaderRead} → AsksHeader n p → p.cursor.fault ≡ 0
     → kind_in kinds n p.cursor.at ≡ 33 → r ≡ variable_at kinds long n p → (b : Bool) (S : NonTerminal) (γ : List Sym) (κ : Token → Fun γ (Says S))
     → from_header ts S b p (tk variables VARIABLE ∷ γ) κ ≡ from_header ts S true r γ (κ (token_at ts p.cursor.at))
 unfolding tick expect_at
@@ -144,10 +143,10 @@ variable_word {ts} {kinds} {long} {n} holds {p} {r} a z k e b S γ κ =
     flag : alone (token_at ts p.cursor.at) ≡ flag_in long p.cursor.at
     flag = sym (holds.flag p.cursor.at (kind_inside kinds n p.cursor.at 33 k (omega arith)))
 
-    To : Header → Type 0
+    To : HeaderRead → Type 0
     To v = from_header ts S b p (tk variables VARIABLE ∷ γ) κ ≡ from_header ts S true v γ (κ (token_at ts p.cursor.at))
 
-    after : Header
+    after : HeaderRead
     after = record { cursor = step p.cursor; waiting = 0; inputs = p.inputs; outputs = p.outputs; vars = p.vars }
 
     go : (u : Bool) → u ≡ true → (v : Bool) → v ≡ true → (w : Bool) → flag_in long p.cursor.at ≡ w
@@ -162,18 +161,19 @@ variable_word {ts} {kinds} {long} {n} holds {p} {r} a z k e b S γ κ =
         (over_variables b (a) x ∙ (flag ∙ ew)) refl z refl)
 
 -- how it moves
-pub record Started (n : ℕ) (p r : Header) : Type 0 where
+pub record Started (n : ℕ) (p r : HeaderRead) : Type 0 where
   pub moves : MovesHeader n p r
   pub one : r.cursor.fault ≡ 0 → r.cursor.at ≡ p.cursor.at + 1
   pub total : declared_by r ≡ declared_by p
 
-pub variable_moves : (kinds long : List ℕ) {n : ℕ} {p r : Header} → AsksHeader n p → r ≡ variable_at kinds long n p → Started n p r
+pub variable_moves : (kinds long : List ℕ) {n : ℕ} {p r : HeaderRead} → AsksHeader n p → r ≡ variable_at kinds long n p → Started n p r
 variable_moves kinds long {n} {p} a e =
     rw e (let m = took_moves kinds long 33 (omega arith) a refl in record {
       moves = record {
         on = m.on;
         inside = m.inside;
         few = m.few;
+        less = m.less;
         wrote = m.wrote;
         waiting = omega arith;
         inputs = a.inputs;
@@ -185,7 +185,7 @@ variable_moves kinds long {n} {p} a e =
       total = refl;
     })
 
-pub variable_read : {kinds long : List ℕ} {n : ℕ} {p a b c d e : Header} {before after : List ℕ} → AsksHeader n p → p.cursor.fault ≡ 0
+pub variable_read : {kinds long : List ℕ} {n : ℕ} {p a b c d e : HeaderRead} {before after : List ℕ} → AsksHeader n p → p.cursor.fault ≡ 0
     → kind_in kinds n p.cursor.at ≡ 33 → a ≡ variable_at kinds long n p → NamesOver kinds long n a true b → c ≡ take_at kinds long n 8 b
     → d ≡ header_at (tail_at kinds long n c.cursor) c
     → e ≡ take_at kinds long n 7 d → (e.cursor.fault ≡ 0 → after ≡ store_group kinds n p e a.cursor.at 2 c.cursor.at before)
@@ -251,3 +251,63 @@ variable_read {kinds} {long} {n} {p} {a} {b} {c} {d} {e} {before} {after} asks z
 
     later : MovesHeader n a e
     later = moves_header nb.moves rest
+
+-- groups that were refused, whatever the counts are
+pub ports_halted : {M : NonTerminal} {flat : Says M → List Heading} {kinds long : List ℕ} {n : ℕ} {p : HeaderRead} {before after : List ℕ} (a : HeaderRead) (e : Unread)
+    → AsksHeader n p → PortsOver M flat kinds long n p before (header_at (unread e) a) after
+    → PortsOver M flat kinds long n p before (header_at (unread e) p) after
+ports_halted {p = p} a e asks v = record {
+  moves = halted a e asks v.moves;
+  further = λ z. absurd (unread_ends e z);
+  none = λ z. absurd (unread_ends e z);
+  reads = λ ts holds.
+      let x = v.reads ts holds in
+      record {
+        value = x.value;
+        goes = λ S γ κ o. x.goes S γ κ o ∙ from_halted ts S false e a p γ (κ x.value);
+        wrote = λ z. absurd (unread_ends e z);
+      };
+}
+
+pub variable_halted : {kinds long : List ℕ} {n : ℕ} {p : HeaderRead} {before after : List ℕ} (a : HeaderRead) (e : Unread)
+    → AsksHeader n p
+    → VariableOver kinds long n p before (header_at (unread e) a) after → VariableOver kinds long n p before (header_at (unread e) p) after
+variable_halted {p = p} a e asks v = record {
+  moves = halted a e asks v.moves;
+  further = λ z. absurd (unread_ends e z);
+  reads = λ ts holds.
+      let x = v.reads ts holds in
+      record {
+        value = x.value;
+        goes = λ b S γ κ o. x.goes b S γ κ o ∙ from_halted ts S true e a p (nt vars ∷ γ) (λ gs. κ (x.value ∷ gs));
+        wrote = λ z. absurd (unread_ends e z);
+      };
+}
+
+-- A group that was refused.
+pub port_refused : {kinds long : List ℕ} {n : ℕ} {p a b c : HeaderRead} {before : List ℕ} (e : Unread) (x : HeaderRead) → AsksGroup n p
+    → NamesOver kinds long n p false a → b ≡ take_at kinds long n 8 a → c ≡ mode_at (kind_in kinds n b.cursor.at) b
+    → header_at (unread e) x ≡ header_at (tail_at kinds long n c.cursor) c
+    → PortsOver port group_headings kinds long n p before (header_at (unread e) p) before
+port_refused e x asks na eb ec ee = ports_halted x e asks.asks (port_read asks na eb ec ee (λ z. absurd (unread_ends e z)))
+
+pub port_ended : {kinds long : List ℕ} {n : ℕ} {p : HeaderRead} (l : List ℕ) → AsksGroup n p → (p.cursor.fault ≡ 0 → ⊥)
+    → PortsOver port group_headings kinds long n p l p l
+port_ended {p = p} l a f = record {
+  moves = stay_header a.asks;
+  further = λ z. absurd (f z);
+  none = λ z. absurd (f z);
+  reads = λ ts holds.
+      let v : Group = record { names = []; mode = variable_mode; type = no_token; init = without } in
+      record {
+        value = v;
+        goes = λ S γ κ o. from_stays ts S 0 1 0 1 (heading_of false p) (heading_of false p) p.cursor p.cursor 0 0 (nt port ∷ γ) γ κ (κ v) f refl refl;
+        wrote = λ z. absurd (f z);
+      };
+}
+
+pub variable_refused : {kinds long : List ℕ} {n : ℕ} {p a b c d : HeaderRead} {before : List ℕ} (e : Unread) (x : HeaderRead) → AsksHeader n p
+    → p.cursor.fault ≡ 0 → kind_in kinds n p.cursor.at ≡ 33 → a ≡ variable_at kinds long n p → NamesOver kinds long n a true b
+    → c ≡ take_at kinds long n 8 b → d ≡ header_at (tail_at kinds long n c.cursor) c → header_at (unread e) x ≡ take_at kinds long n 7 d
+    → VariableOver kinds long n p before (header_at (unread e) p) before
+variable_refused e x asks z k ea nb ec ed ee = variable_halted x e asks (variable_read asks z k ea nb ec ed ee (λ y. absurd (unread_ends e y)))

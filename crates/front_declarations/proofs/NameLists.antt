@@ -3,7 +3,7 @@ use mathlib.Core.Path.{◌≡◌, refl, sym, ◌∙◌, ap}
 use mathlib.Core.Bool.{Bool, true, false}
 use mathlib.Core.Logic.{inl, inr}
 use mathlib.Core.List.{List, [], ◌∷◌, ◌++◌, append_assoc, append-nil}
-use Prim.Native.Nat.{ℕ, zero, suc, ◌+◌, ◌-◌, ◌*◌, ◌≤◌, ◌<◌}
+use Prim.Native.Nat.{ℕ, zero, suc, ◌+◌, ◌*◌, ◌<◌}
 use native.Mathlib.Omega.{arith}
 use native.Mathlib.Numerals.{add-one}
 use borrow.Author.Tests.{ne_eqb, eqb-true, eqb-false}
@@ -16,14 +16,13 @@ use Rattle.spec_grammar.specs.Reader.{compose, elem, first, firsts, follow, null
 use Rattle.spec_grammar.proofs.Steps.{Ok, ok_rule_lem}
 use Rattle.spec_grammar.proofs.Tables.{inside_ok}
 use Rattle.front_layout.specs.Tokens.{token_at, kind_in, flag_in, Holds}
-use Rattle.front_cursor.specs.Reading.{follows_at}
-use Rattle.front_cursor.proofs.Measures.{turn_falls}
-use Rattle.front_cursor.proofs.Steps.{kind_is, kind_inside, from_stays, rule_at, left_at, follows_false}
-use Rattle.front_declarations.specs.declared.Header.{Header}
-use Rattle.front_declarations.specs.Headers.{heading_of, from_header, name_at, take_at, take_name, names_from, AsksHeader, MovesHeader, Grown}
+use Rattle.front_cursor.specs.declared.Unread.{Unread}
+use Rattle.front_cursor.specs.Reading.{unread}
+use Rattle.front_cursor.proofs.Steps.{unread_ends, kind_is, kind_inside, from_stays, rule_at, left_at}
+use Rattle.front_declarations.specs.Headers.{HeaderRead, header_at, heading_of, from_header, name_at, take_at, take_name, names_from, AsksHeader, MovesHeader, Grown}
 use Rattle.front_declarations.specs.Readers.{NamesOver}
 use Rattle.front_declarations.proofs.Steps.{asks_header, moves_header, stay_header, took_one, took_moves, took_plain, named, Named, name_moves}
-use Rattle.front_declarations.proofs.Steps.{grown_then, grown_none}
+use Rattle.front_declarations.proofs.Steps.{grown_then, grown_none, halted, from_halted}
 use Rattle.front_declarations.proofs.Picks.{Begins}
 use Rattle.front_declarations.proofs.Values.{into_token, took_kept}
 
@@ -50,7 +49,7 @@ unfolding productions
 ok_names γ o = ok_rule_lem names (tk declares NAME ∷ nt more_names ∷ []) γ (inside_ok {r = names_rule} here) o
 
 -- names begin with a name, or not at all
-into_names : (ts : List Token) (S : NonTerminal) (b : Bool) (p : Header) (γ : List Sym) (κ : List Token → Fun γ (Says S))
+into_names : (ts : List Token) (S : NonTerminal) (b : Bool) (p : HeaderRead) (γ : List Sym) (κ : List Token → Fun γ (Says S))
     → from_header ts S b p (nt names ∷ γ) κ ≡ from_header ts S b p (tk declares NAME ∷ nt more_names ∷ γ) (λ x ns. κ (x ∷ ns))
 unfolding compose
 into_names ts S b p γ κ = into_token ts S b p names declares NAME (nt more_names ∷ []) (λ x ns. x ∷ ns) γ κ (omega arith) (begins (eqb k NAME) refl)
@@ -73,7 +72,7 @@ names_snoc ts f (suc c) = ap (λ (l : List Token). token_at ts f ∷ l)
     (names_snoc ts (f + 2) c ∙ ap (λ (k : ℕ). names_from ts (f + 2) c ++ (token_at ts k ∷ [])) (omega arith))
 
 -- The loop: what comes after the first name has grown by those read.
-pub record NamesOn (ts : List Token) (b : Bool) (p r : Header) : Type 0 where
+pub record NamesOn (ts : List Token) (b : Bool) (p r : HeaderRead) : Type 0 where
   pub grow : List Token → List Token
   pub count : ℕ
   pub goes : (S : NonTerminal) (γ : List Sym) (φ : List Token → Fun γ (Says S)) → Ok (nt more_names ∷ γ)
@@ -82,11 +81,11 @@ pub record NamesOn (ts : List Token) (b : Bool) (p r : Header) : Type 0 where
   pub end : r.cursor.fault ≡ 0 → r.cursor.at ≡ p.cursor.at + 2 * count
   pub grown : r.cursor.fault ≡ 0 → Grown b p r count
 
-pub record NamesOnOver (kinds long : List ℕ) (n : ℕ) (p : Header) (b : Bool) (r : Header) : Type 0 where
+pub record NamesOnOver (kinds long : List ℕ) (n : ℕ) (p : HeaderRead) (b : Bool) (r : HeaderRead) : Type 0 where
   pub moves : MovesHeader n p r
   pub reads : (ts : List Token) → Holds ts kinds long n → NamesOn ts b p r
 
-pub names_none : {kinds long : List ℕ} {n : ℕ} {p : Header} {b : Bool} → AsksHeader n p → NamesOnOver kinds long n p b p
+pub names_none : {kinds long : List ℕ} {n : ℕ} {p : HeaderRead} {b : Bool} → AsksHeader n p → NamesOnOver kinds long n p b p
 unfolding names_from
 names_none {p = p} {b} a = record {
   moves = stay_header a;
@@ -94,7 +93,7 @@ names_none {p = p} {b} a = record {
 }
 
 -- a comma and a name more
-pub names_again : {kinds long : List ℕ} {n : ℕ} {p a c r : Header} {b : Bool} → AsksHeader n p → NamesOnOver kinds long n p b a
+pub names_again : {kinds long : List ℕ} {n : ℕ} {p a c r : HeaderRead} {b : Bool} → AsksHeader n p → NamesOnOver kinds long n p b a
     → kind_in kinds n a.cursor.at ≡ 9 → a.cursor.fault ≡ 0 → c ≡ take_at kinds long n 9 a
     → r ≡ name_at (eqb (kind_in kinds n c.cursor.at) 1) (flag_in long c.cursor.at) b c → NamesOnOver kinds long n p b r
 unfolding compose
@@ -145,8 +144,8 @@ names_again {kinds} {long} {n} {p} {a} {c} {r} {b} asks u e z ec er = record {
         record { waiting = omega arith; inputs = omega arith; outputs = omega arith; vars = omega arith }
 
 -- the names end where no comma stands, or where the reader has refused
-names_end : {ts : List Token} {kinds long : List ℕ} {n : ℕ} (holds : Holds ts kinds long n) (r : Header)
-    → follows_at r.cursor.fault (kind_in kinds n r.cursor.at) 9 ≡ false → (S : NonTerminal) (b : Bool) (γ : List Sym) (φ : List Token → Fun γ (Says S))
+names_end : {ts : List Token} {kinds long : List ℕ} {n : ℕ} (holds : Holds ts kinds long n) (r : HeaderRead)
+    → (r.cursor.fault ≡ 0 → kind_in kinds n r.cursor.at ≡ 9 → ⊥) → (S : NonTerminal) (b : Bool) (γ : List Sym) (φ : List Token → Fun γ (Says S))
     → Ok (nt more_names ∷ γ)
     → from_header ts S b r (nt more_names ∷ γ) φ ≡ from_header ts S b r γ (φ [])
 unfolding productions first elem
@@ -155,13 +154,13 @@ names_end {ts} {kinds} {long} {n} holds r e S b γ φ o = go (eqb r.cursor.fault
     go : (w : Bool) → eqb r.cursor.fault 0 ≡ w → from_header ts S b r (nt more_names ∷ γ) φ ≡ from_header ts S b r γ (φ [])
     go true w = left_at ts S 0 1 (heading_of b r) r.cursor 0 more_names γ φ o [] here
         (λ t. rw (ne_eqb (token_at ts r.cursor.at).kind 9
-        (λ z. follows_false r.cursor.fault (kind_in kinds n r.cursor.at) 9 e (eqb-true r.cursor.fault 0 w) (kind_is holds r.cursor.at ∙ z)))
+        (λ z. e (eqb-true r.cursor.fault 0 w) (kind_is holds r.cursor.at ∙ z)))
         at t)
     go false w = from_stays ts S 0 1 0 1 (heading_of b r) (heading_of b r) r.cursor r.cursor 0 0 (nt more_names ∷ γ) γ φ (φ [])
         (eqb-false r.cursor.fault 0 w) refl refl
 
-pub names_read : {kinds long : List ℕ} {n : ℕ} {p a r : Header} {b : Bool} → AsksHeader n p → a ≡ take_name kinds long n b p → NamesOnOver kinds long n a b r
-    → follows_at r.cursor.fault (kind_in kinds n r.cursor.at) 9 ≡ false → NamesOver kinds long n p b r
+pub names_read : {kinds long : List ℕ} {n : ℕ} {p a r : HeaderRead} {b : Bool} → AsksHeader n p → a ≡ take_name kinds long n b p → NamesOnOver kinds long n a b r
+    → (r.cursor.fault ≡ 0 → kind_in kinds n r.cursor.at ≡ 9 → ⊥) → NamesOver kinds long n p b r
 unfolding names_from
 names_read {kinds} {long} {n} {p} {a} {r} {b} asks ea u e =
     let nm = name_moves kinds long b asks ea in
@@ -186,16 +185,42 @@ names_read {kinds} {long} {n} {p} {a} {r} {b} asks ea u e =
           };
     }
 
--- a turn brings the loop nearer to its end
-pub names_falls : (n : ℕ) (a r : Header) → a.cursor.at ≤ n → a.cursor.fault ≡ 0 → MovesHeader n a r → (r.cursor.fault ≡ 0 → a.cursor.at < r.cursor.at)
-    → (n - r.cursor.at) + (1 - r.cursor.fault) < (n - a.cursor.at) + (1 - a.cursor.fault)
-names_falls n a r i z m f = turn_falls n a.cursor.at r.cursor.at a.cursor.fault r.cursor.fault m.inside z m.on f
-
 -- a comma and a name move the reader on
-pub next_moves : (kinds long : List ℕ) {n : ℕ} {a r : Header} (b : Bool) → AsksHeader n a → r ≡ take_name kinds long n b (take_at kinds long n 9 a)
+pub next_moves : (kinds long : List ℕ) {n : ℕ} {a r : HeaderRead} (b : Bool) → AsksHeader n a → r ≡ take_name kinds long n b (take_at kinds long n 9 a)
     → MovesHeader n a r × (r.cursor.fault ≡ 0 → a.cursor.at < r.cursor.at)
 next_moves kinds long {n} {a} {r} b asks e =
     let c = take_at kinds long n 9 a in
     let tc = took_moves kinds long 9 (omega arith) asks refl in
     let nm = name_moves kinds long b (asks_header asks tc) e in
     (moves_header tc nm.moves, λ z. let g = took_one kinds long n 9 a c refl (nm.moves.began z) in let k = nm.one z in omega arith)
+
+-- names that were refused, whatever the counts are
+pub names_halted : {kinds long : List ℕ} {n : ℕ} {p : HeaderRead} {b : Bool} (a : HeaderRead) (e : Unread) → AsksHeader n p
+    → NamesOver kinds long n p b (header_at (unread e) a) → NamesOver kinds long n p b (header_at (unread e) p)
+names_halted {p = p} {b} a e asks v = record {
+  moves = halted a e asks v.moves;
+  reads = λ ts holds.
+      let x = v.reads ts holds in
+      record {
+        value = x.value;
+        count = x.count;
+        goes = λ S γ κ o. x.goes S γ κ o ∙ from_halted ts S b e a p γ (κ x.value);
+        are = λ z. absurd (unread_ends e z);
+        end = λ z. absurd (unread_ends e z);
+        grown = λ z. absurd (unread_ends e z);
+      };
+}
+
+-- what has refused reads no name
+pub names_ended : {kinds long : List ℕ} {n : ℕ} {p : HeaderRead} {b : Bool} → AsksHeader n p → (p.cursor.fault ≡ 0 → ⊥) → NamesOver kinds long n p b p
+names_ended {p = p} {b} a f = record {
+  moves = stay_header a;
+  reads = λ ts holds. record {
+    value = [];
+    count = 0;
+    goes = λ S γ κ o. from_stays ts S 0 1 0 1 (heading_of b p) (heading_of b p) p.cursor p.cursor 0 0 (nt names ∷ γ) γ κ (κ []) f refl refl;
+    are = λ z. absurd (f z);
+    end = λ z. absurd (f z);
+    grown = λ z. absurd (f z);
+  };
+}

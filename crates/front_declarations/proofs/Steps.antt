@@ -13,28 +13,27 @@ use Rattle.base_codes.specs.Token.{NAME}
 use Rattle.spec_grammar.specs.Grammar.{NonTerminal, Says, plain, declares, Sym, tk, Fun}
 use Rattle.spec_grammar.specs.Meter.{tick, over, zeroes}
 use Rattle.spec_grammar.specs.Reader.{choose}
-use Rattle.front_cursor.specs.declared.Cursor.{Cursor}
 use Rattle.front_layout.specs.Tokens.{token_at, alone, kind_in, flag_in, Holds}
-use Rattle.front_cursor.specs.Reading.{meter, Fine, Asks, Moves, refuse, step, expect_at}
+use Rattle.front_cursor.specs.declared.Unread.{Unread}
+use Rattle.front_cursor.specs.Reading.{Read, unread, meter, Fine, Asks, Moves, refuse, step, expect_at}
 use Rattle.front_cursor.proofs.Measures.{three, or_true}
-use Rattle.front_cursor.proofs.Steps.{kind_is, kind_inside, from_stays, expect_at_lem, expect_moves, expect_written, token_not, token_over, token_taken, over_plain}
-use Rattle.front_declarations.specs.declared.Header.{Header}
-use Rattle.front_declarations.specs.Headers.{heading_of, header_at, from_header, refuse_header, declare_at, name_at, take_at, AsksHeader, MovesHeader, Grown}
+use Rattle.front_cursor.proofs.Steps.{kind_is, kind_inside, from_stays, expect_at_lem, expect_moves, expect_written, expect_less, unread_ends, token_not, token_over, token_taken, over_plain}
+use Rattle.front_declarations.specs.Headers.{HeaderRead, heading_of, header_at, from_header, refuse_header, declare_at, name_at, take_at, AsksHeader, MovesHeader, Grown}
 
-pub fine : {n : ℕ} {p : Header} (b : Bool) → AsksHeader n p → Fine 0 (heading_of b p)
+pub fine : {n : ℕ} {p : HeaderRead} (b : Bool) → AsksHeader n p → Fine 0 (heading_of b p)
 fine b a = record { statements = omega arith; inputs = a.inputs; outputs = a.outputs; vars = a.vars }
 
-pub cursor_asks : {n : ℕ} {p : Header} → AsksHeader n p → Asks n p.cursor
+pub cursor_asks : {n : ℕ} {p : HeaderRead} → AsksHeader n p → Asks n p.cursor
 cursor_asks a = record { short = a.short; inside = a.inside; room = a.room; few = a.few }
 
 -- where the cursor has moved
-pub at_by : (p : Header) {q q' : Cursor} → q ≡ q' → header_at q p ≡ header_at q' p
-at_by p f = ap (λ (q : Cursor). header_at q p) f
+pub at_by : (p : HeaderRead) {q q' : Read} → q ≡ q' → header_at q p ≡ header_at q' p
+at_by p f = ap (λ (q : Read). header_at q p) f
 
-pub moved_by : (p : Header) {r : Header} {q q' : Cursor} → r ≡ header_at q p → q ≡ q' → r ≡ header_at q' p
+pub moved_by : (p : HeaderRead) {r : HeaderRead} {q q' : Read} → r ≡ header_at q p → q ≡ q' → r ≡ header_at q' p
 moved_by p e f = e ∙ at_by p f
 
-pub asks_header : {n : ℕ} {p r : Header} → AsksHeader n p → MovesHeader n p r → AsksHeader n r
+pub asks_header : {n : ℕ} {p r : HeaderRead} → AsksHeader n p → MovesHeader n p r → AsksHeader n r
 asks_header u v = record {
   short = omega arith;
   inside = omega arith;
@@ -46,12 +45,13 @@ asks_header u v = record {
   vars = omega arith;
 }
 
-pub moves_header : {n : ℕ} {p a r : Header} → MovesHeader n p a → MovesHeader n a r → MovesHeader n p r
+pub moves_header : {n : ℕ} {p a r : HeaderRead} → MovesHeader n p a → MovesHeader n a r → MovesHeader n p r
 moves_header u v = record {
   on = omega arith;
   inside = omega arith;
   few = omega arith;
-  wrote = omega arith;
+  less = omega arith;
+  wrote = λ z. v.wrote z ∙ u.wrote (v.began z);
   waiting = omega arith;
   inputs = omega arith;
   outputs = omega arith;
@@ -59,12 +59,13 @@ moves_header u v = record {
   began = λ z. u.began (v.began z);
 }
 
-pub stay_header : {n : ℕ} {p : Header} → AsksHeader n p → MovesHeader n p p
+pub stay_header : {n : ℕ} {p : HeaderRead} → AsksHeader n p → MovesHeader n p p
 stay_header a = record {
   on = omega arith;
   inside = omega arith;
   few = omega arith;
-  wrote = omega arith;
+  less = omega arith;
+  wrote = λ z. refl;
   waiting = omega arith;
   inputs = omega arith;
   outputs = omega arith;
@@ -73,26 +74,26 @@ stay_header a = record {
 }
 
 -- a token that was taken moves the reader by one
-pub took_one : (kinds long : List ℕ) (n k : ℕ) (p r : Header) → r ≡ take_at kinds long n k p → r.cursor.fault ≡ 0 → r.cursor.at ≡ p.cursor.at + 1
+pub took_one : (kinds long : List ℕ) (n k : ℕ) (p r : HeaderRead) → r ≡ take_at kinds long n k p → r.cursor.fault ≡ 0 → r.cursor.at ≡ p.cursor.at + 1
 unfolding expect_at
 took_one kinds long n k p r e z = go (eqb p.cursor.fault 0) refl (eqb (kind_in kinds n p.cursor.at) k) (flag_in long p.cursor.at) e
   where
     go : (w : Bool) → eqb p.cursor.fault 0 ≡ w → (u v : Bool)
         → r ≡ header_at (choose w (choose u (choose v (refuse 4 p.cursor) (step p.cursor)) (refuse 3 p.cursor)) p.cursor) p
         → r.cursor.at ≡ p.cursor.at + 1
-    go false w u v q = absurd (eqb-false p.cursor.fault 0 w (sym (ap (λ (y : Header). y.cursor.fault) q) ∙ z))
-    go true w false v q = absurd (let y : 3 ≡ 0 = sym (ap (λ (y : Header). y.cursor.fault) q) ∙ z in omega arith)
-    go true w true true q = absurd (let y : 4 ≡ 0 = sym (ap (λ (y : Header). y.cursor.fault) q) ∙ z in omega arith)
-    go true w true false q = ap (λ (y : Header). y.cursor.at) q
+    go false w u v q = absurd (eqb-false p.cursor.fault 0 w (sym (ap (λ (y : HeaderRead). y.cursor.fault) q) ∙ z))
+    go true w false v q = absurd (let y : 3 ≡ 0 = sym (ap (λ (y : HeaderRead). y.cursor.fault) q) ∙ z in omega arith)
+    go true w true true q = absurd (let y : 4 ≡ 0 = sym (ap (λ (y : HeaderRead). y.cursor.fault) q) ∙ z in omega arith)
+    go true w true false q = ap (λ (y : HeaderRead). y.cursor.at) q
 
-pub took_moves : (kinds long : List ℕ) {n : ℕ} (k : ℕ) {p r : Header} → 0 < k → AsksHeader n p → r ≡ take_at kinds long n k p → MovesHeader n p r
+pub took_moves : (kinds long : List ℕ) {n : ℕ} (k : ℕ) {p r : HeaderRead} → 0 < k → AsksHeader n p → r ≡ take_at kinds long n k p → MovesHeader n p r
 took_moves kinds long {n} k {p} {r} pos a e =
     rw e (let m = go in record {
       on = omega arith;
       inside = omega arith;
       few = omega arith;
-      wrote = expect_written p.cursor
-          (eqb (kind_in kinds n p.cursor.at) k) (flag_in long p.cursor.at);
+      less = expect_less p.cursor (eqb (kind_in kinds n p.cursor.at) k) (flag_in long p.cursor.at);
+      wrote = expect_written p.cursor (eqb (kind_in kinds n p.cursor.at) k) (flag_in long p.cursor.at);
       waiting = omega arith;
       inputs = omega arith;
       outputs = omega arith;
@@ -105,7 +106,7 @@ took_moves kinds long {n} k {p} {r} pos a e =
     go = expect_moves n p.cursor (eqb (kind_in kinds n p.cursor.at) k) (flag_in long p.cursor.at) (cursor_asks a)
         (λ z. kind_inside kinds n p.cursor.at k (eqb-true (kind_in kinds n p.cursor.at) k z) pos)
 
-pub took_plain : {ts : List Token} {kinds long : List ℕ} {n : ℕ} → Holds ts kinds long n → {p r : Header} → AsksHeader n p → (k : ℕ) → 0 < k
+pub took_plain : {ts : List Token} {kinds long : List ℕ} {n : ℕ} → Holds ts kinds long n → {p r : HeaderRead} → AsksHeader n p → (k : ℕ) → 0 < k
     → r ≡ take_at kinds long n k p → (S : NonTerminal) (b : Bool) (γ : List Sym) (κ : Token → Fun γ (Says S))
     → from_header ts S b p (tk plain k ∷ γ) κ ≡ from_header ts S b r γ (κ (token_at ts p.cursor.at))
 unfolding tick
@@ -114,10 +115,10 @@ took_plain {ts} {kinds} {long} {n} holds {p} {r} a k pos e S b γ κ =
     (over_plain 0 1 (heading_of b p) (fine b a) 0 (omega arith) (token_at ts p.cursor.at) p.cursor.items a.few) refl k pos
     (eqb (kind_in kinds n p.cursor.at) k) (flag_in long p.cursor.at) (ap (λ (j : ℕ). eqb j k) (sym (kind_is holds p.cursor.at)))
     (λ u. sym (holds.flag p.cursor.at (let z = holds.count in omega arith))) γ κ
-    ∙ ap (λ (v : Header). from_header ts S b v γ (κ (token_at ts p.cursor.at))) (sym e)
+    ∙ ap (λ (v : HeaderRead). from_header ts S b v γ (κ (token_at ts p.cursor.at))) (sym e)
 
 -- A declared name.
-over_port : {n : ℕ} {p : Header} → AsksHeader n p → (x : Token) → over (tick (meter p.cursor.items 0 0 1 (heading_of false p)) declares x) ≡ alone x
+over_port : {n : ℕ} {p : HeaderRead} → AsksHeader n p → (x : Token) → over (tick (meter p.cursor.items 0 0 1 (heading_of false p)) declares x) ≡ alone x
 unfolding over tick alone
 over_port {p = p} a x = rw (
   le-ltb 64 p.cursor.items a.few,
@@ -127,14 +128,14 @@ over_port {p = p} a x = rw (
       a.vars,
 )
 
-over_variable : {n : ℕ} {p : Header} → AsksHeader n p → (x : Token)
+over_variable : {n : ℕ} {p : HeaderRead} → AsksHeader n p → (x : Token)
     → over (tick (meter p.cursor.items 0 0 1 (heading_of true p)) declares x) ≡ alone x || ltb 32 (suc p.vars)
 unfolding over tick alone
 over_variable {p = p} a x =
     rw (le-ltb 64 p.cursor.items a.few, le-ltb 17 p.inputs a.inputs, le-ltb 16 p.outputs a.outputs)
     (three (ltb 32 (tick zeroes plain x).bytes) (ltb 32 (suc p.vars)) (ltb 2147483647 (tick zeroes plain x).literal))
 
-pub named : {ts : List Token} {kinds long : List ℕ} {n : ℕ} → Holds ts kinds long n → {p r : Header} (b : Bool) → AsksHeader n p
+pub named : {ts : List Token} {kinds long : List ℕ} {n : ℕ} → Holds ts kinds long n → {p r : HeaderRead} (b : Bool) → AsksHeader n p
     → r ≡ name_at (eqb (kind_in kinds n p.cursor.at) 1) (flag_in long p.cursor.at) b p → (S : NonTerminal) (γ : List Sym) (κ : Token → Fun γ (Says S))
     → from_header ts S b p (tk declares NAME ∷ γ) κ ≡ from_header ts S b r γ (κ (token_at ts p.cursor.at))
 unfolding name_at tick
@@ -144,7 +145,7 @@ named {ts} {kinds} {long} {n} holds {p} {r} b a e S γ κ =
     x : Token
     x = token_at ts p.cursor.at
 
-    To : Bool → Header → Type 0
+    To : Bool → HeaderRead → Type 0
     To c v = from_header ts S c p (tk declares NAME ∷ γ) κ ≡ from_header ts S c v γ (κ (token_at ts p.cursor.at))
 
     kind : eqb (kind_in kinds n p.cursor.at) 1 ≡ true → (token_at ts p.cursor.at).kind ≡ NAME
@@ -195,25 +196,25 @@ named {ts} {kinds} {long} {n} holds {p} {r} b a e S γ κ =
             )) (rw add-one) (eqb-true p.cursor.fault 0 w) refl)
 
 -- how a declared name moves
-pub record Named (n : ℕ) (b : Bool) (p r : Header) : Type 0 where
+pub record Named (n : ℕ) (b : Bool) (p r : HeaderRead) : Type 0 where
   pub moves : MovesHeader n p r
   pub one : r.cursor.fault ≡ 0 → r.cursor.at ≡ p.cursor.at + 1
   pub grown : r.cursor.fault ≡ 0 → Grown b p r 1
 
-pub grown_then : {p a r : Header} (b : Bool) (c d : ℕ) → Grown b p a c → Grown b a r d → Grown b p r (c + d)
+pub grown_then : {p a r : HeaderRead} (b : Bool) (c d : ℕ) → Grown b p a c → Grown b a r d → Grown b p r (c + d)
 grown_then true c d u v = record { waiting = omega arith; inputs = omega arith; outputs = omega arith; vars = omega arith }
 grown_then false c d u v = record { waiting = omega arith; inputs = omega arith; outputs = omega arith; vars = omega arith }
 
-pub grown_none : (b : Bool) (p : Header) → Grown b p p 0
+pub grown_none : (b : Bool) (p : HeaderRead) → Grown b p p 0
 grown_none true p = record { waiting = omega arith; inputs = refl; outputs = refl; vars = omega arith }
 grown_none false p = record { waiting = omega arith; inputs = refl; outputs = refl; vars = omega arith }
 
-pub name_moves : (kinds long : List ℕ) {n : ℕ} {p r : Header} (b : Bool) → AsksHeader n p
+pub name_moves : (kinds long : List ℕ) {n : ℕ} {p r : HeaderRead} (b : Bool) → AsksHeader n p
     → r ≡ name_at (eqb (kind_in kinds n p.cursor.at) 1) (flag_in long p.cursor.at) b p → Named n b p r
 unfolding name_at
 name_moves kinds long {n} {p} {r} b a e = go (eqb p.cursor.fault 0) refl (eqb (kind_in kinds n p.cursor.at) 1) refl (flag_in long p.cursor.at) b e
   where
-    Is : Bool → Header → Type 0
+    Is : Bool → HeaderRead → Type 0
     Is c v = Named n c p v
 
     halt : (c : Bool) (k : ℕ) → (k ≡ 0 → ⊥) → p.cursor.fault ≡ 0 → Named n c p (refuse_header k p)
@@ -222,7 +223,8 @@ name_moves kinds long {n} {p} {r} b a e = go (eqb p.cursor.fault 0) refl (eqb (k
         on = omega arith;
         inside = omega arith;
         few = omega arith;
-        wrote = omega arith;
+        less = omega arith;
+        wrote = λ w. absurd (f w);
         waiting = omega arith;
         inputs = omega arith;
         outputs = omega arith;
@@ -252,7 +254,8 @@ name_moves kinds long {n} {p} {r} b a e = go (eqb p.cursor.fault 0) refl (eqb (k
             on = omega arith;
             inside = omega arith;
             few = omega arith;
-            wrote = omega arith;
+            less = omega arith;
+            wrote = λ y. refl;
             waiting = omega arith;
             inputs = omega arith;
             outputs = omega arith;
@@ -276,7 +279,8 @@ name_moves kinds long {n} {p} {r} b a e = go (eqb p.cursor.fault 0) refl (eqb (k
                 on = omega arith;
                 inside = omega arith;
                 few = omega arith;
-                wrote = omega arith;
+                less = omega arith;
+                wrote = λ y. refl;
                 waiting = omega arith;
                 inputs = omega arith;
                 outputs = omega arith;
@@ -286,3 +290,24 @@ name_moves kinds long {n} {p} {r} b a e = go (eqb p.cursor.fault 0) refl (eqb (k
               one = λ y. refl;
               grown = λ y. record { waiting = omega arith; inputs = refl; outputs = refl; vars = refl };
             })
+
+-- A refusal has no counts of its own, so what it says of one reader's counts it says of another's.
+pub halted : {n : ℕ} {p : HeaderRead} (a : HeaderRead) (e : Unread) → AsksHeader n p → MovesHeader n p (header_at (unread e) a) → MovesHeader n p (header_at (unread e) p)
+halted a e h m = record {
+  on = m.on;
+  inside = m.inside;
+  few = m.few;
+  less = m.less;
+  wrote = m.wrote;
+  waiting = let o = m.on in omega arith;
+  inputs = h.inputs;
+  outputs = h.outputs;
+  vars = h.vars;
+  began = m.began;
+}
+
+pub from_halted : (ts : List Token) (S : NonTerminal) (b : Bool) (e : Unread) (a p : HeaderRead) (γ : List Sym) (κ : Fun γ (Says S))
+    → from_header ts S b (header_at (unread e) a) γ κ ≡ from_header ts S b (header_at (unread e) p) γ κ
+from_halted ts S b e a p γ κ =
+    from_stays ts S 0 1 0 1 (heading_of b (header_at (unread e) a)) (heading_of b (header_at (unread e) p)) (unread e) (unread e) 0 0 γ γ κ κ
+    (unread_ends e) refl refl

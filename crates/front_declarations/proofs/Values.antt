@@ -18,12 +18,12 @@ use Rattle.spec_grammar.specs.Derivation.{here, there}
 use Rattle.spec_grammar.specs.Reader.{choose, compose, elem, first}
 use Rattle.spec_grammar.proofs.Steps.{Ok, ok_rule_lem}
 use Rattle.spec_grammar.proofs.Tables.{inside_ok}
-use Rattle.front_cursor.specs.Reading.{meter, step, expect_one, follows_at}
+use Rattle.front_cursor.specs.declared.Unread.{Unread}
+use Rattle.front_cursor.specs.Reading.{Read, unread, meter, step, expect_one, follows_at}
 use Rattle.front_layout.specs.Tokens.{token_at, no_token, kind_in, Holds}
 use Rattle.front_cursor.proofs.Steps.{kind_is, kind_inside, from_stays, rule_at, left_at, refused_at_lem, token_not, token_over, token_taken, follows_true}
-use Rattle.front_cursor.proofs.Steps.{follows_false}
-use Rattle.front_declarations.specs.declared.Header.{Header}
-use Rattle.front_declarations.specs.Headers.{heading_of, header_at, from_header, refuse_header, take_at, inputs_at, outputs_at, mode_at, type_kind, literal_kind}
+use Rattle.front_cursor.proofs.Steps.{follows_false, unread_ends, expect_ended, follows_ended}
+use Rattle.front_declarations.specs.Headers.{HeaderRead, heading_of, header_at, from_header, refuse_header, take_at, inputs_at, outputs_at, mode_at, type_kind, literal_kind}
 use Rattle.front_declarations.specs.Headers.{value_at, init_at, tail_at, AsksHeader, MovesHeader}
 use Rattle.front_declarations.proofs.Steps.{asks_header, moves_header, stay_header, took_one, took_moves, took_plain}
 use Rattle.front_declarations.proofs.Picks.{in_rule, out_rule, becomes_rule, Begins, pick_in, pick_out, no_mode, pick_logic, pick_integer, no_type}
@@ -55,7 +55,7 @@ inside_token ts at k pos e = elim (dec_lt at (length ts)) [
 ]
 
 -- where the reader has refused, what it would make of a value is the same for every value
-pub same_value : {A : Type 0} (ts : List Token) (S : NonTerminal) (b : Bool) (r : Header) (γ : List Sym) (κ : A → Fun γ (Says S)) (x y : A)
+pub same_value : {A : Type 0} (ts : List Token) (S : NonTerminal) (b : Bool) (r : HeaderRead) (γ : List Sym) (κ : A → Fun γ (Says S)) (x y : A)
     → (r.cursor.fault ≡ 0 → x ≡ y) → from_header ts S b r γ (κ x) ≡ from_header ts S b r γ (κ y)
 same_value {A} ts S b r γ κ x y f = go (eqb r.cursor.fault 0) refl
   where
@@ -65,7 +65,7 @@ same_value {A} ts S b r γ κ x y f = go (eqb r.cursor.fault 0) refl
         (eqb-false r.cursor.fault 0 w) refl refl
 
 -- a nonterminal whose production begins with a token
-pub into_token : (ts : List Token) (S : NonTerminal) (b : Bool) (p : Header) (M : NonTerminal) (m : Mark) (k : ℕ) (δ : List Sym) (f : Fun (tk m k ∷ δ) (Says M))
+pub into_token : (ts : List Token) (S : NonTerminal) (b : Bool) (p : HeaderRead) (M : NonTerminal) (m : Mark) (k : ℕ) (δ : List Sym) (f : Fun (tk m k ∷ δ) (Says M))
     (γ : List Sym) (κ : Says M → Fun γ (Says S)) → 0 < k → Begins M m k δ f (token_at ts p.cursor.at).kind
     → from_header ts S b p (nt M ∷ γ) κ ≡ from_header ts S b p (tk m k ∷ (δ ++ γ)) (compose M S (tk m k ∷ δ) γ f κ)
 into_token ts S b p M m k δ f γ κ pos (inl e) =
@@ -84,14 +84,14 @@ into_token ts S b p M m k δ f γ κ pos (inr e) = go (eqb p.cursor.fault 0) ref
         (eqb-true p.cursor.fault 0 w))
 
 -- How these move: on, and the counts stay.
-pub record Kept (n : ℕ) (p r : Header) : Type 0 where
+pub record Kept (n : ℕ) (p r : HeaderRead) : Type 0 where
   pub moves : MovesHeader n p r
   pub waiting : r.waiting ≡ p.waiting
   pub inputs : r.inputs ≡ p.inputs
   pub outputs : r.outputs ≡ p.outputs
   pub vars : r.vars ≡ p.vars
 
-pub kept_then : {n : ℕ} {p a r : Header} → Kept n p a → Kept n a r → Kept n p r
+pub kept_then : {n : ℕ} {p a r : HeaderRead} → Kept n p a → Kept n a r → Kept n p r
 kept_then u v = record {
   moves = moves_header u.moves v.moves;
   waiting = v.waiting ∙ u.waiting;
@@ -101,17 +101,17 @@ kept_then u v = record {
   vars = v.vars ∙ u.vars;
 }
 
-pub took_kept : (kinds long : List ℕ) {n : ℕ} (k : ℕ) {p r : Header} → 0 < k → AsksHeader n p → r ≡ take_at kinds long n k p → Kept n p r
+pub took_kept : (kinds long : List ℕ) {n : ℕ} (k : ℕ) {p r : HeaderRead} → 0 < k → AsksHeader n p → r ≡ take_at kinds long n k p → Kept n p r
 took_kept kinds long k pos a e = record {
   moves = took_moves kinds long k pos a e;
-  waiting = ap (λ (v : Header). v.waiting) e;
+  waiting = ap (λ (v : HeaderRead). v.waiting) e;
   inputs = ap
-      (λ (v : Header). v.inputs) e;
-  outputs = ap (λ (v : Header). v.outputs) e;
-  vars = ap (λ (v : Header). v.vars) e;
+      (λ (v : HeaderRead). v.inputs) e;
+  outputs = ap (λ (v : HeaderRead). v.outputs) e;
+  vars = ap (λ (v : HeaderRead). v.vars) e;
 }
 
-pub value_moves : (kinds long : List ℕ) {n : ℕ} {p r : Header} → AsksHeader n p → r ≡ header_at (value_at kinds long n p.cursor) p → Kept n p r
+pub value_moves : (kinds long : List ℕ) {n : ℕ} {p r : HeaderRead} → AsksHeader n p → r ≡ header_at (value_at kinds long n p.cursor) p → Kept n p r
 unfolding value_at
 value_moves kinds long {n} {p} {r} a e = go (eqb (kind_in kinds n p.cursor.at) 12) e
   where
@@ -120,7 +120,7 @@ value_moves kinds long {n} {p} {r} a e = go (eqb (kind_in kinds n p.cursor.at) 1
     go true z = let c = took_kept kinds long 12 (omega arith) a refl in kept_then c (took_kept kinds long 2 (omega arith) (asks_header a c.moves) z)
     go false z = took_kept kinds long (literal_kind (kind_in kinds n p.cursor.at)) (literal_pos (kind_in kinds n p.cursor.at)) a z
 
-pub init_moves : (kinds long : List ℕ) {n : ℕ} {p r : Header} → AsksHeader n p → r ≡ header_at (init_at kinds long n p.cursor) p → Kept n p r
+pub init_moves : (kinds long : List ℕ) {n : ℕ} {p r : HeaderRead} → AsksHeader n p → r ≡ header_at (init_at kinds long n p.cursor) p → Kept n p r
 unfolding init_at
 init_moves kinds long {n} {p} {r} a e = go (follows_at p.cursor.fault (kind_in kinds n p.cursor.at) 10) e
   where
@@ -128,14 +128,37 @@ init_moves kinds long {n} {p} {r} a e = go (follows_at p.cursor.fault (kind_in k
     go true z = let c = took_kept kinds long 10 (omega arith) a refl in kept_then c (value_moves kinds long (asks_header a c.moves) z)
     go false z = rw z (record { moves = stay_header a; waiting = refl; inputs = refl; outputs = refl; vars = refl })
 
-pub tail_moves : (kinds long : List ℕ) {n : ℕ} {p r : Header} → AsksHeader n p → r ≡ header_at (tail_at kinds long n p.cursor) p → Kept n p r
+pub tail_moves : (kinds long : List ℕ) {n : ℕ} {p r : HeaderRead} → AsksHeader n p → r ≡ header_at (tail_at kinds long n p.cursor) p → Kept n p r
 unfolding tail_at
 tail_moves kinds long {n} {p} {r} a e =
     let c = took_kept kinds long (type_kind (kind_in kinds n p.cursor.at)) (type_pos (kind_in kinds n p.cursor.at)) a refl in
     kept_then c (init_moves kinds long (asks_header a c.moves) e)
 
+-- what has refused reads no value, no type and no mode
+pub value_ended : (kinds long : List ℕ) (n : ℕ) (e : Unread) → unread e ≡ value_at kinds long n (unread e)
+unfolding value_at
+value_ended kinds long n e = go (eqb (kind_in kinds n (unread e).at) 12)
+  where
+    go : (b : Bool) → unread e ≡ choose b (expect_one kinds long n 2 (expect_one kinds long n 12 (unread e)))
+        (expect_one kinds long n (literal_kind (kind_in kinds n (unread e).at)) (unread e))
+    go true = expect_ended kinds long n 2 e ∙ ap (λ (q : Read). expect_one kinds long n 2 q) (expect_ended kinds long n 12 e)
+    go false = expect_ended kinds long n (literal_kind (kind_in kinds n (unread e).at)) e
+
+pub init_ended : (kinds long : List ℕ) (n : ℕ) (e : Unread) → unread e ≡ init_at kinds long n (unread e)
+unfolding init_at
+init_ended kinds long n e = rw (follows_ended e (kind_in kinds n (unread e).at) 10)
+
+pub tail_ended : (kinds long : List ℕ) (n : ℕ) (e : Unread) → unread e ≡ tail_at kinds long n (unread e)
+unfolding tail_at
+tail_ended kinds long n e =
+    init_ended kinds long n e ∙ ap (λ (q : Read). init_at kinds long n q) (expect_ended kinds long n (type_kind (kind_in kinds n (unread e).at)) e)
+
+pub mode_ended : (k : ℕ) (e : Unread) (p : HeaderRead) → header_at (unread e) p ≡ mode_at k (header_at (unread e) p)
+unfolding mode_at
+mode_ended k e p = rw (ne_eqb (unread e).fault 0 (unread_ends e))
+
 -- A type word.
-pub type_at_lem : {ts : List Token} {kinds long : List ℕ} {n : ℕ} → Holds ts kinds long n → {p r : Header} → AsksHeader n p
+pub type_at_lem : {ts : List Token} {kinds long : List ℕ} {n : ℕ} → Holds ts kinds long n → {p r : HeaderRead} → AsksHeader n p
     → r ≡ take_at kinds long n (type_kind (kind_in kinds n p.cursor.at)) p → (S : NonTerminal) (b : Bool) (γ : List Sym) (κ : Token → Fun γ (Says S))
     → from_header ts S b p (nt type ∷ γ) κ ≡ from_header ts S b r γ (κ (token_at ts p.cursor.at))
 unfolding compose
@@ -171,7 +194,7 @@ value_from ts at = value_by (token_at ts at).kind (token_at ts at) (token_at ts 
 abbrev pub init_from : List Token → ℕ → Init
 init_from ts at = choose (eqb (token_at ts at).kind 10) (value_from ts (at + 1)) without
 
-pub value_at_lem : {ts : List Token} {kinds long : List ℕ} {n : ℕ} → Holds ts kinds long n → {p r : Header} → AsksHeader n p
+pub value_at_lem : {ts : List Token} {kinds long : List ℕ} {n : ℕ} → Holds ts kinds long n → {p r : HeaderRead} → AsksHeader n p
     → r ≡ header_at (value_at kinds long n p.cursor) p → (S : NonTerminal) (b : Bool) (γ : List Sym) (κ : Init → Fun γ (Says S))
     → from_header ts S b p (nt value ∷ γ) κ ≡ from_header ts S b r γ (κ (value_from ts p.cursor.at))
 unfolding compose value_at
@@ -186,7 +209,7 @@ value_at_lem {ts} {kinds} {long} {n} holds {p} {r} a e S b γ κ =
     x : Token
     x = token_at ts p.cursor.at
 
-    c : Header
+    c : HeaderRead
     c = take_at kinds long n 12 p
 
     c_moves : MovesHeader n p c
@@ -230,19 +253,19 @@ unfolding productions
 ok_value γ o = ok_rule_lem init (tk plain 10 ∷ nt value ∷ []) γ (inside_ok {r = becomes_rule} (there here)) o
 
 -- Perhaps := and a value.
-pub init_at_lem : {ts : List Token} {kinds long : List ℕ} {n : ℕ} → Holds ts kinds long n → {p r : Header} → AsksHeader n p
+pub init_at_lem : {ts : List Token} {kinds long : List ℕ} {n : ℕ} → Holds ts kinds long n → {p r : HeaderRead} → AsksHeader n p
     → r ≡ header_at (init_at kinds long n p.cursor) p → (S : NonTerminal) (b : Bool) (γ : List Sym) (κ : Init → Fun γ (Says S)) → Ok (nt init ∷ γ)
     → from_header ts S b p (nt init ∷ γ) κ ≡ from_header ts S b r γ (κ (init_from ts p.cursor.at))
 unfolding compose init_at productions first elem
 init_at_lem {ts} {kinds} {long} {n} holds {p} {r} a e S b γ κ o = go (follows_at p.cursor.fault (kind_in kinds n p.cursor.at) 10) refl e
   where
-    c : Header
+    c : HeaderRead
     c = take_at kinds long n 10 p
 
     c_moves : MovesHeader n p c
     c_moves = took_moves kinds long 10 (omega arith) a refl
 
-    To : Header → Type 0
+    To : HeaderRead → Type 0
     To v = from_header ts S b p (nt init ∷ γ) κ ≡ from_header ts S b v γ (κ (init_from ts p.cursor.at))
 
     given : (token_at ts p.cursor.at).kind ≡ 10 → init_from ts p.cursor.at ≡ value_from ts (p.cursor.at + 1)
@@ -277,7 +300,7 @@ init_at_lem {ts} {kinds} {long} {n} holds {p} {r} a e S b γ κ o = go (follows_
     go false u z = subst To (sym z) (none (eqb p.cursor.fault 0) refl u)
 
 -- A type, and perhaps a value.
-pub tail_at_lem : {ts : List Token} {kinds long : List ℕ} {n : ℕ} → Holds ts kinds long n → {p r : Header} → AsksHeader n p
+pub tail_at_lem : {ts : List Token} {kinds long : List ℕ} {n : ℕ} → Holds ts kinds long n → {p r : HeaderRead} → AsksHeader n p
     → r ≡ header_at (tail_at kinds long n p.cursor) p → (S : NonTerminal) (b : Bool) (γ : List Sym) (κ : Token → Init → Fun γ (Says S)) → Ok (nt init ∷ γ)
     → from_header ts S b p (nt type ∷ nt init ∷ γ) κ ≡ from_header ts S b r γ (κ (token_at ts p.cursor.at) (init_from ts (p.cursor.at + 1)))
 unfolding tail_at
@@ -290,20 +313,20 @@ tail_at_lem {ts} {kinds} {long} {n} holds {p} {r} a e S b γ κ o =
     k : ℕ
     k = type_kind (kind_in kinds n p.cursor.at)
 
-    c : Header
+    c : HeaderRead
     c = take_at kinds long n (type_kind (kind_in kinds n p.cursor.at)) p
 
     c_kept : Kept n p c
     c_kept = took_kept kinds long k (type_pos (kind_in kinds n p.cursor.at)) a refl
 
 -- A mode word: a word passes no limit by itself, only with the names that wait for it.
-over_ins : {n : ℕ} {p : Header} (b : Bool) → AsksHeader n p → (x : Token) → x.kind ≡ 31
+over_ins : {n : ℕ} {p : HeaderRead} (b : Bool) → AsksHeader n p → (x : Token) → x.kind ≡ 31
     → over (tick (meter p.cursor.items 0 0 1 (heading_of b p)) ins x) ≡ ltb 17 (p.inputs + p.waiting)
 unfolding over tick
 over_ins {p = p} b a x e = rw (le-ltb 64 p.cursor.items a.few, le-ltb 16 p.outputs a.outputs, le-ltb 32 p.vars a.vars, e)
     (or_false (ltb 17 (p.inputs + p.waiting)))
 
-over_outs : {n : ℕ} {p : Header} (b : Bool) → AsksHeader n p → (x : Token) → x.kind ≡ 32
+over_outs : {n : ℕ} {p : HeaderRead} (b : Bool) → AsksHeader n p → (x : Token) → x.kind ≡ 32
     → over (tick (meter p.cursor.items 0 0 1 (heading_of b p)) outs x) ≡ ltb 16 (p.outputs + p.waiting)
 unfolding over tick
 over_outs {p = p} b a x e = rw (le-ltb 64 p.cursor.items a.few, le-ltb 17 p.inputs a.inputs, le-ltb 32 p.vars a.vars, e)
@@ -312,7 +335,7 @@ over_outs {p = p} b a x e = rw (le-ltb 64 p.cursor.items a.few, le-ltb 17 p.inpu
 abbrev pub mode_from : List Token → ℕ → Mode
 mode_from ts at = choose (eqb (token_at ts at).kind 31) input output_port
 
-pub mode_at_lem : {ts : List Token} {kinds long : List ℕ} {n : ℕ} → Holds ts kinds long n → {p r : Header} → AsksHeader n p
+pub mode_at_lem : {ts : List Token} {kinds long : List ℕ} {n : ℕ} → Holds ts kinds long n → {p r : HeaderRead} → AsksHeader n p
     → r ≡ mode_at (kind_in kinds n p.cursor.at) p → (S : NonTerminal) (b : Bool) (γ : List Sym) (κ : Mode → Fun γ (Says S))
     → from_header ts S b p (nt mode ∷ γ) κ ≡ from_header ts S b r γ (κ (mode_from ts p.cursor.at))
 unfolding compose mode_at tick
@@ -330,7 +353,7 @@ mode_at_lem {ts} {kinds} {long} {n} holds {p} {r} a e S b γ κ =
     h : InHeading
     h = heading_of b p
 
-    To : Bool → Header → Type 0
+    To : Bool → HeaderRead → Type 0
     To u v = from_header ts S b p (nt mode ∷ γ) κ ≡ from_header ts S b v γ (κ (choose u input output_port))
 
     ins_to : (w : Bool) → ltb 17 (p.inputs + p.waiting) ≡ w → p.cursor.fault ≡ 0 → (token_at ts p.cursor.at).kind ≡ 31
@@ -374,13 +397,13 @@ mode_at_lem {ts} {kinds} {long} {n} holds {p} {r} a e S b γ κ =
         (eqb-true p.cursor.fault 0 f))
 
 -- how a mode word moves: the names that waited are counted
-pub record Moded (n : ℕ) (p r : Header) : Type 0 where
+pub record Moded (n : ℕ) (p r : HeaderRead) : Type 0 where
   pub moves : MovesHeader n p r
   pub one : r.cursor.fault ≡ 0 → r.cursor.at ≡ p.cursor.at + 1
   pub none : r.cursor.fault ≡ 0 → r.waiting ≡ 0
   pub total : r.cursor.fault ≡ 0 → r.inputs + r.outputs + r.vars ≡ p.inputs + p.outputs + p.vars + p.waiting
 
-pub mode_moves : (kinds : List ℕ) {n : ℕ} {p r : Header} → AsksHeader n p → r ≡ mode_at (kind_in kinds n p.cursor.at) p → Moded n p r
+pub mode_moves : (kinds : List ℕ) {n : ℕ} {p r : HeaderRead} → AsksHeader n p → r ≡ mode_at (kind_in kinds n p.cursor.at) p → Moded n p r
 unfolding mode_at
 mode_moves kinds {n} {p} {r} a e = go (eqb p.cursor.fault 0) refl (eqb (kind_in kinds n p.cursor.at) 31) refl
     (eqb (kind_in kinds n p.cursor.at) 32) refl (ltb 17 (p.inputs + p.waiting)) refl (ltb 16 (p.outputs + p.waiting)) refl e
@@ -388,7 +411,7 @@ mode_moves kinds {n} {p} {r} a e = go (eqb p.cursor.fault 0) refl (eqb (kind_in 
     k : ℕ
     k = kind_in kinds n p.cursor.at
 
-    Is : Header → Type 0
+    Is : HeaderRead → Type 0
     Is v = Moded n p v
 
     halt : (j : ℕ) → (j ≡ 0 → ⊥) → p.cursor.fault ≡ 0 → Moded n p (refuse_header j p)
@@ -397,7 +420,8 @@ mode_moves kinds {n} {p} {r} a e = go (eqb p.cursor.fault 0) refl (eqb (kind_in 
         on = omega arith;
         inside = omega arith;
         few = omega arith;
-        wrote = omega arith;
+        less = omega arith;
+        wrote = λ w. absurd (f w);
         waiting = omega arith;
         inputs = omega arith;
         outputs = omega arith;
@@ -439,7 +463,8 @@ mode_moves kinds {n} {p} {r} a e = go (eqb p.cursor.fault 0) refl (eqb (kind_in 
             on = omega arith;
             inside = omega arith;
             few = omega arith;
-            wrote = omega arith;
+            less = omega arith;
+            wrote = λ y. refl;
             waiting = omega arith;
             inputs = omega arith;
             outputs = omega arith;
@@ -459,7 +484,8 @@ mode_moves kinds {n} {p} {r} a e = go (eqb p.cursor.fault 0) refl (eqb (kind_in 
             on = omega arith;
             inside = omega arith;
             few = omega arith;
-            wrote = omega arith;
+            less = omega arith;
+            wrote = λ y. refl;
             waiting = omega arith;
             inputs = omega arith;
             outputs = omega arith;

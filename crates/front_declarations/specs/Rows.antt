@@ -6,8 +6,8 @@ use Rattle.base_codes.specs.Declaration as D
 use Rattle.spec_grammar.specs.Reader.{choose}
 use Rattle.front_layout.specs.Tokens.{kind_in}
 use Rattle.front_layout.specs.Headings.{DeclRow, store_decls}
-use Rattle.front_declarations.specs.declared.Header.{Header}
 use Rattle.front_declarations.specs.declared.Shape.{Shape}
+use Rattle.front_declarations.specs.Headers.{HeaderRead}
 
 -- the row of the name at an index, in a group of this shape
 abbrev pub row_of : Shape → ℕ → DeclRow
@@ -19,7 +19,7 @@ rows_of g at zero = []
 rows_of g at (suc c) = row_of g at ∷ rows_of g (at + 2) c
 
 -- how many names are declared
-abbrev pub declared_by : Header → ℕ
+abbrev pub declared_by : HeaderRead → ℕ
 declared_by p = p.inputs + p.outputs + p.vars
 
 -- the mode of a group by the kind of its mode word
@@ -49,5 +49,5 @@ shape_at kinds n first mode at = record {
 }
 
 -- the rows of such a group are stored: the names that are declared at e and not yet at p
-abbrev pub store_group : List ℕ → ℕ → Header → Header → ℕ → ℕ → ℕ → List ℕ → List ℕ
+abbrev pub store_group : List ℕ → ℕ → HeaderRead → HeaderRead → ℕ → ℕ → ℕ → List ℕ → List ℕ
 store_group kinds n p e first mode at l = store_decls (declared_by p) (rows_of (shape_at kinds n first mode at) first (declared_by e - declared_by p)) l

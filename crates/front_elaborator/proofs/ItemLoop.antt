@@ -32,12 +32,12 @@ module _ (v : ℕ → ℕ → ℕ) (codes indices : List ℕ) (n : ℕ) (args₀
   pub resolving_first : Resolving args₀ 0
   resolving_first = let z : n - 0 ≡ n = omega arith in record { inside = omega arith; args = rw z }
 
-  pub resolving_again : {args₁ : List ℤ} {j x i w : ℕ} {a : ℤ} → j < n → x ≡ get_or codes j 0 → i ≡ get_or indices j 0 → w ≡ v x i → a ≡ pos (within w)
+  pub resolving_again : {args₁ : List ℤ} {j i : ℕ} {a : ℤ} → j < n → i ≡ get_or indices j 0 → a ≡ pos (within (v (get_or codes j 0) i))
       → Resolving args₁ j → Resolving (set args₁ j a) (j + 1)
   unfolding values_at
-  resolving_again {args₁} {j} {x} {i} {w} {a} l hx hi hw ha h =
+  resolving_again {args₁} {j} {i} {a} l hi ha h =
       let z : n - j ≡ suc (n - (j + 1)) = omega arith in
-      let e : a ≡ pos (within (v (get_or codes j 0) (get_or indices j 0))) = ha ∙ rw (hw, hx, hi) in
+      let e : a ≡ pos (within (v (get_or codes j 0) (get_or indices j 0))) = ha ∙ rw hi in
       record { inside = omega arith; args = rw e (sets_next args₁ j _ (values_at v codes indices (j + 1) (n - (j + 1))) _ _ refl (rw z at h.args)) }
 
   pub resolving_last : {args₁ : List ℤ} {j : ℕ} (k : ℕ) → n ≡ min k 16384 → n ≤ j → Resolving args₁ j → Resolves v codes indices k args₀ args₁

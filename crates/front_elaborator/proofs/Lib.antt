@@ -1,5 +1,4 @@
 pub mod Trees
-pub mod ItemLaws
 pub mod ItemLoop
 pub mod RowLoop
 pub mod ItemHeld

@@ -41,11 +41,6 @@ unfoldable pub picked : {A : Type 0} → (ℕ → Bool) → (ℕ → A) → ℕ 
 picked p f k zero = []
 picked p f k (suc c) = choose (p k) (f k ∷ picked p f (k + 1) c) (picked p f (k + 1) c)
 
--- an array gets these items first, as many as it has room for, the rest as before; r says how many
-pub record Filled {A : Type 0} (items before after : List A) (r : ℕ) : Type 0 where
-  pub count : r ≡ min (length items) VARIABLES
-  pub contents : after ≡ sets before 0 (take VARIABLES items)
-
 -- a declaration's type, by its number
 abbrev pub type_at : List ℕ → ℕ → ℕ
 type_at decls k = choose (eqb (field_at decls k D.TYPE) (type_byte integer)) (type_byte integer) (type_byte std_logic)

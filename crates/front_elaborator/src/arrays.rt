@@ -1,51 +1,42 @@
 // Reading the arrays; past their ends there is 0.
-ghost use Rattle.std.specs.Prelude.{◌≡◌};
-ghost use Rattle.front_elaborator.specs.Positions.{number_at, field_at, slot_at};
+ghost use Rattle.std.specs.Prelude.{◌≡◌, pos};
+ghost use Rattle.front_elaborator.specs.Positions.{field_at, literal_at, bit_at};
 
-use base_codes::{declaration, limit};
-
-// The greatest literal, as wide as the values of literals are.
-pub(crate) const MOST: u64 = limit::INTEGER as u64;
-
-// A byte of an array of tokens.
-pub(crate) fn byte_at(a: &[u8; limit::TEXT], i: usize) -> u8
-    ensures { result ≡ number_at a.now i }
-{
-    if i < limit::TEXT {
-        return a[i];
-    }
-    0
-}
-
-// A number of an array of tokens.
-pub(crate) fn number_at(a: &[u16; limit::TEXT], i: usize) -> u16
-    ensures { result ≡ number_at a.now i }
-{
-    if i < limit::TEXT {
-        return a[i];
-    }
-    0
-}
+use base_codes::{declaration, limit, token};
+use front_lexer::parts;
 
 // A field of a declaration.
 pub(crate) fn field_at(decls: &[u16; declaration::ROWS], q: usize, c: usize) -> u16
     ensures { result ≡ field_at decls.now q c }
 {
-    if q < limit::NAMES {
-        if c < declaration::ROW {
-            return decls[declaration::ROW * q + c];
-        }
-        return 0;
+    if q < limit::NAMES && c < declaration::ROW {
+        decls[declaration::ROW * q + c]
+    } else {
+        0
     }
-    0
 }
 
-// The index of a declaration among the names of its kind.
-pub(crate) fn slot_at(slots: &[u8; limit::NAMES], q: usize) -> u8
-    ensures { result ≡ slot_at slots.now q }
+// The value of the number that token i is, 0 where it passes the limit.
+pub(crate) fn literal_at(
+    text: &[u8],
+    starts: &[u16; limit::TEXT],
+    sizes: &[u16; limit::TEXT],
+    i: usize,
+) -> i32
+    ensures { result ≡ pos (literal_at text.now starts.now sizes.now i) }
 {
-    if q < limit::NAMES {
-        return slots[q];
+    let start = starts.get(i).copied().unwrap_or(0);
+    let size = sizes.get(i).copied().unwrap_or(0);
+    let v = parts::number_value(text, usize::from(start), usize::from(size));
+    i32::try_from(v).unwrap_or(0)
+}
+
+// '0' or '1'.
+pub(crate) fn bit_at(kinds: &[u8; limit::TEXT], i: usize) -> i32
+    ensures { result ≡ pos (bit_at kinds.now i) }
+{
+    match kinds.get(i) {
+        Some(&token::ONE) => 1,
+        _ => 0,
     }
-    0
 }

@@ -1,65 +1,36 @@
 // The operations of all expressions, from the items.
-ghost use Rattle.std.specs.Prelude.{◌≡◌, min, ◌<◌, get_or, set, pos};
-ghost use Rattle.base_codes.specs.Limit.{TEXT};
+ghost use Rattle.std.specs.Prelude.{◌≡◌, pos};
 ghost use Rattle.front_offences.specs.Positions.{mode_in};
-ghost use Rattle.front_elaborator.specs.Positions.{slot_at, within, literal_at, name_code, name_arg, bit_at, value_at, Resolves, code_of, arg_of, Places};
+ghost use Rattle.front_elaborator.specs.Positions.{slot_at, within, name_code, name_arg, value_at, Resolves, code_of, arg_of, Places};
 ghost use Rattle.spec_semantics.specs.Twos.{unsigned32};
 
 use crate::arrays;
-use base_codes::{declaration, item, limit, operation, token};
-use front_lexer::parts;
+use base_codes::{declaration, item, limit, operation};
 use front_offences::mode_at;
 
 // A name's code, by its declaration's mode.
 fn name_code(mode: u16) -> u8
     ensures { result ≡ name_code mode }
 {
-    if mode == declaration::IN {
-        return operation::INPUT;
+    match mode {
+        declaration::IN => operation::INPUT,
+        declaration::VARIABLE => operation::VARIABLE,
+        _ => operation::STD_LOGIC,
     }
-    if mode == declaration::VARIABLE {
-        return operation::VARIABLE;
-    }
-    operation::STD_LOGIC
-}
-
-// The value of a number.
-fn literal_at(text: &[u8], starts: &[u16; limit::TEXT], sizes: &[u16; limit::TEXT], i: usize) -> u32
-    ensures { result ≡ literal_at text.now starts.now sizes.now i }
-{
-    let v = parts::number_value(
-        text,
-        arrays::number_at(starts, i) as usize,
-        arrays::number_at(sizes, i) as usize,
-    );
-    if v <= arrays::MOST {
-        return v as u32;
-    }
-    0
 }
 
 // The index of a name that is read, among those of its kind.
-fn name_arg(decls: &[u16; declaration::ROWS], d: usize, slots: &[u8; limit::NAMES], q: usize) -> u32
+fn name_arg(decls: &[u16; declaration::ROWS], d: usize, slots: &[u8; limit::NAMES], q: usize) -> u8
     ensures { result ≡ name_arg (mode_in decls.now d q) (slot_at slots.now q) }
 {
-    let code = name_code(mode_at(decls, d, q));
-    if code == operation::STD_LOGIC {
-        return 0;
+    match name_code(mode_at(decls, d, q)) {
+        operation::STD_LOGIC => 0,
+        _ => slots.get(q).copied().unwrap_or(0),
     }
-    arrays::slot_at(slots, q) as u32
-}
-
-// '0' or '1'.
-fn bit_at(kinds: &[u8; limit::TEXT], i: usize) -> u32
-    ensures { result ≡ bit_at kinds.now i }
-{
-    if arrays::byte_at(kinds, i) == token::ONE {
-        return 1;
-    }
-    0
 }
 
 // The value of an item: the number of the declaration that a name stands for, a literal's value; 0 for an operator.
+#[tactic(auto, unfolding(crate::specs::Positions::value_at))]
 fn value_at(
     text: &[u8],
     starts: &[u16; limit::TEXT],
@@ -68,42 +39,15 @@ fn value_at(
     owners: &[u8; limit::TEXT],
     c: u8,
     i: usize,
-) -> u32
-    ensures { result ≡ value_at text.now starts.now sizes.now kinds.now owners.now c i }
+) -> i32
+    ensures { result ≡ pos (within (value_at text.now starts.now sizes.now kinds.now owners.now c i)) }
 {
     match c {
-        item::NAME => arrays::byte_at(owners, i) as u32,
-        item::NUMBER => literal_at(text, starts, sizes, i),
-        item::BIT => bit_at(kinds, i),
+        item::NAME => i32::from(owners.get(i).copied().unwrap_or(0)),
+        item::NUMBER => arrays::literal_at(text, starts, sizes, i),
+        item::BIT => arrays::bit_at(kinds, i),
         _ => 0,
     }
-}
-
-// A number that fits, as a value.
-fn whole(n: u32) -> i32
-    ensures { result ≡ pos (within n) }
-{
-    if n <= limit::INTEGER {
-        return n as i32;
-    }
-    0
-}
-
-// An index of the array, as wide as indices are.
-fn wide(x: u16) -> usize
-    ensures { result ≡ x }
-{
-    x as usize
-}
-
-// As many items as the arrays have room for.
-fn at_most(k: usize) -> usize
-    ensures { result ≡ min k TEXT }
-{
-    if k < limit::TEXT {
-        return k;
-    }
-    limit::TEXT
 }
 
 // The values of all items, in their order: behind this pass no token is asked for.
@@ -121,43 +65,31 @@ pub fn resolve(
     ensures { Resolves (value_at text.now starts.now sizes.now kinds.now owners.now)
         codes.now indices.now k args.old args.new }
 {
-    let n = at_most(k);
-    let mut j = 0;
-    while j < n {
-        let c = codes[j];
-        let i = wide(indices[j]);
-        args[j] = whole(value_at(text, starts, sizes, kinds, owners, c, i));
-        j += 1;
+    for j in 0..k.min(limit::TEXT) {
+        let i = usize::from(indices[j]);
+        args[j] = value_at(text, starts, sizes, kinds, owners, codes[j], i);
     }
 }
 
-// The number of a declaration, as wide as indices are.
-fn number_of(a: i32) -> usize
-    ensures { result ≡ unsigned32 a }
-{
-    base_signed::to_bits(a) as usize
-}
-
-// Item j becomes its operation: a name gets its code and its index; a literal and an operator have theirs already. The type of an operator's operands is told
+// An item becomes its operation: a name gets its code and its index; a literal and an operator have theirs already. The type of an operator's operands is told
 // later, by the crate front_operands.
+#[tactic(auto, unfolding(crate::specs::Positions::code_of, crate::specs::Positions::arg_of))]
 fn put(
     decls: &[u16; declaration::ROWS],
     d: usize,
     slots: &[u8; limit::NAMES],
-    j: usize,
-    ops: &mut [u8; limit::TEXT],
-    args: &mut [i32; limit::TEXT],
+    op: &mut u8,
+    arg: &mut i32,
 )
-    requires { j < TEXT }
-    ensures ops_after { ops.new ≡ set ops.old j (code_of decls.now d (get_or ops.old j 0) (unsigned32 (get_or args.old j (pos 0)))) }
-    ensures args_after { args.new ≡ set args.old j (arg_of decls.now d slots.now (get_or ops.old j 0) (get_or args.old j (pos 0))) }
+    ensures op_after { op.new ≡ code_of decls.now d op.old (unsigned32 arg.old) }
+    ensures arg_after { arg.new ≡ arg_of decls.now d slots.now op.old arg.old }
 {
-    if ops[j] != item::NAME {
+    if *op != item::NAME {
         return;
     }
-    let q = number_of(args[j]);
-    ops[j] = name_code(mode_at(decls, d, q));
-    args[j] = whole(name_arg(decls, d, slots, q));
+    let q = base_signed::to_bits(*arg) as usize;
+    *op = name_code(mode_at(decls, d, q));
+    *arg = i32::from(name_arg(decls, d, slots, q));
 }
 
 // All items, in place.
@@ -171,10 +103,7 @@ pub fn place(
 )
     ensures { Places (λ c z. code_of decls.now d c (unsigned32 z)) (arg_of decls.now d slots.now) k ops.old ops.new args.old args.new }
 {
-    let n = at_most(k);
-    let mut j = 0;
-    while j < n {
-        put(decls, d, slots, j, ops, args);
-        j += 1;
+    for j in 0..k.min(limit::TEXT) {
+        put(decls, d, slots, &mut ops[j], &mut args[j]);
     }
 }

@@ -2,7 +2,7 @@
 use mathlib.Core.Path.{◌≡◌, refl, sym, ◌∙◌, ap, subst}
 use mathlib.Core.Bool.{Bool, true, false, not}
 use mathlib.Core.List.{List, [], ◌∷◌, ◌++◌, append_assoc, append-nil}
-use Prim.Native.Nat.{ℕ, ◌+◌, ◌-◌, ◌≤◌, ◌<◌}
+use Prim.Native.Nat.{ℕ, ◌<◌}
 use native.Mathlib.Omega.{arith}
 use borrow.Author.Tests.{ne_eqb, eqb-true, eqb-false}
 use lib.Dec.{T, eqb, lit<}
@@ -14,18 +14,15 @@ use Rattle.spec_grammar.specs.Tree.{Expr, sign, negate, binary}
 use Rattle.spec_grammar.specs.Grammar.{NonTerminal, expression, chain, ands, ors, xors, relation, compared, simple, terms, term, factors, factor, primary, Says}
 use Rattle.spec_grammar.specs.Grammar.{Sym, tk, nt, Fun, item, Production, productions, ◌↠◌}
 use Rattle.spec_grammar.specs.Meter.{InHeading}
-use Rattle.spec_grammar.specs.Derivation.{here}
-use Rattle.spec_grammar.specs.Reader.{choose, compose, elem, first, pick, take}
+use Rattle.spec_grammar.specs.Derivation.{here, ◌∈◌}
+use Rattle.spec_grammar.specs.Reader.{compose, elem, first, pick, take}
 use Rattle.spec_grammar.proofs.Steps.{Ok}
 use Rattle.spec_grammar.proofs.Tables.{pick_rule}
-use Rattle.front_cursor.specs.declared.Cursor.{Cursor}
 use Rattle.front_layout.specs.Tokens.{token_at, kind_in, Holds}
-use Rattle.front_cursor.specs.Reading.{from, Fine, Asks, Moves, follows_at}
-use Rattle.front_cursor.proofs.Measures.{turn_falls}
-use Rattle.front_cursor.proofs.Steps.{kind_is, kind_inside, from_stays, rule_at, left_at, into_at, follows_false}
+use Rattle.front_cursor.specs.Reading.{Read, from, Fine, Asks, Moves}
+use Rattle.front_cursor.proofs.Steps.{kind_is, kind_inside, from_stays, rule_at, left_at, into_at}
 use Rattle.front_layout.specs.Postfix.{Item, item_of, binary_item, postfix}
 use Rattle.front_layout.specs.Items.{Arrays, Wrote}
-use Rattle.front_expressions.specs.Tests.{more_terms, more_factors}
 use Rattle.base_codes.specs.Token.{one_of, operands, adding, multiplying, relational, logical, MINUS, AND, OR, XOR, NOT}
 use Rattle.base_codes.proofs.TokenLaws.{each, some_kind, not_one}
 use Rattle.front_expressions.specs.Readers.{ReadsOver, Tail, sum, product, and_chain, or_chain, xor_chain, tail_of, whole_of, of_tail, of_whole, operator_of}
@@ -36,12 +33,12 @@ use Rattle.front_expressions.proofs.Primaries.{ok_of, stay_moves}
 use Rattle.front_expressions.proofs.Picks.{and_rule, or_rule, xor_rule, pick_not, pick_sign, pick_term, pick_factor, pick_and, pick_or, pick_xor, chain_and}
 use Rattle.front_expressions.proofs.Picks.{chain_or, chain_xor, pick_compared, into_relation, into_simple, into_term, into_factor, into_primary}
 
-pub moves_then : {n : ℕ} {q a r : Cursor} → Moves n q a → Moves n a r → Moves n q r
+pub moves_then : {n : ℕ} {q a r : Read} → Moves n q a → Moves n a r → Moves n q r
 moves_then u v = record { on = omega arith; inside = omega arith; room = omega arith; few = omega arith; began = λ z. u.began (v.began z) }
 
 -- an operator with its operand, by a production that begins with them
 taken : (M A : NonTerminal) (flat : Says A → List Item) (δ : List Sym)
-    (says : Token → Says A → Fun δ (Says M)) {kinds long : List ℕ} {n : ℕ} {q r : Cursor} {d k code : ℕ} {before after : Arrays}
+    (says : Token → Says A → Fun δ (Says M)) {kinds long : List ℕ} {n : ℕ} {q r : Read} {d k code : ℕ} {before after : Arrays}
     → kind_in kinds n q.at ≡ k → pick (productions M) k ≡ take (tk item k ∷ nt A ∷ δ ↠ says)
     → (b : BehindOver A flat k code kinds long n q d before r after) (ts : List Token) (holds : Holds ts kinds long n)
     → (S : NonTerminal) (s l : ℕ) (h : InHeading) → Fine s h → (γ : List Sym) (κ : Says M → Fun γ (Says S)) → Ok (nt M ∷ γ)
@@ -53,9 +50,9 @@ taken M A flat δ says {n = n} {q} {d = d} {k} e p b ts holds S s l h fine γ κ
     rule_at ts S s l h q d M γ κ r w (let z = holds.count in let i = b.inside in omega arith)
     ∙ (b.reads ts holds).goes S s l h fine (δ ++ γ) (λ x v. compose M S δ γ (says x v) κ) (ok_of γ (pick_rule r (token_at ts q.at).kind w) o)
 
-module _ {kinds long : List ℕ} {n : ℕ} {q : Cursor} {d : ℕ} where
+module _ {kinds long : List ℕ} {n : ℕ} {q : Read} {d : ℕ} where
   -- a factor
-  pub factor_plain : {before after : Arrays} {r : Cursor} → (kind_in kinds n q.at ≡ 22 → ⊥) → ReadsOver primary postfix kinds long n q d before r after
+  pub factor_plain : {before after : Arrays} {r : Read} → (kind_in kinds n q.at ≡ 22 → ⊥) → ReadsOver primary postfix kinds long n q d before r after
       → ReadsOver factor postfix kinds long n q d before r after
   unfolding compose productions
   factor_plain f p = record {
@@ -69,7 +66,7 @@ module _ {kinds long : List ℕ} {n : ℕ} {q : Cursor} {d : ℕ} where
     };
   }
 
-  pub factor_not : {before after : Arrays} {r : Cursor} → kind_in kinds n q.at ≡ 22 → BehindOver primary postfix NOT O.NOT kinds long n q d before r after
+  pub factor_not : {before after : Arrays} {r : Read} → kind_in kinds n q.at ≡ 22 → BehindOver primary postfix NOT O.NOT kinds long n q d before r after
       → ReadsOver factor postfix kinds long n q d before r after
   unfolding compose postfix
   factor_not e b = record {
@@ -82,7 +79,7 @@ module _ {kinds long : List ℕ} {n : ℕ} {q : Cursor} {d : ℕ} where
   }
 
   -- the first factor of a product
-  pub product_first : {before after : Arrays} {r : Cursor} → ReadsOver factor postfix kinds long n q d before r after
+  pub product_first : {before after : Arrays} {r : Read} → ReadsOver factor postfix kinds long n q d before r after
       → PartlyOver product kinds long n q d before r after
   unfolding compose productions
   product_first p = record {
@@ -97,7 +94,7 @@ module _ {kinds long : List ℕ} {n : ℕ} {q : Cursor} {d : ℕ} where
   }
 
   -- the first term of a sum
-  pub signed_plain : {before after : Arrays} {r : Cursor} → (kind_in kinds n q.at ≡ 12 → ⊥) → ReadsOver term postfix kinds long n q d before r after
+  pub signed_plain : {before after : Arrays} {r : Read} → (kind_in kinds n q.at ≡ 12 → ⊥) → ReadsOver term postfix kinds long n q d before r after
       → PartlyOver sum kinds long n q d before r after
   unfolding compose productions
   signed_plain f p = record {
@@ -111,7 +108,7 @@ module _ {kinds long : List ℕ} {n : ℕ} {q : Cursor} {d : ℕ} where
     };
   }
 
-  pub signed_sign : {before after : Arrays} {r : Cursor} → kind_in kinds n q.at ≡ 12 → BehindOver term postfix MINUS O.SIGN kinds long n q d before r after
+  pub signed_sign : {before after : Arrays} {r : Read} → kind_in kinds n q.at ≡ 12 → BehindOver term postfix MINUS O.SIGN kinds long n q d before r after
       → PartlyOver sum kinds long n q d before r after
   unfolding compose postfix
   signed_sign e b = record {
@@ -134,7 +131,7 @@ logical_alone =
     no_clash e = let z : ◌≡◌ {A = ℕ} 0 1 = cc in omega arith
 
 -- an operator with two operands is written with the code of its kind
-binary_items : (q : Cursor) {kinds long : List ℕ} {n : ℕ} {ts : List Token} {m p : ℕ} {before after : Arrays} → Holds ts kinds long n → (k : ℕ)
+binary_items : (q : Read) {kinds long : List ℕ} {n : ℕ} {ts : List Token} {m p : ℕ} {before after : Arrays} → Holds ts kinds long n → (k : ℕ)
     → kind_in kinds n q.at ≡ k → {code : ℕ} → code ≡ operation_of k → (xs : List Item)
     → Wrote ts m p before after (xs ++ (item_of code (token_at ts q.at) ∷ [])) → Wrote ts m p before after (xs ++ (binary_item (token_at ts q.at) ∷ []))
 binary_items q {ts = ts} {m} {p} {before} {after} holds k e c xs w =
@@ -156,8 +153,8 @@ tree_of and_chain v = v
 tree_of or_chain v = v
 tree_of xor_chain v = v
 
-module _ {kinds long : List ℕ} {n : ℕ} {q : Cursor} {d : ℕ} (k : ℕ) (e : kind_in kinds n q.at ≡ k) {code : ℕ} (is_code : code ≡ operation_of k) where
-  one_turn : (t : Tail) {before after : Arrays} {r : Cursor}
+module _ {kinds long : List ℕ} {n : ℕ} {q : Read} {d : ℕ} (k : ℕ) (e : kind_in kinds n q.at ≡ k) {code : ℕ} (is_code : code ≡ operation_of k) where
+  one_turn : (t : Tail) {before after : Arrays} {r : Read}
       (b : BehindOver (operand_of t) (λ (v : Says (operand_of t)). postfix (tree_of t v)) k code kinds long n q d before r after)
       → ((ts : List Token) (holds : Holds ts kinds long n) → (a : Expr) (S : NonTerminal) (s l : ℕ) (h : InHeading) → Fine s h
       → (γ : List Sym) (κ : Expr → Fun γ (Says S)) → Ok (nt (tail_of t) ∷ γ)
@@ -182,7 +179,7 @@ module _ {kinds long : List ℕ} {n : ℕ} {q : Cursor} {d : ℕ} (k : ℕ) (e :
   }
 
   -- an operator of a list, and the operand behind it
-  pub list_turn : (t : Tail) {before after : Arrays} {r : Cursor} → operator_of t k
+  pub list_turn : (t : Tail) {before after : Arrays} {r : Read} → operator_of t k
       → BehindOver (operand_of t) (λ (v : Says (operand_of t)). postfix (tree_of t v)) k code kinds long n q d before r after
       → OneTurn t kinds long n q d before r after
   unfolding compose
@@ -202,7 +199,7 @@ module _ {kinds long : List ℕ} {n : ℕ} {q : Cursor} {d : ℕ} (k : ℕ) (e :
       (λ f. κ (f a)) o)
 
   -- the same of whichever chain has this operator
-  pub joined_turn : {before after : Arrays} {r : Cursor} → one_of k logical ≡ true → (t : Tail) → operator_of t k
+  pub joined_turn : {before after : Arrays} {r : Read} → one_of k logical ≡ true → (t : Tail) → operator_of t k
       → BehindOver relation postfix k code kinds long n q d before r after → OneTurn t kinds long n q d before r after
   joined_turn w sum op b = absurd ((logical_alone k w).0 op)
   joined_turn w product op b = absurd ((logical_alone k w).1 op)
@@ -211,7 +208,7 @@ module _ {kinds long : List ℕ} {n : ℕ} {q : Cursor} {d : ℕ} (k : ℕ) (e :
   joined_turn w xor_chain op b = list_turn xor_chain op b
 
 -- no turn, and one turn after others
-pub turn_none : (t : Tail) {kinds long : List ℕ} {n : ℕ} {q : Cursor} {d : ℕ} (b : Arrays) → Asks n q → TurnOver t kinds long n q d b q b
+pub turn_none : (t : Tail) {kinds long : List ℕ} {n : ℕ} {q : Read} {d : ℕ} (b : Arrays) → Asks n q → TurnOver t kinds long n q d b q b
 turn_none t {n = n} {q} b a = record {
   moves = stay_moves n q a;
   reads = λ ts holds. record {
@@ -224,7 +221,7 @@ turn_none t {n = n} {q} b a = record {
   };
 }
 
-pub turn_then : {t : Tail} {kinds long : List ℕ} {n : ℕ} {q a r : Cursor} {d : ℕ} {before middle after : Arrays} → TurnOver t kinds long n q d before a middle
+pub turn_then : {t : Tail} {kinds long : List ℕ} {n : ℕ} {q a r : Read} {d : ℕ} {before middle after : Arrays} → TurnOver t kinds long n q d before a middle
     → TurnOver t kinds long n a d middle r after → TurnOver t kinds long n q d before r after
 turn_then u v = record {
   moves = moves_then u.moves v.moves;
@@ -241,7 +238,7 @@ turn_then u v = record {
 }
 
 -- the tree so far, and turns after it
-pub partly_then : {t : Tail} {kinds long : List ℕ} {n : ℕ} {q a r : Cursor} {d : ℕ} {before middle after : Arrays}
+pub partly_then : {t : Tail} {kinds long : List ℕ} {n : ℕ} {q a r : Read} {d : ℕ} {before middle after : Arrays}
     → ((γ : List Sym) → Ok (nt (whole_of t) ∷ γ) → Ok (nt (tail_of t) ∷ γ))
     → PartlyOver t kinds long n q d before a middle → TurnOver t kinds long n a d middle r after → PartlyOver t kinds long n q d before r after
 partly_then {t} {kinds} {long} {n} {q} {a} {r} {d} {before} {middle} {after} ok u v = record {
@@ -274,7 +271,7 @@ unfolding first elem one_of
 no_factor k e t = subst T e t
 
 -- a list ends where its operator does not stand, or where the reader has refused
-tail_end : (t : Tail) (ts : List Token) (S : NonTerminal) (s l : ℕ) (h : InHeading) (r : Cursor) (d : ℕ) → (operator_of t (token_at ts r.at).kind → ⊥)
+tail_end : (t : Tail) (ts : List Token) (S : NonTerminal) (s l : ℕ) (h : InHeading) (r : Read) (d : ℕ) → (operator_of t (token_at ts r.at).kind → ⊥)
     → (γ : List Sym) (κ : Expr → Fun γ (Says S)) (a : Expr) → Ok (nt (tail_of t) ∷ γ)
     → from ts S s l h r d (nt (tail_of t) ∷ γ) (of_tail t S γ κ a) ≡ from ts S s l h r d γ (κ a)
 unfolding productions first elem
@@ -287,7 +284,7 @@ tail_end or_chain ts S s l h r d f γ κ a o = left_at ts S s l h r d ors γ (λ
 tail_end xor_chain ts S s l h r d f γ κ a o =
     left_at ts S s l h r d xors γ (λ g. κ (g a)) o (λ b. b) here (λ z. rw (ne_eqb (token_at ts r.at).kind XOR f) at z)
 
-pub tail_over : (t : Tail) (ts : List Token) (S : NonTerminal) (s l : ℕ) (h : InHeading) (r : Cursor) (d : ℕ)
+pub tail_over : (t : Tail) (ts : List Token) (S : NonTerminal) (s l : ℕ) (h : InHeading) (r : Read) (d : ℕ)
     → (r.fault ≡ 0 → operator_of t (token_at ts r.at).kind → ⊥) → (γ : List Sym) (κ : Expr → Fun γ (Says S)) (a : Expr) → Ok (nt (tail_of t) ∷ γ)
     → from ts S s l h r d (nt (tail_of t) ∷ γ) (of_tail t S γ κ a) ≡ from ts S s l h r d γ (κ a)
 tail_over t ts S s l h r d f γ κ a o = go (eqb r.fault 0) refl
@@ -296,35 +293,18 @@ tail_over t ts S s l h r d f γ κ a o = go (eqb r.fault 0) refl
     go true e = tail_end t ts S s l h r d (f (eqb-true r.fault 0 e)) γ κ a o
     go false e = from_stays ts S s l s l h h r r d d (nt (tail_of t) ∷ γ) γ (of_tail t S γ κ a) (κ a) (eqb-false r.fault 0 e) refl refl
 
--- the tests of the loops
-pub more_true : (f : ℕ) (b : Bool) → choose (eqb f 0) b false ≡ true → (f ≡ 0) × (b ≡ true)
-more_true f b e = go (eqb f 0) refl e
+-- a nonterminal is left out where it cannot begin, or where the reader has refused
+left_over : (ts : List Token) (S : NonTerminal) (s l : ℕ) (h : InHeading) (r : Read) (d : ℕ) (M : NonTerminal) (γ : List Sym) (κ : Says M → Fun γ (Says S))
+    → Ok (nt M ∷ γ) → (v : Says M) → ◌∈◌ {M = M} ([] ↠ v) (productions M) → (r.fault ≡ 0 → T (elem (token_at ts r.at).kind (first M)) → ⊥)
+    → from ts S s l h r d (nt M ∷ γ) κ ≡ from ts S s l h r d γ (κ v)
+left_over ts S s l h r d M γ κ o v m f = go (eqb r.fault 0) refl
   where
-    go : (a : Bool) → eqb f 0 ≡ a → choose a b false ≡ true → (f ≡ 0) × (b ≡ true)
-    go true u z = (eqb-true f 0 u, z)
-    go false u z = absurd (let y : ◌≡◌ {A = ℕ} 0 1 = cc in omega arith)
-
-more_false : (f : ℕ) (b : Bool) → choose (eqb f 0) b false ≡ false → f ≡ 0 → b ≡ true → ⊥
-more_false f b e z w = let y : true ≡ false = (rw (z, w) at e) in let x : ◌≡◌ {A = ℕ} 0 1 = cc in omega arith
-
-pub more_terms_true : (f k : ℕ) → more_terms f k ≡ true → (f ≡ 0) × (one_of k adding ≡ true)
-unfolding more_terms
-more_terms_true f k e = more_true f (one_of k adding) e
-
-pub more_terms_false : (f k : ℕ) → more_terms f k ≡ false → f ≡ 0 → one_of k adding ≡ true → ⊥
-unfolding more_terms
-more_terms_false f k e = more_false f (one_of k adding) e
-
-pub more_factors_true : (f k : ℕ) → more_factors f k ≡ true → (f ≡ 0) × (one_of k multiplying ≡ true)
-unfolding more_factors
-more_factors_true f k e = more_true f (one_of k multiplying) e
-
-pub more_factors_false : (f k : ℕ) → more_factors f k ≡ false → f ≡ 0 → one_of k multiplying ≡ true → ⊥
-unfolding more_factors
-more_factors_false f k e = more_false f (one_of k multiplying) e
+    go : (b : Bool) → eqb r.fault 0 ≡ b → from ts S s l h r d (nt M ∷ γ) κ ≡ from ts S s l h r d γ (κ v)
+    go true e = left_at ts S s l h r d M γ κ o v m (f (eqb-true r.fault 0 e))
+    go false e = from_stays ts S s l s l h h r r d d (nt M ∷ γ) γ κ (κ v) (eqb-false r.fault 0 e) refl refl
 
 -- The whole list, where none of its operators follows.
-module _ (t : Tail) {kinds long : List ℕ} {n : ℕ} {q r : Cursor} {d : ℕ} {before after : Arrays} where
+module _ (t : Tail) {kinds long : List ℕ} {n : ℕ} {q r : Read} {d : ℕ} {before after : Arrays} where
   list_goes : ((γ : List Sym) → Ok (nt (whole_of t) ∷ γ) → Ok (nt (tail_of t) ∷ γ)) → (p : PartlyOver t kinds long n q d before r after)
       → (r.fault ≡ 0 → operator_of t (kind_in kinds n r.at) → ⊥) → (ts : List Token) (holds : Holds ts kinds long n)
       → (S : NonTerminal) (s l : ℕ) (h : InHeading) → Fine s h → (γ : List Sym) (κ : Expr → Fun γ (Says S)) → Ok (nt (whole_of t) ∷ γ)
@@ -334,33 +314,31 @@ module _ (t : Tail) {kinds long : List ℕ} {n : ℕ} {q r : Cursor} {d : ℕ} {
       ∙ tail_over t ts S s l h r d (λ z w. stop z (subst (operator_of t) (sym (kind_is holds r.at)) w)) γ κ (p.reads ts holds).value (ok γ o)
 
 -- a sum
-pub sum_read : {kinds long : List ℕ} {n : ℕ} {q a r : Cursor} {d : ℕ} {before middle after : Arrays} → PartlyOver sum kinds long n q d before a middle
+pub sum_read : {kinds long : List ℕ} {n : ℕ} {q a r : Read} {d : ℕ} {before middle after : Arrays} → PartlyOver sum kinds long n q d before a middle
     → TurnOver sum kinds long n a d middle r after
-    → more_terms r.fault (kind_in kinds n r.at) ≡ false → ReadsOver simple postfix kinds long n q d before r after
-sum_read {kinds} {n = n} {r = r} u v e =
+    → (r.fault ≡ 0 → one_of (kind_in kinds n r.at) adding ≡ true → ⊥) → ReadsOver simple postfix kinds long n q d before r after
+sum_read u v e =
     let p = partly_then ok_terms u v in
     record {
       moves = p.moves;
       reads = λ ts holds. record {
         value = (p.reads ts holds).value;
-        goes = list_goes sum ok_terms p
-            (more_terms_false r.fault (kind_in kinds n r.at) e) ts holds;
+        goes = list_goes sum ok_terms p e ts holds;
         wrote = (p.reads ts holds).wrote;
       };
     }
 
 -- a product
-pub product_read : {kinds long : List ℕ} {n : ℕ} {q a r : Cursor} {d : ℕ} {before middle after : Arrays}
+pub product_read : {kinds long : List ℕ} {n : ℕ} {q a r : Read} {d : ℕ} {before middle after : Arrays}
     → ReadsOver factor postfix kinds long n q d before a middle → TurnOver product kinds long n a d middle r after
-    → more_factors r.fault (kind_in kinds n r.at) ≡ false → ReadsOver term postfix kinds long n q d before r after
-product_read {kinds} {n = n} {r = r} u v e =
+    → (r.fault ≡ 0 → one_of (kind_in kinds n r.at) multiplying ≡ true → ⊥) → ReadsOver term postfix kinds long n q d before r after
+product_read u v e =
     let p = partly_then ok_factors (product_first u) v in
     record {
       moves = p.moves;
       reads = λ ts holds. record {
         value = (p.reads ts holds).value;
-        goes = list_goes product ok_factors p
-            (more_factors_false r.fault (kind_in kinds n r.at) e) ts holds;
+        goes = list_goes product ok_factors p e ts holds;
         wrote = (p.reads ts holds).wrote;
       };
     }
@@ -374,9 +352,9 @@ no_chain : (k : ℕ) → one_of k logical ≡ false → T (elem k (first chain))
 unfolding first elem one_of
 no_chain k e t = subst T e t
 
-module _ {kinds long : List ℕ} {n : ℕ} {q : Cursor} {d : ℕ} where
-  pub relation_plain : {before after : Arrays} {r : Cursor} → ReadsOver simple postfix kinds long n q d before r after
-      → one_of (kind_in kinds n r.at) relational ≡ false → ReadsOver relation postfix kinds long n q d before r after
+module _ {kinds long : List ℕ} {n : ℕ} {q : Read} {d : ℕ} where
+  pub relation_plain : {before after : Arrays} {r : Read} → ReadsOver simple postfix kinds long n q d before r after
+      → (r.fault ≡ 0 → one_of (kind_in kinds n r.at) relational ≡ false) → ReadsOver relation postfix kinds long n q d before r after
   unfolding compose productions
   relation_plain {r = r} p f = record {
     moves = p.moves;
@@ -386,13 +364,13 @@ module _ {kinds long : List ℕ} {n : ℕ} {q : Cursor} {d : ℕ} where
           let ok : Ok (nt simple ∷ nt compared ∷ γ) = ok_of {r = nt simple ∷ nt compared ∷ [] ↠ λ a f. f a} γ here o in
           into_at ts S s l h q d relation simple (nt compared ∷ []) (λ a f. f a) γ κ (into_simple (token_at ts q.at).kind)
           ∙ ((p.reads ts holds).goes S s l h fine (nt compared ∷ γ) (λ a f. κ (f a)) ok
-          ∙ left_at ts S s l h r d compared γ (λ f. κ (f (p.reads ts holds).value)) ok.2 (λ a. a) here
-          (no_comparison (token_at ts r.at).kind (subst (λ (k : ℕ). one_of k relational ≡ false) (kind_is holds r.at) f)));
+          ∙ left_over ts S s l h r d compared γ (λ f. κ (f (p.reads ts holds).value)) ok.2 (λ a. a) here
+          (λ z. no_comparison (token_at ts r.at).kind (subst (λ (k : ℕ). one_of k relational ≡ false) (kind_is holds r.at) (f z))));
       wrote = (p.reads ts holds).wrote;
     };
   }
 
-  pub relation_compared : {before middle after : Arrays} {a r : Cursor} (k : ℕ) → ReadsOver simple postfix kinds long n q d before a middle
+  pub relation_compared : {before middle after : Arrays} {a r : Read} (k : ℕ) → ReadsOver simple postfix kinds long n q d before a middle
       → one_of k relational ≡ true → kind_in kinds n a.at ≡ k
       → {code : ℕ} → code ≡ operation_of k → BehindOver simple postfix k code kinds long n a d middle r after
       → ReadsOver relation postfix kinds long n q d before r after
@@ -414,8 +392,8 @@ module _ {kinds long : List ℕ} {n : ℕ} {q : Cursor} {d : ℕ} where
   }
 
   -- an expression
-  pub expression_plain : {before after : Arrays} {r : Cursor} → ReadsOver relation postfix kinds long n q d before r after
-      → one_of (kind_in kinds n r.at) logical ≡ false → ReadsOver expression postfix kinds long n q d before r after
+  pub expression_plain : {before after : Arrays} {r : Read} → ReadsOver relation postfix kinds long n q d before r after
+      → (r.fault ≡ 0 → one_of (kind_in kinds n r.at) logical ≡ false) → ReadsOver expression postfix kinds long n q d before r after
   unfolding compose productions
   expression_plain {r = r} p f = record {
     moves = p.moves;
@@ -425,14 +403,14 @@ module _ {kinds long : List ℕ} {n : ℕ} {q : Cursor} {d : ℕ} where
           let ok : Ok (nt relation ∷ nt chain ∷ γ) = ok_of {r = nt relation ∷ nt chain ∷ [] ↠ λ a f. f a} γ here o in
           into_at ts S s l h q d expression relation (nt chain ∷ []) (λ a f. f a) γ κ (into_relation (token_at ts q.at).kind)
           ∙ ((p.reads ts holds).goes S s l h fine (nt chain ∷ γ) (λ a f. κ (f a)) ok
-          ∙ left_at ts S s l h r d chain γ (λ f. κ (f (p.reads ts holds).value)) ok.2 (λ a. a) here
-          (no_chain (token_at ts r.at).kind (subst (λ (k : ℕ). one_of k logical ≡ false) (kind_is holds r.at) f)));
+          ∙ left_over ts S s l h r d chain γ (λ f. κ (f (p.reads ts holds).value)) ok.2 (λ a. a) here
+          (λ z. no_chain (token_at ts r.at).kind (subst (λ (k : ℕ). one_of k logical ≡ false) (kind_is holds r.at) (f z))));
       wrote = (p.reads ts holds).wrote;
     };
   }
 
 -- at an operator a chain is a chain of that operator
-chain_start : (q : Cursor) (d : ℕ) (t : Tail) (k : ℕ) → one_of k logical ≡ true → operator_of t k → {kinds long : List ℕ} {n : ℕ} {ts : List Token}
+chain_start : (q : Read) (d : ℕ) (t : Tail) (k : ℕ) → one_of k logical ≡ true → operator_of t k → {kinds long : List ℕ} {n : ℕ} {ts : List Token}
     → Holds ts kinds long n → kind_in kinds n q.at ≡ k → (S : NonTerminal) (s l : ℕ) (h : InHeading) (γ : List Sym) (κ : Expr → Fun γ (Says S)) (a : Expr)
     → from ts S s l h q d (nt chain ∷ γ) (λ f. κ (f a)) ≡ from ts S s l h q d (nt (tail_of t) ∷ γ) (of_tail t S γ κ a)
 unfolding compose
@@ -472,9 +450,9 @@ not_operator xor_chain k j w op f z = f (z ∙ sym op)
 pub which : (k : ℕ) → one_of k logical ≡ true → (t : Tail) × operator_of t k
 which = each (λ (k : ℕ). (t : Tail) × operator_of t k) logical ((and_chain, refl), ((or_chain, refl), ((xor_chain, refl), tt)))
 
-pub expression_chain : {kinds long : List ℕ} {n : ℕ} {q a r : Cursor} {d : ℕ} {before middle after : Arrays} (k : ℕ) → one_of k logical ≡ true
+pub expression_chain : {kinds long : List ℕ} {n : ℕ} {q a r : Read} {d : ℕ} {before middle after : Arrays} (k : ℕ) → one_of k logical ≡ true
     → ReadsOver relation postfix kinds long n q d before a middle → kind_in kinds n a.at ≡ k
-    → ((t : Tail) → operator_of t k → TurnOver t kinds long n a d middle r after) → follows_at r.fault (kind_in kinds n r.at) k ≡ false
+    → ((t : Tail) → operator_of t k → TurnOver t kinds long n a d middle r after) → (r.fault ≡ 0 → kind_in kinds n r.at ≡ k → ⊥)
     → ReadsOver expression postfix kinds long n q d before r after
 unfolding compose productions
 expression_chain {kinds} {long} {n} {q} {a} {r} {d} {before} {middle} {after} k w p e turns stop =
@@ -496,14 +474,14 @@ expression_chain {kinds} {long} {n} {q} {a} {r} {d} {before} {middle} {after} k 
                 ∙ (chain_start a d t k w op holds e S s l h γ κ x.value
                 ∙ (y.goes x.value S s l h fine γ κ on
                 ∙ tail_over t ts S s l h r d (λ z. not_operator t k (token_at ts r.at).kind w op
-                (λ w. follows_false r.fault (kind_in kinds n r.at) k stop z (kind_is holds r.at ∙ w))) γ κ (y.grow x.value) on)));
+                (λ w. stop z (kind_is holds r.at ∙ w))) γ κ (y.grow x.value) on)));
             wrote = λ z. subst (λ (l : List Item). Wrote ts q.written r.written before after l) (sym (y.grows x.value))
                 (wrote_then (x.wrote (v.moves.began z)) (y.wrote z));
           };
     }
 
 -- What the needs of the calls and loops ask: bounds.
-pub asks_after : {n : ℕ} {q a : Cursor} → Asks n q → Moves n q a → Asks n a
+pub asks_after : {n : ℕ} {q a : Read} → Asks n q → Moves n q a → Asks n a
 asks_after u v = record { short = omega arith; inside = omega arith; room = omega arith; few = omega arith }
 
 -- a test that is turned round
@@ -532,21 +510,16 @@ relational_kind = some_kind relational (lit< tt, (lit< tt, (lit< tt, (lit< tt, (
 pub logical_kind : (k : ℕ) → one_of k logical ≡ true → 0 < k
 logical_kind = some_kind logical (lit< tt, (lit< tt, (lit< tt, tt)))
 
--- a turn brings the loop nearer to its end: it gets further, or refuses
-pub loop_falls : (n : ℕ) (a r : Cursor) → a.at ≤ n → a.fault ≡ 0 → Moves n a r → (r.fault ≡ 0 → a.at < r.at)
-    → (n - r.at) + (1 - r.fault) < (n - a.at) + (1 - a.fault)
-loop_falls n a r i z m f = turn_falls n a.at r.at a.fault r.fault m.inside z m.on f
-
 -- a loop over a chain of the operator with kind k
-pub record Chained (k : ℕ) (kinds long : List ℕ) (n : ℕ) (q : Cursor) (d : ℕ) (before : Arrays) (r : Cursor) (after : Arrays) : Type 0 where
+pub record Chained (k : ℕ) (kinds long : List ℕ) (n : ℕ) (q : Read) (d : ℕ) (before : Arrays) (r : Read) (after : Arrays) : Type 0 where
   pub moves : Moves n q r
   pub turns : (t : Tail) → operator_of t k → TurnOver t kinds long n q d before r after
 
-pub chained_none : {k : ℕ} {kinds long : List ℕ} {n : ℕ} {q : Cursor} {d : ℕ} (b : Arrays) → Asks n q → Chained k kinds long n q d b q b
+pub chained_none : {k : ℕ} {kinds long : List ℕ} {n : ℕ} {q : Read} {d : ℕ} (b : Arrays) → Asks n q → Chained k kinds long n q d b q b
 chained_none {n = n} {q} b a = record { moves = stay_moves n q a; turns = λ t op. turn_none t b a }
 
 -- one turn more, at the operator j
-pub chained_again : {k : ℕ} {kinds long : List ℕ} {n : ℕ} {q a r : Cursor} {d : ℕ} {before middle after : Arrays} → (j : ℕ) → one_of k logical ≡ true → j ≡ k
+pub chained_again : {k : ℕ} {kinds long : List ℕ} {n : ℕ} {q a r : Read} {d : ℕ} {before middle after : Arrays} → (j : ℕ) → one_of k logical ≡ true → j ≡ k
     → Chained k kinds long n q d before a middle
     → ((t : Tail) → operator_of t j → OneTurn t kinds long n a d middle r after) → Chained k kinds long n q d before r after
 chained_again {k} j l e c f =
@@ -556,10 +529,6 @@ chained_again {k} j l e c f =
       turns = λ t op. turn_then (c.turns t op) (f t (subst (operator_of t) (sym e) op)).turn;
     }
 
-pub chained_falls : {k : ℕ} {kinds long : List ℕ} {n : ℕ} {a r : Cursor} {d : ℕ} {middle after : Arrays} → (j : ℕ) → one_of k logical ≡ true → j ≡ k → a.at ≤ n
-    → a.fault ≡ 0
-    → ((t : Tail) → operator_of t j → OneTurn t kinds long n a d middle r after) → (n - r.at) + (1 - r.fault) < (n - a.at) + (1 - a.fault)
-chained_falls {k} {n = n} {a} {r} j l e i z f =
-    let w = which k l in
-    let o = f w.0 (subst (operator_of w.0) (sym e) w.1) in
-    loop_falls n a r i z o.turn.moves o.further
+pub chained_further : {k : ℕ} {kinds long : List ℕ} {n : ℕ} {a r : Read} {d : ℕ} {middle after : Arrays} → (j : ℕ) → one_of k logical ≡ true → j ≡ k
+    → ((t : Tail) → operator_of t j → OneTurn t kinds long n a d middle r after) → r.fault ≡ 0 → a.at < r.at
+chained_further {k} j l e f = let w = which k l in (f w.0 (subst (operator_of w.0) (sym e) w.1)).further

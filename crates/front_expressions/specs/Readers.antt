@@ -7,14 +7,13 @@ use Rattle.spec_grammar.specs.Tree.{Expr}
 use Rattle.spec_grammar.specs.Grammar.{NonTerminal, expression, ands, ors, xors, simple, terms, term, factors, Says, Sym, nt, Fun}
 use Rattle.spec_grammar.specs.Meter.{InHeading}
 use Rattle.spec_grammar.proofs.Steps.{Ok}
-use Rattle.front_cursor.specs.declared.Cursor.{Cursor}
 use Rattle.front_layout.specs.Tokens.{Holds}
-use Rattle.front_cursor.specs.Reading.{from, Fine, Moves}
+use Rattle.front_cursor.specs.Reading.{Read, from, Fine, Moves}
 use Rattle.front_layout.specs.Postfix.{Item, postfix}
 use Rattle.front_layout.specs.Items.{Arrays, Wrote}
 
 -- from q to r the reader has read an M with a value, and written its items behind those before
-pub record Reads (M : NonTerminal) (flat : Says M → List Item) (ts : List Token) (d : ℕ) (q r : Cursor) (before after : Arrays) : Type 0 where
+pub record Reads (M : NonTerminal) (flat : Says M → List Item) (ts : List Token) (d : ℕ) (q r : Read) (before after : Arrays) : Type 0 where
   pub value : Says M
   pub goes : (S : NonTerminal) (s l : ℕ) (h : InHeading) → Fine s h → (γ : List Sym) (κ : Says M → Fun γ (Says S)) → Ok (nt M ∷ γ)
       → from ts S s l h q d (nt M ∷ γ) κ ≡ from ts S s l h r d γ (κ value)
@@ -63,14 +62,14 @@ operator_of or_chain k = k ≡ OR
 operator_of xor_chain k = k ≡ XOR
 
 -- from q to r the reader has read some operands of a list, whose tree so far is the value
-pub record Partly (t : Tail) (ts : List Token) (d : ℕ) (q r : Cursor) (before after : Arrays) : Type 0 where
+pub record Partly (t : Tail) (ts : List Token) (d : ℕ) (q r : Read) (before after : Arrays) : Type 0 where
   pub value : Expr
   pub goes : (S : NonTerminal) (s l : ℕ) (h : InHeading) → Fine s h → (γ : List Sym) (κ : Expr → Fun γ (Says S)) → Ok (nt (whole_of t) ∷ γ)
       → from ts S s l h q d (nt (whole_of t) ∷ γ) (of_whole t S γ κ) ≡ from ts S s l h r d (nt (tail_of t) ∷ γ) (of_tail t S γ κ value)
   pub wrote : r.fault ≡ 0 → Wrote ts q.written r.written before after (postfix value)
 
 -- from q to r the reader has read operators with their right operands: the tree so far has grown, and its items by those written
-pub record Turn (t : Tail) (ts : List Token) (d : ℕ) (q r : Cursor) (before after : Arrays) : Type 0 where
+pub record Turn (t : Tail) (ts : List Token) (d : ℕ) (q r : Read) (before after : Arrays) : Type 0 where
   pub grow : Expr → Expr
   pub items : List Item
   pub grows : (a : Expr) → postfix (grow a) ≡ postfix a ++ items
@@ -79,20 +78,20 @@ pub record Turn (t : Tail) (ts : List Token) (d : ℕ) (q r : Cursor) (before af
   pub wrote : r.fault ≡ 0 → Wrote ts q.written r.written before after items
 
 -- The contracts, over the arrays kinds and long of n tokens.
-pub record ReadsOver (M : NonTerminal) (flat : Says M → List Item) (kinds long : List ℕ) (n : ℕ) (q : Cursor) (d : ℕ) (before : Arrays) (r : Cursor)
+pub record ReadsOver (M : NonTerminal) (flat : Says M → List Item) (kinds long : List ℕ) (n : ℕ) (q : Read) (d : ℕ) (before : Arrays) (r : Read)
     (after : Arrays) : Type 0 where
   pub moves : Moves n q r
   pub reads : (ts : List Token) → Holds ts kinds long n → Reads M flat ts d q r before after
 
-pub record PartlyOver (t : Tail) (kinds long : List ℕ) (n : ℕ) (q : Cursor) (d : ℕ) (before : Arrays) (r : Cursor) (after : Arrays) : Type 0 where
+pub record PartlyOver (t : Tail) (kinds long : List ℕ) (n : ℕ) (q : Read) (d : ℕ) (before : Arrays) (r : Read) (after : Arrays) : Type 0 where
   pub moves : Moves n q r
   pub reads : (ts : List Token) → Holds ts kinds long n → Partly t ts d q r before after
 
-pub record TurnOver (t : Tail) (kinds long : List ℕ) (n : ℕ) (q : Cursor) (d : ℕ) (before : Arrays) (r : Cursor) (after : Arrays) : Type 0 where
+pub record TurnOver (t : Tail) (kinds long : List ℕ) (n : ℕ) (q : Read) (d : ℕ) (before : Arrays) (r : Read) (after : Arrays) : Type 0 where
   pub moves : Moves n q r
   pub reads : (ts : List Token) → Holds ts kinds long n → Turn t ts d q r before after
 
 -- one turn, by which the reader gets further
-pub record OneTurn (t : Tail) (kinds long : List ℕ) (n : ℕ) (q : Cursor) (d : ℕ) (before : Arrays) (r : Cursor) (after : Arrays) : Type 0 where
+pub record OneTurn (t : Tail) (kinds long : List ℕ) (n : ℕ) (q : Read) (d : ℕ) (before : Arrays) (r : Read) (after : Arrays) : Type 0 where
   pub turn : TurnOver t kinds long n q d before r after
   pub further : r.fault ≡ 0 → q.at < r.at

@@ -7,19 +7,20 @@ use native.Mathlib.Omega.{arith}
 use lib.Dec.{eqb}
 use lib.ListN.{length, get_or, take, drop, drop_of_length-le, length-append, length-drop}
 use lib.Seq.{drop-cons, drop-drop}
-use borrow.Author.Tests.{eqb-true, ne_eqb}
+use borrow.Author.Tests.{ne_eqb}
 use Rattle.spec_grammar.specs.Token.{Token}
 use Rattle.spec_language.specs.Lexing.{Meaning}
 use Rattle.spec_language.specs.Lexer.{Start, lexeme, unknown, start_of, tokens, ◌▸◌, on_start, lex_from, on_token, token_from}
 use Rattle.spec_language.specs.Lexer as L
 use Rattle.spec_language.proofs.Lexing.{Here, gap, token, bad, none, starts}
 use Rattle.spec_language.proofs.LexExact.{gap_something, token_something, piece_some}
-use Rattle.spec_language.specs.Bytes.{blank, byte_kind, kind_code, is}
+use Rattle.spec_language.specs.Bytes.{blank, is}
 use Rattle.front_token.specs.declared.pieces.Piece.{Piece}
 use Rattle.front_token.specs.declared.pieces.Piece.TheVariants as P
 use Rattle.front_token.specs.Places.{part}
 use Rattle.front_token.specs.Pieces.{placed, piece_from, piece_at}
 use Rattle.front_lexer.specs.Tokens.{found_from}
+use Rattle.front_token.proofs.ByteKinds.{is_kind}
 use Rattle.front_token.proofs.PieceLaws.{piece_blank}
 
 -- a piece has a byte, and is no longer than the text
@@ -165,7 +166,4 @@ module _ (text : List ℕ) (i : ℕ) (r : Piece) (h : i < length text) (e : r �
 
 -- a blank is a gap of one byte
 pub blank_gapped : (text : List ℕ) (i : ℕ) → i < length text → is blank (get_or text i 0) ≡ true → Gapped text i (i + 1)
-unfolding is
-blank_gapped text i h e =
-    let k = eqb-true (kind_code blank) (kind_code (byte_kind (get_or text i 0))) e in
-    gapped text i (P.Gap (i + 1)) h (piece_blank text i (kind_code blank) h k refl) (i + 1) refl
+blank_gapped text i h e = gapped text i (P.Gap (i + 1)) h (piece_blank text i h (is_kind blank (get_or text i 0) e)) (i + 1) refl

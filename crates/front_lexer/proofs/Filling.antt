@@ -6,12 +6,12 @@ use native.Mathlib.Omega.{arith}
 use lib.ListN.{length, set, drop, length-append, length-map}
 use lib.Seq.{sets}
 use borrow.Author.Tests.{lt-ltb, le-ltb}
+use Rattle.base_answers.specs.declared.Refusal.{Refusal}
 use Rattle.base_answers.specs.declared.Refusal.TheVariants.{TextTooLong, NoToken}
 use Rattle.spec_grammar.specs.Token.{Token}
 use Rattle.spec_language.specs.Lexer.{tokens, malformed, ◌▸◌, lex_from, lex}
 use Rattle.spec_language.specs.Lexer as L
-use Rattle.front_lexer.specs.declared.Lexed.{Lexed}
-use Rattle.front_lexer.specs.declared.Lexed.TheVariants.{Tokens, NotLexed}
+use Rattle.std.specs.Prelude.{Result, Ok, Err}
 use Rattle.front_lexer.specs.Tokens.{counted, lexed, found_from, found, write, kinds_of, places_of, sizes_of, Lexing}
 use Rattle.front_lexer.proofs.Advance.{Gapped, Tokened, Stopped, token_of, nothing_left}
 
@@ -34,7 +34,7 @@ map_more f (x ∷ ts) t = ap (λ (l : List ℕ). f x ∷ l) (map_more f ts t)
 
 counted_more : (n : ℕ) (t : Token) (x : L.Lexed) → counted n (◌▸◌ t x) ≡ counted (n + 1) x
 unfolding ◌▸◌
-counted_more n t (tokens ts) = ap Tokens (omega arith)
+counted_more n t (tokens ts) = ap Ok (omega arith)
 counted_more n t (malformed p) = refl
 
 -- at i, n tokens being written
@@ -111,7 +111,7 @@ module _ (text kinds₀ starts₀ sizes₀ : List ℕ) where
     all_found : found_from (drop i text) 0 i ≡ [] → f.done ≡ found_from text 0 0
     all_found e = sym (append-nil f.done) ∙ (ap (λ (ts : List Token). f.done ++ ts) (sym e) ∙ f.finds)
 
-    ended : (r : Lexed) → length text ≤ 16384 → found_from (drop i text) 0 i ≡ [] → r ≡ counted 0 (lex text)
+    ended : (r : Result ℕ Refusal) → length text ≤ 16384 → found_from (drop i text) 0 i ≡ [] → r ≡ counted 0 (lex text)
         → Lexing text r kinds₀ kinds₁ starts₀ starts₁ sizes₀ sizes₁
     unfolding lexed found
     ended r h e a =
@@ -124,15 +124,15 @@ module _ (text kinds₀ starts₀ sizes₀ : List ℕ) where
           sizes = rw (q, ← d) f.sizes;
         }
 
-    pub fill_end : length text ≤ 16384 → length text ≤ i → Lexing text (Tokens n) kinds₀ kinds₁ starts₀ starts₁ sizes₀ sizes₁
+    pub fill_end : length text ≤ 16384 → length text ≤ i → Lexing text (Ok n) kinds₀ kinds₁ starts₀ starts₁ sizes₀ sizes₁
     fill_end h e =
         let z = nothing_left text i e in
-        ended (Tokens n) h z.1 (ap Tokens (omega arith) ∙ (ap (counted n) (sym z.0) ∙ f.answer))
+        ended (Ok n) h z.1 (ap Ok (omega arith) ∙ (ap (counted n) (sym z.0) ∙ f.answer))
 
-    pub fill_stop : length text ≤ 16384 → Stopped text i → Lexing text (NotLexed (NoToken i)) kinds₀ kinds₁ starts₀ starts₁ sizes₀ sizes₁
-    fill_stop h s = ended (NotLexed (NoToken i)) h s.finds (ap (counted n) (sym s.lexes) ∙ f.answer)
+    pub fill_stop : length text ≤ 16384 → Stopped text i → Lexing text (Err (NoToken i)) kinds₀ kinds₁ starts₀ starts₁ sizes₀ sizes₁
+    fill_stop h s = ended (Err (NoToken i)) h s.finds (ap (counted n) (sym s.lexes) ∙ f.answer)
 
-  pub too_long : 16384 < length text → Lexing text (NotLexed TextTooLong) kinds₀ kinds₀ starts₀ starts₀ sizes₀ sizes₀
+  pub too_long : 16384 < length text → Lexing text (Err TextTooLong) kinds₀ kinds₀ starts₀ starts₀ sizes₀ sizes₀
   unfolding lexed found
   too_long h =
       let q = lt-ltb 16384 (length text) h in

@@ -14,7 +14,7 @@ use Rattle.spec_grammar.specs.Token.{Token}
 use Rattle.spec_language.specs.Lexer.{Start, lexeme, unknown, start_of, tokens, malformed, ◌▸◌, on_start, lex_from, lex}
 use Rattle.spec_language.specs.Lexer as L
 use Rattle.spec_language.proofs.LexExact.{lex_tokens, lex_stops}
-use Rattle.front_lexer.specs.declared.Lexed.TheVariants.{Tokens, NotLexed}
+use Rattle.std.specs.Prelude.{Ok, Err}
 use Rattle.front_lexer.specs.Answered.{Answered, read, too_long, stops}
 use Rattle.front_lexer.specs.Tokens.{counted, lexed, on_found, found_from, found, write}
 
@@ -45,10 +45,10 @@ lexed_answered text = go (ltb 16384 (length text)) refl
     short q (tokens ts) e =
         let f : found text ≡ ts = rw q (found_all text 0 0 ts e) in
         let n : length ts ≡ 0 + length ts = omega arith in
-        subst (λ (m : ℕ). Answered text (Tokens m)) n (read ts (ltb-false 16384 (length text) q) ((lex_tokens text ts).0 e) f)
+        subst (λ (m : ℕ). Answered text (Ok m)) n (read ts (ltb-false 16384 (length text) q) ((lex_tokens text ts).0 e) f)
     short q (malformed p) e = stops p (ltb-false 16384 (length text) q) ((lex_stops text p).0 e)
 
-    go : (q : Bool) → ltb 16384 (length text) ≡ q → Answered text (cond q (NotLexed TextTooLong) (counted 0 (lex text)))
+    go : (q : Bool) → ltb 16384 (length text) ≡ q → Answered text (cond q (Err TextTooLong) (counted 0 (lex text)))
     go true q = too_long (ltb-true 16384 (length text) q)
     go false q = short q (lex text) refl
 

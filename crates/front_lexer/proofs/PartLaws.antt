@@ -1,18 +1,21 @@
 -- A number's value and the comparison of names, one byte more. Assumes nothing.
 use mathlib.Core.Path.{◌≡◌, refl, sym, ◌∙◌, ap}
-use mathlib.Core.Bool.{Bool, true, false, not}
+use mathlib.Core.Bool.{Bool, true, false}
 use mathlib.Core.List.{List, [], map}
 use Prim.Native.Nat.{ℕ, ◌+◌, ◌*◌, ◌-◌, min, ◌≤◌, ◌<◌}
 use native.Mathlib.Omega.{arith}
 use native.Mathlib.Numerals.{add-one}
-use lib.Dec.{eqb}
-use lib.ListN.{length, get_or, drop, drop_of_length-le, length-drop, length-map}
+use lib.ListN.{length, get_or, drop, drop_of_length-le, length-drop}
 use lib.Seq.{drop-cons, take_all, take-nil}
+use Rattle.std.specs.Prelude.{IsTrue, ◌↔◌}
+use Rattle.std.specs.Char.{to_ascii_lowercase}
 use Rattle.spec_language.specs.Bytes.{lower}
 use Rattle.spec_language.specs.Words.{value}
 use Rattle.spec_language.specs.Lexing.{equal}
-use Rattle.spec_language.proofs.Lexing.{equal_is}
+use Rattle.spec_language.proofs.Facts.{clash}
+use Rattle.spec_language.proofs.Lexing.{equal_is, equal_refl}
 use Rattle.front_token.specs.Places.{part}
+use Rattle.front_token.proofs.Lower.{lower_all}
 
 -- a part of a text, by where it ends
 pub part_past : (text : List ℕ) (start size : ℕ) → length text ≤ start → [] ≡ part text start size
@@ -35,29 +38,11 @@ module _ (digits : List ℕ) (i v : ℕ) where
   unfolding value
   value_end h = rw (drop_of_length-le digits h)
 
-module _ (a b : List ℕ) (i : ℕ) where
-  pub same_again : i < length a → i < length b → eqb (lower (get_or a i 0)) (lower (get_or b i 0)) ≡ true
-      → equal (map lower (drop (i + 1) a)) (map lower (drop (i + 1) b)) ≡ equal (map lower (drop i a)) (map lower (drop i b))
-  unfolding equal
-  same_again h k e = rw (drop-cons a i 0 h, drop-cons b i 0 k, add-one i, e)
-
-  pub same_differs : i < length a → i < length b → eqb (lower (get_or a i 0)) (lower (get_or b i 0)) ≡ false → equal (map lower (drop i a)) (map lower (drop i b))
-      ≡ false
-  unfolding equal
-  same_differs h k e = rw (drop-cons a i 0 h, drop-cons b i 0 k, e)
-
-  pub same_end : length a ≤ i → length b ≤ i → equal (map lower (drop i a)) (map lower (drop i b)) ≡ true
-  unfolding equal
-  same_end h k = rw (drop_of_length-le a h, drop_of_length-le b k)
-
-pub same_lengths : (a b : List ℕ) → (length a ≡ length b → ⊥) → equal (map lower a) (map lower b) ≡ false
-same_lengths a b h = go (equal (map lower a) (map lower b)) refl
+-- two words are the same in lower case
+pub same_by : (a b : List ℕ) (r : Bool) → IsTrue r ↔ (map to_ascii_lowercase a ≡ map to_ascii_lowercase b) → r ≡ equal (map lower a) (map lower b)
+same_by a b r e = go r (rw (lower_all a, lower_all b) at e) (equal (map lower a) (map lower b)) refl
   where
-    go : (q : Bool) → equal (map lower a) (map lower b) ≡ q → q ≡ false
-    go false e = refl
-    go true e = absurd (h (sym (length-map a lower) ∙ (ap length (equal_is (map lower a) (map lower b) e) ∙ length-map b lower)))
-
--- a test that was not denied
-pub not-false : (b : Bool) → not b ≡ false → b ≡ true
-not-false true e = refl
-not-false false e = sym e
+    go : (r : Bool) → IsTrue r ↔ (map lower a ≡ map lower b) → (q : Bool) → equal (map lower a) (map lower b) ≡ q → r ≡ q
+    go true e q f = sym (equal_refl (map lower a)) ∙ (ap (equal (map lower a)) (e.0 refl) ∙ f)
+    go false e true f = clash (sym (e.1 (equal_is (map lower a) (map lower b) f)))
+    go false e false f = refl

@@ -1,21 +1,20 @@
 -- The tokens of a text in arrays: what lexing answers, and what it writes. Assumes nothing.
-use Rattle.std.specs.Prelude.{◌≡◌, cond, List, [], ◌∷◌, map, ℕ, zero, suc, pred, ◌+◌, ltb, length}
+use Rattle.std.specs.Prelude.{◌≡◌, cond, List, [], ◌∷◌, map, ℕ, zero, suc, pred, ◌+◌, Result, Ok, Err, ltb, length}
 use Rattle.std.proofs.lemmas.List.Edits.{sets}
+use Rattle.base_answers.specs.declared.Refusal.{Refusal}
 use Rattle.base_answers.specs.declared.Refusal.TheVariants.{TextTooLong, NoToken}
 use Rattle.spec_grammar.specs.Token.{Token}
 use Rattle.spec_language.specs.Lexer.{Start, gap, lexeme, unknown, start_of, tokens, malformed, lex}
 use Rattle.spec_language.specs.Lexer as L
-use Rattle.front_lexer.specs.declared.Lexed.{Lexed}
-use Rattle.front_lexer.specs.declared.Lexed.TheVariants.{Tokens, NotLexed}
 
 -- n tokens and those of the rest, counted; or refusal 2 with its place
-abbrev pub counted : ℕ → L.Lexed → Lexed
-counted n (tokens ts) = Tokens (n + length ts)
-counted n (malformed p) = NotLexed (NoToken p)
+abbrev pub counted : ℕ → L.Lexed → Result ℕ Refusal
+counted n (tokens ts) = Ok (n + length ts)
+counted n (malformed p) = Err (NoToken p)
 
 -- "At most 16,384 bytes", else refusal 1
-unfoldable pub lexed : List ℕ → Lexed
-lexed text = cond (ltb 16384 (length text)) (NotLexed TextTooLong) (counted 0 (lex text))
+unfoldable pub lexed : List ℕ → Result ℕ Refusal
+lexed text = cond (ltb 16384 (length text)) (Err TextTooLong) (counted 0 (lex text))
 
 -- a gap is passed over, a token is found and passed over, and where no token begins nothing more is found
 abbrev pub on_found : Start → ℕ → (ℕ → List Token) → List Token
@@ -48,7 +47,7 @@ abbrev pub sizes_of : List Token → List ℕ
 sizes_of ts = map (λ t. t.size) ts
 
 -- the answer, and the three arrays after the call (₁) from those before it (₀)
-pub record Lexing (text : List ℕ) (r : Lexed) (kinds₀ kinds₁ starts₀ starts₁ sizes₀ sizes₁ : List ℕ) : Type 0 where
+pub record Lexing (text : List ℕ) (r : Result ℕ Refusal) (kinds₀ kinds₁ starts₀ starts₁ sizes₀ sizes₁ : List ℕ) : Type 0 where
   pub answer : r ≡ lexed text
   pub kinds : kinds₁ ≡ write (kinds_of (found text)) kinds₀
   pub starts : starts₁ ≡ write (places_of (found text)) starts₀

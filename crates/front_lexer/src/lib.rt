@@ -1,8 +1,7 @@
 #![tactic(auto)]
 // The lexer: the tokens of a text into lent arrays, and the token at a place.
-ghost use Rattle.std.specs.Prelude.{◌≡◌, [], ◌-◌, ◌≤◌, length};
+ghost use Rattle.std.specs.Prelude.{◌≡◌};
 ghost use Rattle.spec_language.specs.Lexer.{token_at};
-ghost use Rattle.front_token.specs.Places.{part};
 ghost use Rattle.front_lexer.specs.Tokens.{Lexing};
 
 pub mod parts;
@@ -12,26 +11,19 @@ use base_codes::limit;
 use front_token::pieces::Piece;
 use front_token::{bytes, kinds, pieces};
 
-// The number of tokens, or refusal 1 or 2.
-#[derive(Clone, Copy)]
-pub enum Lexed {
-    Tokens(usize),
-    NotLexed(Refusal),
-}
-
-// Writes the kind, the place and the size of each token, in order. Each turn of the loop passes a blank, another gap or a token; blanks are passed here,
-// since there are as many of them as of tokens.
+// Writes the kind, the place and the size of each token, in order, and answers how many there are, or refusal 1 or 2. Each turn of the loop passes a blank,
+// another gap or a token; blanks are passed here, since there are as many of them as of tokens.
 pub fn lex(
     text: &[u8],
     kinds: &mut [u8; limit::TEXT],
     starts: &mut [u16; limit::TEXT],
     sizes: &mut [u16; limit::TEXT],
-) -> Lexed
+) -> Result<usize, Refusal>
     ensures { Lexing text.now result kinds.old kinds.new starts.old starts.new
         sizes.old sizes.new }
 {
     if text.len() > limit::TEXT {
-        return Lexed::NotLexed(Refusal::TextTooLong);
+        return Err(Refusal::TextTooLong);
     }
     let table = kinds::table();
     let mut i = 0;
@@ -41,9 +33,7 @@ pub fn lex(
             i += 1;
         } else {
             match pieces::piece_at(&table, text, i) {
-                Piece::Gap(end) => {
-                    i = end;
-                }
+                Piece::Gap(end) => i = end,
                 Piece::Token(kind, end) => {
                     kinds[n] = kind;
                     starts[n] = i as u16;
@@ -51,28 +41,11 @@ pub fn lex(
                     n += 1;
                     i = end;
                 }
-                Piece::Nothing => {
-                    return Lexed::NotLexed(Refusal::NoToken(i));
-                }
+                Piece::Nothing => return Err(Refusal::NoToken(i)),
             }
         }
     }
-    Lexed::Tokens(n)
-}
-
-// The empty part of a text.
-fn empty<'a>(text: &'a [u8]) -> &'a [u8]
-    ensures { result.now ≡ [] }
-{
-    &text[0..0]
-}
-
-// The bytes from a place up to an end.
-fn between<'a>(text: &'a [u8], start: usize, end: usize) -> &'a [u8]
-    requires { (start ≤ end) × (end ≤ length text.now) }
-    ensures { result.now ≡ part text.now start (end - start) }
-{
-    parts::part_of(text, start, end - start)
+    Ok(n)
 }
 
 // The token that starts at a place, as that part of the text, or an empty part. Pieces after the place are not read.
@@ -83,22 +56,18 @@ pub fn token_at<'a>(text: &'a [u8], place: usize) -> &'a [u8]
     let mut i = 0;
     while i < text.len() {
         if place < i {
-            return empty(text);
+            return &[];
         }
         match pieces::piece_at(&table, text, i) {
-            Piece::Gap(end) => {
-                i = end;
-            }
+            Piece::Gap(end) => i = end,
             Piece::Token(_, end) => {
                 if i == place {
-                    return between(text, i, end);
+                    return &text[i..end];
                 }
                 i = end;
             }
-            Piece::Nothing => {
-                return empty(text);
-            }
+            Piece::Nothing => return &[],
         }
     }
-    empty(text)
+    &[]
 }

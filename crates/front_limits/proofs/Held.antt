@@ -19,8 +19,7 @@ use Rattle.spec_language.specs.Lexer.{tokens, lex}
 use Rattle.spec_language.specs.Lexing.{Lexes}
 use Rattle.spec_language.proofs.LexExact.{lex_tokens}
 use Rattle.spec_language.proofs.Room.{lexes_room}
-use Rattle.front_lexer.specs.declared.Lexed.{Lexed}
-use Rattle.front_lexer.specs.declared.Lexed.TheVariants.{Tokens, NotLexed}
+use Rattle.std.specs.Prelude.{Ok}
 use Rattle.front_token.specs.Places.{part}
 use Rattle.front_lexer.specs.Answered.{Answered, read, too_long, stops}
 use Rattle.front_lexer.specs.TokenValues.{Valued}
@@ -87,24 +86,24 @@ record Read (text : List ℕ) (ts : List Token) (n : ℕ) : Type 0 where
   pub lexes : Lexes 0 text ts
   pub finds : found text ≡ ts
 
-read_tokens : (text : List ℕ) (ts : List Token) (n : ℕ) → Tokens n ≡ lexed text → lex text ≡ tokens ts → Read text ts n
-read_tokens text ts n e t = go (lexed text) (lexed_answered text) e
+read_tokens : (text : List ℕ) (ts : List Token) (n : ℕ) → Ok n ≡ lexed text → lex text ≡ tokens ts → Read text ts n
+read_tokens text ts n e t = go (lexed_answered text) e
   where
     same : (us : List Token) → Lexes 0 text us → us ≡ ts
     same us l = let a = (lex_tokens text us).1 l in let z : tokens us ≡ tokens ts = sym a ∙ t in cc
 
-    go : (r : Lexed) → Answered text r → Tokens n ≡ r → Read text ts n
-    go (Tokens m) (read us h l f) d =
+    go : {r : _} → Answered text r → Ok n ≡ r → Read text ts n
+    go (read us h l f) d =
         let s = same us l in
         let c : n ≡ length us = cc in
         let k : length us ≡ length ts = ap length s in
         let w = lexes_room l in
         record { count = omega arith; short = omega arith; lexes = subst (λ (vs : List Token). Lexes 0 text vs) s l; finds = f ∙ s }
-    go (NotLexed x) (too_long h) d = absurd (let z : ◌≡◌ {A = ℕ} 0 1 = cc in omega arith)
-    go (NotLexed x) (stops p h s) d = absurd (let z : ◌≡◌ {A = ℕ} 0 1 = cc in omega arith)
+    go (too_long h) d = absurd (let z : ◌≡◌ {A = ℕ} 0 1 = cc in omega arith)
+    go (stops p h s) d = absurd (let z : ◌≡◌ {A = ℕ} 0 1 = cc in omega arith)
 
 module _ (text kinds₀ kinds starts₀ starts sizes₀ sizes : List ℕ) (n : ℕ) (ts : List Token)
-    (l : Lexing text (Tokens n) kinds₀ kinds starts₀ starts sizes₀ sizes) (t : lex text ≡ tokens ts) where
+    (l : Lexing text (Ok n) kinds₀ kinds starts₀ starts sizes₀ sizes) (t : lex text ≡ tokens ts) where
   reads : Read text ts n
   reads = read_tokens text ts n l.answer t
 

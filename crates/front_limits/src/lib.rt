@@ -1,6 +1,6 @@
 #![tactic(auto)]
 // Tokens that pass a limit wherever they stand, "name 32 bytes" and "literal 2147483647": a flag for each token, read by the parser.
-ghost use Rattle.std.specs.Prelude.{◌≡◌, min};
+ghost use Rattle.std.specs.Prelude.{◌≡◌};
 ghost use Rattle.spec_language.specs.Words.{value};
 ghost use Rattle.front_token.specs.Places.{part};
 ghost use Rattle.front_limits.specs.Flags.{number_flag, flag_of, marked};
@@ -18,39 +18,22 @@ const MOST: u64 = limit::INTEGER as u64;
 fn number_flag(text: &[u8], start: usize, size: usize) -> u8
     ensures { result ≡ number_flag (value 0 (part text.now start size)) }
 {
-    if number_value(text, start, size) > MOST {
-        return 1;
-    }
-    0
+    u8::from(number_value(text, start, size) > MOST)
 }
 
 // The flag of a token of this kind that has so many bytes from a place on. Only a number's bytes are read.
 fn flag(text: &[u8], kind: u8, start: u16, size: u16) -> u8
     ensures { result ≡ flag_of text.now kind start size }
 {
-    if kind == NAME {
-        if size > MOST_BYTES {
-            return 1;
-        }
-        return 0;
+    match kind {
+        NAME => u8::from(size > MOST_BYTES),
+        NUMBER => number_flag(text, usize::from(start), usize::from(size)),
+        _ => 0,
     }
-    if kind == NUMBER {
-        return number_flag(text, start as usize, size as usize);
-    }
-    0
 }
 
-// As many tokens as the arrays have room for.
-fn at_most(n: usize) -> usize
-    ensures { result ≡ min n 16384 }
-{
-    if n < limit::TEXT {
-        return n;
-    }
-    limit::TEXT
-}
-
-// Writes the flag of each token, 1 where it passes a limit and 0 elsewhere.
+// Writes the flag of each token, 1 where it passes a limit and 0 elsewhere, of as many tokens as the arrays have room for. The flags are bytes and no bools:
+// the same array holds bytes of other stages later (no heap, fixed memory).
 pub fn mark(
     text: &[u8],
     kinds: &[u8; limit::TEXT],
@@ -61,10 +44,7 @@ pub fn mark(
 )
     ensures { long.new ≡ marked text.now kinds.now starts.now sizes.now n long.old }
 {
-    let end = at_most(n);
-    let mut i = 0;
-    while i < end {
+    for i in 0..n.min(limit::TEXT) {
         long[i] = flag(text, kinds[i], starts[i], sizes[i]);
-        i += 1;
     }
 }

@@ -4,6 +4,7 @@ use mathlib.Core.Bool.{true}
 use mathlib.Core.List.{List, [], ◌∷◌, ◌++◌, map, map-append, append_assoc, append-nil}
 use Prim.Native.Nat.{ℕ, zero, suc, ◌+◌, ◌*◌}
 use native.Mathlib.Omega.{arith}
+use Rattle.std.specs.Prelude.{Option}
 use lib.Dec.{eqb}
 use lib.ListN.{length, get_or}
 use Rattle.spec_grammar.specs.Token.{Token}
@@ -111,7 +112,7 @@ entries_named b k =
 -- a rule that goes by a statement's kind and token, over the rows
 pub rows_lowest : (ts : List Token) (b : Body) (rows : List ℕ) (s : ℕ) → RowsIn ts (body_entries b) rows s → KindedBody b
     → (g : Stmt → List ℕ) (h : ℕ → Token → List ℕ) → ((x : Stmt) → g x ≡ h (stmt_entry x).kind (stmt_entry x).token)
-    → (f : ℕ → ℕ) → ((j : ℕ) → NamedRow (get_or rows (6 * j) 0) (token_at ts (get_or rows (6 * j + 1) 0))
+    → (f : ℕ → Option ℕ) → ((j : ℕ) → NamedRow (get_or rows (6 * j) 0) (token_at ts (get_or rows (6 * j + 1) 0))
     → f j ≡ lowest_of (h (get_or rows (6 * j) 0) (token_at ts (get_or rows (6 * j + 1) 0))))
     → lowest_from f 0 s ≡ lowest_of (each g (statements b))
 rows_lowest ts b rows s r k g h e f q =
@@ -216,7 +217,7 @@ items_list ts codes indices j (suc c) = ap (λ (l : List Item). item_of (get_or 
 
 -- a rule for the names in the expressions, over the items
 pub items_lowest : (ts : List Token) (b : Body) (codes indices : List ℕ) (k : ℕ) → ItemsIn ts (entry_items (body_entries b)) codes indices k → KindedBody b
-    → (r : Token → List ℕ) (f : ℕ → ℕ) → ((j : ℕ) → NamedItem (get_or codes j 0) (token_at ts (get_or indices j 0))
+    → (r : Token → List ℕ) (f : ℕ → Option ℕ) → ((j : ℕ) → NamedItem (get_or codes j 0) (token_at ts (get_or indices j 0))
     → f j ≡ lowest_of (of_item r (get_or codes j 0) (token_at ts (get_or indices j 0))))
     → lowest_from f 0 k ≡ lowest_of (each (of_reads r) (statements b))
 unfolding item_rule

@@ -3,6 +3,7 @@ use mathlib.Core.Path.{◌≡◌, refl, sym, ◌∙◌, ap}
 use mathlib.Core.List.{List, [], ◌∷◌, map}
 use Prim.Native.Nat.{ℕ, zero, suc, ◌+◌, min}
 use native.Mathlib.Omega.{arith}
+use Rattle.std.specs.Prelude.{Option, None, Some}
 use Rattle.spec_grammar.specs.Token.{Token}
 use Rattle.spec_grammar.specs.Tree.{Group, Text}
 use Rattle.spec_grammar.specs.Limits.{Each}
@@ -10,15 +11,15 @@ use Rattle.spec_design.specs.Types.{type_byte}
 use Rattle.spec_language.specs.Lists.{each, lowest}
 use Rattle.spec_language.specs.Declarations.{type_named, groups}
 use Rattle.spec_language.proofs.Facts.{each_append}
-use Rattle.front_offences.specs.Lowest.{number, lowest_of, lower, lowest_from}
+use Rattle.front_offences.specs.Lowest.{option_of, lowest_of, lower, lowest_from}
 use Rattle.front_layout.specs.Headings.{mode_code, init_code, init_token, value_token, Heading, names_of, group_names, groups_names, headings, decl_in, decls_from}
 use Rattle.front_layout.specs.Headings.{heading_seen, DeclsIn}
 use Rattle.front_offences.proofs.Lowest.{lower_none, lowest_append}
 
-lower_self : (a : ℕ) → lower a a ≡ a
+lower_self : (a : Option ℕ) → lower a a ≡ a
 unfolding lower
-lower_self zero = refl
-lower_self (suc a) = omega arith
+lower_self None = refl
+lower_self (Some a) = ap Some (omega arith)
 
 -- the heading of the name x in a group whose first name is f
 abbrev pub heading_in : Group → Token → Token → Heading
@@ -35,9 +36,9 @@ heading_in g f x =
 
 -- Over any offences F of a declared name.
 module _ (F : Heading → List ℕ) where
-  headings_lowest : (ts : List Token) (decls : List ℕ) (f : ℕ → ℕ) → ((j : ℕ) → f j ≡ lowest_of (F (heading_seen ts (decl_in decls j))))
+  headings_lowest : (ts : List Token) (decls : List ℕ) (f : ℕ → Option ℕ) → ((j : ℕ) → f j ≡ lowest_of (F (heading_seen ts (decl_in decls j))))
       → (j c : ℕ) → lowest_from f j c ≡ lowest_of (each F (map (heading_seen ts) (decls_from decls j c)))
-  unfolding lowest_from decls_from each number lowest
+  unfolding lowest_from decls_from each option_of lowest
   headings_lowest ts decls f h j zero = refl
   headings_lowest ts decls f h j (suc c) =
       rw (h j, headings_lowest ts decls f h (j + 1) c)
@@ -47,7 +48,7 @@ module _ (F : Heading → List ℕ) where
   pub names_lowest : (g : Group) (f : Token) (p : List ℕ)
       → ((x : Token) → F (heading_in g f x) ≡ p)
       → (x : Token) (xs : List Token) → lowest_of (each F (names_of g f (x ∷ xs))) ≡ lowest_of p
-  unfolding names_of each number lowest
+  unfolding names_of each option_of lowest
   names_lowest g f p h x [] = rw (h x) (lowest_append p [] ∙ lower_none (lowest_of p))
   names_lowest g f p h x (y ∷ ys) = rw (h x)
       (lowest_append p (each F (names_of g f (y ∷ ys))) ∙ (ap (lower (lowest_of p)) (names_lowest g f p h y ys) ∙ lower_self (lowest_of p)))
@@ -63,7 +64,7 @@ module _ (F : Heading → List ℕ) where
         (rw (h g w.0, groups_lowest gs w.1) (sym (lowest_append (G g) (each G gs)))))
 
     -- over the rows of the declared names, of which there are at most 65
-    pub rows_lowest : (ts : List Token) (decls : List ℕ) (d : ℕ) (t : Text) (f : ℕ → ℕ) → DeclsIn ts (headings t) decls d
+    pub rows_lowest : (ts : List Token) (decls : List ℕ) (d : ℕ) (t : Text) (f : ℕ → Option ℕ) → DeclsIn ts (headings t) decls d
         → ((j : ℕ) → f j ≡ lowest_of (F (heading_seen ts (decl_in decls j))))
         → Each P (groups t) → lowest_from f 0 (min d 65) ≡ lowest_of (each G (groups t))
     unfolding headings

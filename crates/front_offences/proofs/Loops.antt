@@ -3,42 +3,43 @@ use mathlib.Core.Path.{◌≡◌, refl, sym, ◌∙◌, ap}
 use mathlib.Core.List.{List, [], ◌∷◌, map}
 use Prim.Native.Nat.{ℕ, zero, suc, ◌+◌, ◌-◌, ◌≤◌, ◌<◌}
 use native.Mathlib.Omega.{arith}
+use Rattle.std.specs.Prelude.{Option, None}
 use Rattle.spec_grammar.specs.Limits.{Each}
 use Rattle.spec_language.specs.Lists.{each, lowest}
-use Rattle.front_offences.specs.Lowest.{lowest_of, lower, number, lowest_from}
+use Rattle.front_offences.specs.Lowest.{lowest_of, lower, option_of, lowest_from}
 use Rattle.front_offences.proofs.Lowest.{lower_none, lower_assoc, lowest_append}
 
 -- before position j the lowest is low
-pub record Running (f : ℕ → ℕ) (n j low : ℕ) : Type 0 where
+pub record Running (f : ℕ → Option ℕ) (n j : ℕ) (low : Option ℕ) : Type 0 where
   pub inside : j ≤ n
   pub rest : lower low (lowest_from f j (n - j)) ≡ lowest_from f 0 n
 
-lowest_step : (f : ℕ → ℕ) (j c : ℕ) → 0 < c → lowest_from f j c ≡ lower (f j) (lowest_from f (j + 1) (c - 1))
+lowest_step : (f : ℕ → Option ℕ) (j c : ℕ) → 0 < c → lowest_from f j c ≡ lower (f j) (lowest_from f (j + 1) (c - 1))
 unfolding lowest_from
-lowest_step f j zero h = omega arith
+lowest_step f j zero h = absurd (omega arith)
 lowest_step f j (suc c) h = let e : suc c - 1 ≡ c = omega arith in rw e
 
-pub running_first : (f : ℕ → ℕ) (n : ℕ) → Running f n 0 0
+pub running_first : (f : ℕ → Option ℕ) (n : ℕ) → Running f n 0 None
 unfolding lower
 running_first f n = record { inside = omega arith; rest = ap (lowest_from f 0) (omega arith) }
 
-pub running_again : (f : ℕ → ℕ) (n j low x r : ℕ) → j < n → x ≡ f j → r ≡ lower low x → Running f n j low → Running f n (j + 1) r
+pub running_again : (f : ℕ → Option ℕ) (n j : ℕ) (low x r : Option ℕ) → j < n → x ≡ f j → r ≡ lower low x → Running f n j low → Running f n (j + 1) r
 running_again f n j low x r h p q k =
     let e : n - j - 1 ≡ n - (j + 1) = omega arith in
     record {
       inside = omega arith;
-      rest = ap (λ (z : ℕ). lower z (lowest_from f (j + 1) (n - (j + 1)))) (q ∙ ap (lower low) p)
+      rest = ap (λ (z : Option ℕ). lower z (lowest_from f (j + 1) (n - (j + 1)))) (q ∙ ap (lower low) p)
           ∙ (lower_assoc low (f j) (lowest_from f (j + 1) (n - (j + 1)))
           ∙ (ap (λ (z : ℕ). lower low (lower (f j) (lowest_from f (j + 1) z))) (sym e)
           ∙ (ap (lower low) (sym (lowest_step f j (n - j) (omega arith))) ∙ k.rest)));
     }
 
-pub running_stop : (f : ℕ → ℕ) (n m j low : ℕ) → n ≡ m → n ≤ j → Running f n j low → low ≡ lowest_from f 0 m
+pub running_stop : (f : ℕ → Option ℕ) (n j : ℕ) (low : Option ℕ) → n ≤ j → Running f n j low → low ≡ lowest_from f 0 n
 unfolding lowest_from
-running_stop f n m j low q h k =
+running_stop f n j low h k =
     let e : n - j ≡ 0 = omega arith in
     let z : lower low (lowest_from f j 0) ≡ lowest_from f 0 n = ap (λ (c : ℕ). lower low (lowest_from f j c)) (sym e) ∙ k.rest in
-    sym (lower_none low) ∙ (z ∙ ap (lowest_from f 0) q)
+    sym (lower_none low) ∙ z
 
 -- the list of what stands at j and after it, c positions
 unfoldable pub list_from : {A : Type 0} → (ℕ → A) → ℕ → ℕ → List A
@@ -46,12 +47,12 @@ list_from at j zero = []
 list_from at j (suc c) = at j ∷ list_from at (j + 1) c
 
 -- the lowest over positions is the lowest of the offences of a list
-pub list_lowest : {A : Type 0} (at : ℕ → A) (g : A → List ℕ) (P : A → Type 0) (f : ℕ → ℕ) → ((j : ℕ) → P (at j) → f j ≡ lowest_of (g (at j)))
+pub list_lowest : {A : Type 0} (at : ℕ → A) (g : A → List ℕ) (P : A → Type 0) (f : ℕ → Option ℕ) → ((j : ℕ) → P (at j) → f j ≡ lowest_of (g (at j)))
     → (j c : ℕ) → Each P (list_from at j c) → lowest_from f j c ≡ lowest_of (each g (list_from at j c))
-unfolding lowest_from list_from each number lowest
+unfolding lowest_from list_from each option_of lowest
 list_lowest at g P f h j zero p = refl
 list_lowest at g P f h j (suc c) p =
-    ap (λ (z : ℕ). lower z (lowest_from f (j + 1) c)) (h j p.0)
+    ap (λ (z : Option ℕ). lower z (lowest_from f (j + 1) c)) (h j p.0)
     ∙ (ap (lower (lowest_of (g (at j)))) (list_lowest at g P f h (j + 1) c p.1)
     ∙ sym (lowest_append (g (at j)) (each g (list_from at (j + 1) c))))
 

@@ -4,19 +4,17 @@ use mathlib.Core.Bool.{Bool, true, false}
 use mathlib.Core.List.{List}
 use Prim.Native.Nat.{ℕ, ◌≤◌, ◌<◌}
 use native.Mathlib.Omega.{arith}
-use borrow.Author.Tests.{lt-ltb, ltb-true, ltb-false, eq-eqb, ne_eqb}
-use lib.Dec.{ltb, eqb}
+use borrow.Author.Tests.{lt-ltb, ltb-true, ltb-false}
+use lib.Dec.{ltb}
 use lib.ListN.{length, get_or, get_or-eq_default}
 use Rattle.spec_grammar.specs.Token.{Token}
 use Rattle.base_codes.specs.Token.{NAME}
 use Rattle.spec_grammar.specs.Reader.{choose}
-use Rattle.spec_language.specs.Lists.{unless}
 use Rattle.spec_language.specs.Declarations.{Decl}
 use Rattle.spec_language.specs.Elaboration.{position}
 use Rattle.spec_language.proofs.Facts.{clash}
 use Rattle.front_layout.specs.Tokens.{no_token, token_at}
 use Rattle.front_layout.specs.Arrays.{number_in, TokensIn, OwnersIn}
-use Rattle.front_offences.specs.Lowest.{lowest_of}
 
 -- the number at an index that counts
 pub number_inside : (l : List ℕ) (n i : ℕ) → n ≤ 16384 → i < n → number_in l n i ≡ get_or l i 0
@@ -53,25 +51,11 @@ module _ {ts : List Token} {kinds places : List ℕ} {n : ℕ} (h : TokensIn ts 
       let l : i < n = kind_inside NAME e (omega arith) in
       number_inside owners n i h.short l ∙ o.owner i l e
 
--- a number that goes by a test
-pub picked : (b : Bool) (x y r : ℕ) → b ≡ true → r ≡ x → r ≡ choose b x y
+-- what goes by a test
+pub picked : {A : Type 0} (b : Bool) (x y r : A) → b ≡ true → r ≡ x → r ≡ choose b x y
 picked true x y r e f = f
 picked false x y r e f = clash (sym e)
 
-pub passed : (b : Bool) (x y r : ℕ) → b ≡ false → r ≡ y → r ≡ choose b x y
+pub passed : {A : Type 0} (b : Bool) (x y r : A) → b ≡ false → r ≡ y → r ≡ choose b x y
 passed true x y r e f = clash e
 passed false x y r e f = f
-
--- An offence that is tested at a position: there is none where the position has another kind than c.
-pub none_there : (k c x : ℕ) → (k ≡ c → ⊥) → 0 ≡ choose (eqb k c) x 0
-none_there k c x h = passed (eqb k c) x 0 0 (ne_eqb k c h) refl
-
-pub one_there : (k c x r : ℕ) → k ≡ c → r ≡ x → r ≡ choose (eqb k c) x 0
-one_there k c x r h e = picked (eqb k c) x 0 r (eq-eqb k c h) e
-
--- the test goes by the owner of the name at an index
-pub owner_tested : (owners places : List ℕ) (n i i' w p r : ℕ) (b : ℕ → Bool) → i ≡ i' → w ≡ number_in owners n i → p ≡ number_in places n i
-    → r ≡ lowest_of (unless (b w) p) → r ≡ lowest_of (unless (b (number_in owners n i')) (number_in places n i'))
-owner_tested owners places n i i' w p r b e f g h = h
-    ∙ (ap (λ (m : ℕ). lowest_of (unless (b m) p)) (f ∙ ap (number_in owners n) e)
-    ∙ ap (λ (m : ℕ). lowest_of (unless (b (number_in owners n i')) m)) (g ∙ ap (number_in places n) e))

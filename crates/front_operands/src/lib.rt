@@ -14,13 +14,11 @@ fn name_type(named: &[u8; limit::VARIABLES], arg: i32) -> u8
     ensures { result ≡ tag_at named.now (unsigned32 arg) }
 {
     let k = base_signed::to_bits(arg) as usize;
-    if k < limit::VARIABLES {
-        return named[k];
-    }
-    types::NONE
+    named.get(k).copied().unwrap_or(types::NONE)
 }
 
 // The type of a literal or a name.
+#[tactic(auto, unfolding(crate::specs::Told::leaf_tag))]
 fn leaf_type(
     op: u8,
     arg: i32,
@@ -38,35 +36,24 @@ fn leaf_type(
     }
 }
 
-// Tells operation j, where t is the type of what ends before it: an operator gets the type of its operands for its argument, any other operation keeps its own.
+// Tells an operation, where t is the type of what ends before it: an operator gets the type of its operands for its argument, any other operation keeps its own.
 // Answers the type of what ends here.
+#[tactic(auto, unfolding(crate::specs::Told::tag_after))]
 fn told(
     op: u8,
     inputs: &[u8; limit::VARIABLES],
     variables: &[u8; limit::VARIABLES],
-    args: &mut [i32; limit::TEXT],
-    j: usize,
+    arg: &mut i32,
     t: u8,
 ) -> u8
-    requires { j < TEXT }
-    ensures value { result ≡ tag_after inputs.now variables.now (operation op (get_or args.old j (pos 0))) t }
-    ensures args_after { args.new ≡ set args.old j (arg_with op (get_or args.old j (pos 0)) t) }
+    ensures value { result ≡ tag_after inputs.now variables.now (operation op arg.old) t }
+    ensures arg_after { arg.new ≡ arg_with op arg.old t }
 {
     if operation::operands(op) == 0 {
-        return leaf_type(op, args[j], inputs, variables);
+        return leaf_type(op, *arg, inputs, variables);
     }
-    args[j] = base_signed::from_bits(t as u32);
+    *arg = i32::from(t);
     operation::result_type(op, t)
-}
-
-// As many operations as the arrays have room for.
-fn at_most(k: usize) -> usize
-    ensures { result ≡ min k TEXT }
-{
-    if k < limit::TEXT {
-        return k;
-    }
-    limit::TEXT
 }
 
 // Writes the type of its operands into the argument of every operator. Before the first operation no operand ends.
@@ -79,11 +66,8 @@ pub fn tell(
 )
     ensures { Tells ops.now k inputs.now variables.now args.old args.new }
 {
-    let n = at_most(k);
     let mut t = types::NONE;
-    let mut j = 0;
-    while j < n {
-        t = told(ops[j], inputs, variables, args, j, t);
-        j += 1;
+    for j in 0..k.min(limit::TEXT) {
+        t = told(ops[j], inputs, variables, &mut args[j], t);
     }
 }

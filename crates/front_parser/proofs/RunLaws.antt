@@ -2,29 +2,31 @@
 use mathlib.Core.Path.{◌≡◌, refl, sym, ◌∙◌, ap, subst}
 use mathlib.Core.Bool.{Bool, true, false, ◌&&◌}
 use mathlib.Core.List.{List, [], ◌∷◌, ◌++◌}
-use Prim.Native.Nat.{ℕ, ◌+◌, ◌<◌}
+use Prim.Native.Nat.{ℕ, suc, ◌+◌, ◌≤◌, ◌<◌}
 use native.Mathlib.Omega.{arith}
 use borrow.Author.Tests.{eqb-true, eqb-false, ltb-true}
 use lib.Dec.{eqb, ltb}
-use lib.ListN.{length}
+use native.Mathlib.Numerals.{add-one}
+use lib.ListN.{length, drop, get_or, drop_of_length-le}
+use lib.Seq.{drop-cons}
 use Rattle.spec_grammar.specs.Token.{Token}
 use Rattle.spec_grammar.specs.Grammar.{NonTerminal, Says, plain, Sym, tk, Fun}
 use Rattle.spec_grammar.specs.Meter.{InHeading, tick}
 use Rattle.spec_grammar.specs.Reader.{choose}
-use Rattle.front_cursor.specs.declared.Cursor.{Cursor}
 use Rattle.front_layout.specs.Tokens.{token_at, kind_in, flag_in, Holds}
-use Rattle.front_cursor.specs.Reading.{from, Fine, Asks, Moves, refuse, step, expect_at, expect_one}
-use Rattle.front_cursor.proofs.Steps.{kind_is, from_stays, expect_at_lem, expect_written, over_plain, asks_then, moves_then, one_moves}
+use Rattle.front_cursor.specs.declared.Unread.{Unread}
+use Rattle.front_cursor.specs.Reading.{Read, unread, from, Fine, Asks, Moves, refuse, step, expect_at, expect_one}
+use Rattle.front_cursor.proofs.Steps.{kind_is, from_stays, expect_at_lem, expect_written, expect_less, expect_ended, over_plain, asks_then, moves_then, one_moves}
 use Rattle.front_parser.specs.Runs.{expect_all, positive, toks, feed}
 
 -- where a run ends
-pub record Ran (n : ℕ) (ks : List ℕ) (q r : Cursor) : Type 0 where
+pub record Ran (n : ℕ) (ks : List ℕ) (q r : Read) : Type 0 where
   pub moves : Moves n q r
   pub end : r.fault ≡ 0 → r.at ≡ q.at + length ks
-  pub items : r.items ≡ q.items
-  pub wrote : r.written ≡ q.written
+  pub less : r.written ≤ q.written
+  pub wrote : r.fault ≡ 0 → r.written ≡ q.written
 
-one_end : (q : Cursor) (a b : Bool) → (expect_at a b q).fault ≡ 0 → (expect_at a b q).at ≡ q.at + 1
+one_end : (q : Read) (a b : Bool) → (expect_at a b q).fault ≡ 0 → (expect_at a b q).at ≡ q.at + 1
 unfolding expect_at
 one_end q a b z = go (eqb q.fault 0) refl a b z
   where
@@ -35,16 +37,6 @@ one_end q a b z = go (eqb q.fault 0) refl a b z
     go true w true true y = absurd (let x : ◌≡◌ {A = ℕ} 4 0 = y in omega arith)
     go true w true false y = refl
 
-one_items : (q : Cursor) (a b : Bool) → (expect_at a b q).items ≡ q.items
-unfolding expect_at
-one_items q a b = go (eqb q.fault 0) a b
-  where
-    go : (w u v : Bool) → (choose w (choose u (choose v (refuse 4 q) (step q)) (refuse 3 q)) q).items ≡ q.items
-    go false u v = refl
-    go true false v = refl
-    go true true true = refl
-    go true true false = refl
-
 head_positive : (k : ℕ) (b : Bool) → ltb 0 k && b ≡ true → (0 < k) × (b ≡ true)
 head_positive k b e = go (ltb 0 k) refl e
   where
@@ -52,13 +44,13 @@ head_positive k b e = go (ltb 0 k) refl e
     go true w z = (ltb-true 0 k w, z)
     go false w z = absurd (let y : ◌≡◌ {A = ℕ} 0 1 = cc in omega arith)
 
-pub all_ran : (kinds long : List ℕ) (n : ℕ) (ks : List ℕ) → positive ks ≡ true → (q : Cursor) → Asks n q → Ran n ks q (expect_all kinds long n ks q)
+pub all_ran : (kinds long : List ℕ) (n : ℕ) (ks : List ℕ) → positive ks ≡ true → (q : Read) → Asks n q → Ran n ks q (expect_all kinds long n ks q)
 unfolding expect_all
 all_ran kinds long n [] e q a = record {
   moves = record { on = omega arith; inside = omega arith; room = omega arith; few = omega arith; began = λ z. z };
   end = λ z. omega arith;
-  items = refl;
-  wrote = refl;
+  less = omega arith;
+  wrote = λ z. refl;
 }
 all_ran kinds long n (k ∷ ks) e q a =
     let h = head_positive k (positive ks) e in
@@ -67,19 +59,39 @@ all_ran kinds long n (k ∷ ks) e q a =
     record {
       moves = moves_then m v.moves;
       end = λ z. let x = v.end z in let y = one_end q (eqb (kind_in kinds n q.at) k) (flag_in long q.at) (v.moves.began z) in omega arith;
-      items = v.items ∙ one_items q (eqb (kind_in kinds n q.at) k) (flag_in long q.at);
-      wrote = v.wrote ∙ expect_written q (eqb (kind_in kinds n q.at) k) (flag_in long q.at);
+      less = let x = v.less in let y = expect_less q (eqb (kind_in kinds n q.at) k) (flag_in long q.at) in omega arith;
+      wrote = λ z. v.wrote z ∙ expect_written q (eqb (kind_in kinds n q.at) k) (flag_in long q.at) (v.moves.began z);
     }
 
-pub ran_eq : (kinds long : List ℕ) {n : ℕ} {ks : List ℕ} {q r : Cursor} → r ≡ expect_all kinds long n ks q → positive ks ≡ true → Asks n q → Ran n ks q r
-ran_eq kinds long {n} {ks} {q} e p a = subst (λ (v : Cursor). Ran n ks q v) (sym e) (all_ran kinds long n ks p q a)
+-- what has refused takes none of them
+pub all_ended : (kinds long : List ℕ) (n : ℕ) (ks : List ℕ) (e : Unread) → unread e ≡ expect_all kinds long n ks (unread e)
+unfolding expect_all
+all_ended kinds long n [] e = refl
+all_ended kinds long n (k ∷ ks) e =
+    all_ended kinds long n ks e ∙ ap (λ (q : Read). expect_all kinds long n ks q) (expect_ended kinds long n k e)
 
-pub all_asks : (kinds long : List ℕ) {n : ℕ} (ks : List ℕ) {q r : Cursor} → r ≡ expect_all kinds long n ks q → positive ks ≡ true → Asks n q → Asks n r
+-- the first of the tokens that are left, and those behind it
+pub next_taken : (kinds long : List ℕ) (n : ℕ) (ws : List ℕ) (i : ℕ) (q : Read) → i < length ws
+    → expect_all kinds long n (drop i ws) q ≡ expect_all kinds long n (drop (i + 1) ws) (expect_one kinds long n (get_or ws i 0) q)
+unfolding expect_all
+next_taken kinds long n ws i q h = rw (add-one, drop-cons ws i 0)
+
+pub next_positive : (ws : List ℕ) (i : ℕ) → i < length ws → positive (drop i ws) ≡ true → (0 < get_or ws i 0) × (positive (drop (i + 1) ws) ≡ true)
+next_positive ws i h = rw (add-one, drop-cons ws i 0) (λ e. head_positive (get_or ws i 0) (positive (drop (suc i) ws)) e)
+
+pub none_taken : (kinds long : List ℕ) (n : ℕ) (ws : List ℕ) (i : ℕ) (q : Read) → length ws ≤ i → expect_all kinds long n (drop i ws) q ≡ q
+unfolding expect_all
+none_taken kinds long n ws i q h = rw (drop_of_length-le ws {i = i} h)
+
+pub ran_eq : (kinds long : List ℕ) {n : ℕ} {ks : List ℕ} {q r : Read} → r ≡ expect_all kinds long n ks q → positive ks ≡ true → Asks n q → Ran n ks q r
+ran_eq kinds long {n} {ks} {q} e p a = subst (λ (v : Read). Ran n ks q v) (sym e) (all_ran kinds long n ks p q a)
+
+pub all_asks : (kinds long : List ℕ) {n : ℕ} (ks : List ℕ) {q r : Read} → r ≡ expect_all kinds long n ks q → positive ks ≡ true → Asks n q → Asks n r
 all_asks kinds long ks e p a = asks_then a (ran_eq kinds long {ks = ks} e p a).moves
 
 module _ {ts : List Token} {kinds long : List ℕ} {n : ℕ} (holds : Holds ts kinds long n) (S : NonTerminal) (s l : ℕ) (h : InHeading) (f : Fine s h) where
   -- where the reader has refused, what it would make of a value is the same for every value
-  pub same_at : (r : Cursor) (γ : List Sym) (κ : ℕ → Fun γ (Says S)) (i j : ℕ) → (r.fault ≡ 0 → i ≡ j)
+  pub same_at : (r : Read) (γ : List Sym) (κ : ℕ → Fun γ (Says S)) (i j : ℕ) → (r.fault ≡ 0 → i ≡ j)
       → from ts S s l h r 0 γ (κ i) ≡ from ts S s l h r 0 γ (κ j)
   same_at r γ κ i j e = go (eqb r.fault 0) refl
     where
@@ -87,7 +99,7 @@ module _ {ts : List Token} {kinds long : List ℕ} {n : ℕ} (holds : Holds ts k
       go true w = ap (λ (v : ℕ). from ts S s l h r 0 γ (κ v)) (e (eqb-true r.fault 0 w))
       go false w = from_stays ts S s l s l h h r r 0 0 γ γ (κ i) (κ j) (eqb-false r.fault 0 w) refl refl
 
-  pub one_taken : (k : ℕ) → 0 < k → (q : Cursor) → Asks n q → (γ : List Sym) (κ : Token → Fun γ (Says S))
+  pub one_taken : (k : ℕ) → 0 < k → (q : Read) → Asks n q → (γ : List Sym) (κ : Token → Fun γ (Says S))
       → from ts S s l h q 0 (tk plain k ∷ γ) κ ≡ from ts S s l h (expect_one kinds long n k q) 0 γ (κ (token_at ts q.at))
   unfolding tick
   one_taken k pos q a γ κ =
@@ -95,7 +107,7 @@ module _ {ts : List Token} {kinds long : List ℕ} {n : ℕ} (holds : Holds ts k
       (eqb (kind_in kinds n q.at) k) (flag_in long q.at)
       (ap (λ (j : ℕ). eqb j k) (sym (kind_is holds q.at))) (λ u. sym (holds.flag q.at (let z = holds.count in omega arith))) γ κ
 
-  pub all_taken : (ks : List ℕ) → positive ks ≡ true → (q : Cursor) → Asks n q → (γ : List Sym) (κ : Fun (toks ks ++ γ) (Says S))
+  pub all_taken : (ks : List ℕ) → positive ks ≡ true → (q : Read) → Asks n q → (γ : List Sym) (κ : Fun (toks ks ++ γ) (Says S))
       → from ts S s l h q 0 (toks ks ++ γ) κ ≡ from ts S s l h (expect_all kinds long n ks q) 0 γ (feed ts q.at S γ ks κ)
   unfolding expect_all
   all_taken [] e q a γ κ = refl

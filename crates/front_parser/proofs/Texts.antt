@@ -3,36 +3,32 @@ use mathlib.Core.Path.{◌≡◌, refl, sym, ◌∙◌, ap, subst}
 use mathlib.Core.List.{List, [], ◌∷◌, ◌++◌, append_assoc}
 use Prim.Native.Nat.{ℕ, ◌+◌, ◌≤◌, ◌<◌}
 use native.Mathlib.Omega.{arith}
-use mathlib.Core.Bool.{Bool, true, false}
-use lib.Dec.{eqb, ltb}
-use borrow.Author.Tests.{ne_eqb, eqb-true, eqb-false, ltb-true, ltb-false}
-use lib.ListN.{length, length-drop}
+use lib.ListN.{length}
 use Rattle.spec_grammar.specs.Token.{Token}
 use Rattle.spec_grammar.specs.Tree.{Group, Body, Text}
 use Rattle.spec_grammar.specs.Grammar.{text, ports, vars, body, Sym, nt, tok, text_production}
 use Rattle.spec_grammar.specs.Meter.{InHeading}
 use Rattle.spec_grammar.specs.Acceptance.{Answer, accepted, no_sentence, past_limit}
-use Rattle.spec_grammar.specs.Reader.{choose, elem, first, firsts, follow, nullable, nullables, placed, answer}
+use Rattle.spec_grammar.specs.Reader.{elem, first, firsts, follow, nullable, nullables, placed, answer}
 use Rattle.spec_grammar.proofs.Sets.{subset}
-use Rattle.spec_grammar.proofs.Steps.{Ok, ok_syms, tested}
+use Rattle.spec_grammar.proofs.Steps.{Ok as Fits, ok_syms, tested}
 use Rattle.spec_language.specs.Declarations.{groups}
-use Rattle.front_cursor.specs.declared.Cursor.{Cursor}
+use Rattle.front_cursor.specs.declared.Unread.{Unread}
+use Rattle.front_cursor.specs.declared.Unread.TheVariants.{NoSentence, LimitPassed}
 use Rattle.front_layout.specs.Tokens.{token_at, Holds}
-use Rattle.front_cursor.specs.Reading.{ending, from}
-use Rattle.front_cursor.proofs.Whole.{text_starts, text_accepted, text_goes_on, text_refused}
+use Rattle.std.specs.Prelude.{Result, Ok, Err}
+use Rattle.front_cursor.specs.Reading.{Read, unread, from}
+use Rattle.front_cursor.proofs.Whole.{text_starts, text_accepted, text_goes_on, text_refused, text_limited}
 use Rattle.front_layout.specs.Rows.{Output}
 use Rattle.front_declarations.specs.Headers.{heading_of}
 use Rattle.front_layout.specs.Headings.{Heading, group_headings, groups_names, headings, WroteNames}
 use Rattle.front_layout.proofs.NameRows.{names_wrote_then}
-use Rattle.front_parser.specs.declared.EntityUnit.{EntityUnit}
-use Rattle.front_parser.specs.declared.ArchitectureUnit.{ArchitectureUnit}
-use Rattle.front_parser.specs.declared.ProcessUnit.{ProcessUnit}
-use Rattle.front_parser.specs.declared.Parsing.{Parsing}
-use Rattle.front_parser.specs.declared.Parsing.TheVariants.{Tree, NotParsed}
+use Rattle.front_parser.specs.declared.Parsed.{Parsed}
+use Rattle.front_parser.specs.Units.{EntityPart, ArchitecturePart, ProcessPart}
 use Rattle.front_parser.specs.Runs.{toks}
 use Rattle.front_parser.specs.Parts.{entity_end_kinds, architecture_kinds, end_kinds, EntityRead, EntityOver, ArchitectureRead, ArchitectureOver, ProcessRead}
 use Rattle.front_parser.specs.Parts.{ProcessOver}
-use Rattle.front_parser.specs.Answers.{lent, numbers_of, parsing_of, ReadAs, parses_as, Parses}
+use Rattle.front_parser.specs.Answers.{lent, numbers_of, ReadAs, parses_as, Parses}
 
 -- what comes after the entity, and after the declarations
 abbrev after_declarations : List Sym
@@ -41,7 +37,7 @@ after_declarations = nt body ∷ (toks end_kinds ++ [])
 abbrev after_entity : List Sym
 after_entity = toks architecture_kinds ++ (nt vars ∷ tok 29 ∷ after_declarations)
 
-ok_text : Ok (nt ports ∷ (toks entity_end_kinds ++ after_entity))
+ok_text : Fits (nt ports ∷ (toks entity_end_kinds ++ after_entity))
 unfolding ok_syms subset firsts follow nullables first nullable elem
 ok_text = tested (nt ports ∷ (toks entity_end_kinds ++ after_entity)) tt
 
@@ -54,13 +50,7 @@ headings_append (g ∷ xs) ys = ap (λ (l : List Heading). group_headings g ++ l
 pub small : {n : ℕ} → n ≤ 16384 → 16384 < n → ⊥
 small a b = omega arith
 
--- a refusal that is not 3 is one by a limit
-limited_at : (ts : List Token) (v : Text) (s l : ℕ) (h : InHeading) (r : Cursor) (d : ℕ) → r.at ≤ length ts → (r.fault ≡ 0 → ⊥) → (r.fault ≡ 3 → ⊥)
-    → placed ts (from ts text s l h r d [] v) ≡ past_limit r.at
-unfolding placed from ending
-limited_at ts v s l h r d inside f g = rw (ne_eqb r.fault 0 f, ne_eqb r.fault 3 g) (ap past_limit (let e = length-drop r.at ts in omega arith))
-
-module _ {kinds long : List ℕ} {n : ℕ} {p : EntityUnit} {q : ArchitectureUnit} {r : ProcessUnit} {d0 d1 d2 : List ℕ} {o0 o1 : Output}
+module _ {kinds long : List ℕ} {n : ℕ} {p : EntityPart} {q : ArchitecturePart} {r : ProcessPart} {d0 d1 d2 : List ℕ} {o0 o1 : Output}
     (e : EntityOver kinds long n d0 p d1) (a : ArchitectureOver kinds long n p.header d1 q d2) (b : ProcessOver kinds long n q.header o0 r o1)
     (ts : List Token) (holds : Holds ts kinds long n) where
   abbrev tree_of : EntityRead ts p d0 d1 → ArchitectureRead ts p.header q d1 d2 → ProcessRead ts q.header r o0 o1 → Text
@@ -117,26 +107,32 @@ module _ {kinds long : List ℕ} {n : ℕ} {p : EntityUnit} {q : ArchitectureUni
   inside : r.listing.cursor.at ≤ length ts
   inside = let c = holds.count in let i = b.inside in omega arith
 
-  answered : (k : Answer) (s : Parsing) → placed ts (from ts text r.listing.statements 1 heading r.listing.cursor 0 [] tree) ≡ k
+  answered : (k : Answer) (s : Result Parsed Unread) → placed ts (from ts text r.listing.statements 1 heading r.listing.cursor 0 [] tree) ≡ k
       → parses_as ts (lent o0 d0) (lent o1 d2) k s → Parses ts (lent o0 d0) (lent o1 d2) s
   answered k s w v = record { is = subst (λ (j : Answer). parses_as ts (lent o0 d0) (lent o1 d2) j s) (sym (comes_to ∙ w)) v }
 
-  parse_refused : r.listing.cursor.fault ≡ 3 → Parses ts (lent o0 d0) (lent o1 d2) (NotParsed 3 r.listing.cursor.at)
-  parse_refused f = answered (no_sentence r.listing.cursor.at) (NotParsed 3 r.listing.cursor.at)
+  parse_refused : r.listing.cursor.fault ≡ 3 → Parses ts (lent o0 d0) (lent o1 d2) (Err (NoSentence r.listing.cursor.at))
+  parse_refused f = answered (no_sentence r.listing.cursor.at) (Err (NoSentence r.listing.cursor.at))
       (text_refused ts tree r.listing.statements 1 heading r.listing.cursor 0 inside f) refl
 
-  parse_limited : (r.listing.cursor.fault ≡ 3 → ⊥) → (r.listing.cursor.fault ≡ 0 → ⊥)
-      → Parses ts (lent o0 d0) (lent o1 d2) (NotParsed 4 r.listing.cursor.at)
-  parse_limited g f = answered (past_limit r.listing.cursor.at) (NotParsed 4 r.listing.cursor.at)
-      (limited_at ts tree r.listing.statements 1 heading r.listing.cursor 0 inside f g) refl
+  parse_limited : r.listing.cursor.fault ≡ 4 → Parses ts (lent o0 d0) (lent o1 d2) (Err (LimitPassed r.listing.cursor.at))
+  parse_limited f = answered (past_limit r.listing.cursor.at) (Err (LimitPassed r.listing.cursor.at))
+      (text_limited ts tree r.listing.statements 1 heading r.listing.cursor 0 inside f) refl
 
-  parse_longer : r.listing.cursor.fault ≡ 0 → r.listing.cursor.at < n → Parses ts (lent o0 d0) (lent o1 d2) (NotParsed 3 r.listing.cursor.at)
-  parse_longer f l = answered (no_sentence r.listing.cursor.at) (NotParsed 3 r.listing.cursor.at)
+  -- each answer is the grammar's
+  pub parse_unread : (x : Unread) → r.listing.cursor ≡ unread x → Parses ts (lent o0 d0) (lent o1 d2) (Err x)
+  parse_unread (NoSentence at) g = subst (λ (k : ℕ). Parses ts (lent o0 d0) (lent o1 d2) (Err (NoSentence k))) (ap (λ (u : Read). u.at) g)
+      (parse_refused (ap (λ (u : Read). u.fault) g))
+  parse_unread (LimitPassed at) g = subst (λ (k : ℕ). Parses ts (lent o0 d0) (lent o1 d2) (Err (LimitPassed k))) (ap (λ (u : Read). u.at) g)
+      (parse_limited (ap (λ (u : Read). u.fault) g))
+
+  pub parse_longer : r.listing.cursor.fault ≡ 0 → r.listing.cursor.at < n → Parses ts (lent o0 d0) (lent o1 d2) (Err (NoSentence r.listing.cursor.at))
+  parse_longer f l = answered (no_sentence r.listing.cursor.at) (Err (NoSentence r.listing.cursor.at))
       (text_goes_on ts tree r.listing.statements 1 heading r.listing.cursor 0 inside f (let c = holds.count in omega arith)) refl
 
-  parse_whole : r.listing.cursor.fault ≡ 0 → n ≤ r.listing.cursor.at → Parses ts (lent o0 d0) (lent o1 d2) (Tree (numbers_of p q r))
+  pub parse_whole : r.listing.cursor.fault ≡ 0 → n ≤ r.listing.cursor.at → Parses ts (lent o0 d0) (lent o1 d2) (Ok (numbers_of p q r))
   unfolding headings groups
-  parse_whole f l = answered (accepted tree) (Tree (numbers_of p q r))
+  parse_whole f l = answered (accepted tree) (Ok (numbers_of p q r))
       (text_accepted ts tree r.listing.statements 1 heading r.listing.cursor 0 inside f (let c = holds.count in let i = inside in omega arith))
       (numbers_of p q r, refl, known)
     where
@@ -173,16 +169,3 @@ module _ {kinds long : List ℕ} {n : ℕ} {p : EntityUnit} {q : ArchitectureUni
         process = at q.process (p.header.cursor.at + 1 + 1 + 1 + 1 + 1 + 1) (let w = (a.named fq).2 in omega arith);
         at_arch_end = at r.end (z.at + 1 + 1 + 1 + 1) (let w = z.named f in omega arith);
       }
-
-  -- each answer is the grammar's
-  pub parse_answered : {s : Parsing} → s ≡ parsing_of n p q r → Parses ts (lent o0 d0) (lent o1 d2) s
-  parse_answered g = rw g (go (eqb r.listing.cursor.fault 3) refl (eqb r.listing.cursor.fault 0) refl (ltb r.listing.cursor.at n) refl)
-    where
-      go : (u : Bool) → eqb r.listing.cursor.fault 3 ≡ u → (v : Bool) → eqb r.listing.cursor.fault 0 ≡ v → (w : Bool)
-          → ltb r.listing.cursor.at n ≡ w
-          → Parses ts (lent o0 d0) (lent o1 d2) (choose u (NotParsed 3 r.listing.cursor.at)
-          (choose v (choose w (NotParsed 3 r.listing.cursor.at) (Tree (numbers_of p q r))) (NotParsed 4 r.listing.cursor.at)))
-      go true a v b w c = parse_refused (eqb-true _ _ a)
-      go false a false b w c = parse_limited (eqb-false _ _ a) (eqb-false _ _ b)
-      go false a true b true c = parse_longer (eqb-true _ _ b) (ltb-true _ _ c)
-      go false a true b false c = parse_whole (eqb-true _ _ b) (ltb-false _ _ c)

@@ -1,21 +1,18 @@
 -- What the reader of a text answers and writes, against the grammar's answer for its tokens. Assumes nothing.
-use Rattle.std.specs.Prelude.{◌≡◌, List, ℕ, ◌≤◌, ◌<◌, eqb, ltb}
-use Rattle.base_codes.specs.Refusal.{NO_SENTENCE, LIMIT_PASSED}
+use Rattle.std.specs.Prelude.{◌≡◌, List, ℕ, ◌≤◌, ◌<◌, Result, Ok, Err}
 use Rattle.spec_grammar.specs.Token.{Token}
 use Rattle.spec_grammar.specs.Tree.{Text}
 use Rattle.spec_grammar.specs.Acceptance.{Answer, accepted, no_sentence, past_limit}
-use Rattle.spec_grammar.specs.Reader.{choose, answer}
+use Rattle.spec_grammar.specs.Reader.{answer}
 use Rattle.front_layout.specs.Tokens.{token_at, Holds}
 use Rattle.front_layout.specs.Entries.{body_entries}
 use Rattle.front_layout.specs.Rows.{Output, WroteLines}
 use Rattle.front_layout.specs.Headings.{headings, WroteNames}
 use Rattle.front_declarations.specs.Rows.{declared_by}
-use Rattle.front_parser.specs.declared.EntityUnit.{EntityUnit}
-use Rattle.front_parser.specs.declared.ArchitectureUnit.{ArchitectureUnit}
-use Rattle.front_parser.specs.declared.ProcessUnit.{ProcessUnit}
+use Rattle.front_parser.specs.Units.{EntityPart, ArchitecturePart, ProcessPart}
 use Rattle.front_parser.specs.declared.Parsed.{Parsed}
-use Rattle.front_parser.specs.declared.Parsing.{Parsing}
-use Rattle.front_parser.specs.declared.Parsing.TheVariants.{Tree, NotParsed}
+use Rattle.front_cursor.specs.declared.Unread.{Unread}
+use Rattle.front_cursor.specs.declared.Unread.TheVariants.{NoSentence, LimitPassed}
 
 -- what the caller lends: the arrays of items and of statements, and the array of declared names
 pub record Lent : Type 0 where
@@ -27,7 +24,7 @@ abbrev pub lent : Output → List ℕ → Lent
 lent o d = record { out = o; decls = d }
 
 -- the numbers of a text whose entity, architecture and process were read
-abbrev pub numbers_of : EntityUnit → ArchitectureUnit → ProcessUnit → Parsed
+abbrev pub numbers_of : EntityPart → ArchitecturePart → ProcessPart → Parsed
 numbers_of p q r = record {
   statements = r.listing.statements;
   items = r.listing.cursor.written;
@@ -39,13 +36,6 @@ numbers_of p q r = record {
   process = q.process;
   arch_end = r.end;
 }
-
--- the answer on a text of n tokens whose three parts have come to an end: the fault that stopped them; 3 at a token behind the end; or its numbers
-abbrev pub parsing_of : ℕ → EntityUnit → ArchitectureUnit → ProcessUnit → Parsing
-parsing_of n p q r =
-    let last = r.listing.cursor in
-    choose (eqb last.fault NO_SENTENCE) (NotParsed NO_SENTENCE last.at)
-    (choose (eqb last.fault 0) (choose (ltb last.at n) (NotParsed NO_SENTENCE last.at) (Tree (numbers_of p q r))) (NotParsed LIMIT_PASSED last.at))
 
 -- a text was read as the tree t
 pub record ReadAs (ts : List Token) (t : Text) (before after : Lent) (q : Parsed) : Type 0 where
@@ -70,23 +60,23 @@ pub record ReadAs (ts : List Token) (t : Text) (before after : Lent) (q : Parsed
   -- the name behind the architecture's `end`
   pub at_arch_end : token_at ts q.arch_end ≡ t.end_of_arch
 
--- the answer by the grammar's answer: a tree with its rows; 3 at a token; 4 at a token.
+-- the answer by the grammar's answer: a tree with its rows; no sentence at a token; a limit passed at a token.
 -- Of a refused text nothing is said of the arrays: they are scratch of the caller, harmless as no caller reads them after a refusal.
-abbrev pub parses_as : List Token → Lent → Lent → Answer → Parsing → Type 0
-parses_as ts before after (accepted t) r = (q : Parsed) × (r ≡ Tree q) × ReadAs ts t before after q
-parses_as ts before after (no_sentence k) r = r ≡ NotParsed 3 k
-parses_as ts before after (past_limit k) r = r ≡ NotParsed 4 k
+abbrev pub parses_as : List Token → Lent → Lent → Answer → Result Parsed Unread → Type 0
+parses_as ts before after (accepted t) r = (q : Parsed) × (r ≡ Ok q) × ReadAs ts t before after q
+parses_as ts before after (no_sentence k) r = r ≡ Err (NoSentence k)
+parses_as ts before after (past_limit k) r = r ≡ Err (LimitPassed k)
 
 -- for the tokens ts
-pub record Parses (ts : List Token) (before after : Lent) (r : Parsing) : Type 0 where
+pub record Parses (ts : List Token) (before after : Lent) (r : Result Parsed Unread) : Type 0 where
   -- the answer is the grammar's
   pub is : parses_as ts before after (answer ts) r
 
 -- over the arrays kinds and long of n tokens
-pub record ParsesOver (kinds long : List ℕ) (n : ℕ) (before after : Lent) (r : Parsing) : Type 0 where
+pub record ParsesOver (kinds long : List ℕ) (n : ℕ) (before after : Lent) (r : Result Parsed Unread) : Type 0 where
   -- a text has at most 16384 tokens, as it has at most 16384 bytes: for every list of tokens that the arrays hold, the answer is the grammar's
   pub reads : (ts : List Token) → n ≤ 16384 → Holds ts kinds long n → Parses ts before after r
-  -- for a larger number, which no text has, the answer is 3 at 0
-  pub too_many : 16384 < n → r ≡ NotParsed 3 0
+  -- for a larger number, which no text has, the answer is no sentence at 0
+  pub too_many : 16384 < n → r ≡ Err (NoSentence 0)
   -- and the arrays are as they were
   pub untouched : 16384 < n → after ≡ before

@@ -7,16 +7,13 @@ use Rattle.spec_grammar.specs.Grammar.{NonTerminal, ports, vars, body, Says, Sym
 use Rattle.spec_grammar.proofs.Steps.{Ok}
 use Rattle.front_layout.specs.Tokens.{Holds}
 use Rattle.front_cursor.specs.Reading.{from}
-use Rattle.front_declarations.specs.declared.Header.{Header}
-use Rattle.front_declarations.specs.Headers.{heading_of, from_header, AsksHeader}
+use Rattle.front_declarations.specs.Headers.{HeaderRead, heading_of, from_header, AsksHeader}
 use Rattle.front_layout.specs.Headings.{groups_names, WroteNames}
 use Rattle.front_declarations.specs.Rows.{declared_by}
 use Rattle.front_layout.specs.Entries.{body_entries}
 use Rattle.front_layout.specs.Rows.{Output, WroteLines}
 use Rattle.front_statements.specs.Listings.{from_listing}
-use Rattle.front_parser.specs.declared.EntityUnit.{EntityUnit}
-use Rattle.front_parser.specs.declared.ArchitectureUnit.{ArchitectureUnit}
-use Rattle.front_parser.specs.declared.ProcessUnit.{ProcessUnit}
+use Rattle.front_parser.specs.Units.{EntityPart, ArchitecturePart, ProcessPart}
 use Rattle.front_parser.specs.Runs.{start, heading_at, toks, feed}
 
 -- "entity E is port (", ") ; end E ;"
@@ -35,7 +32,7 @@ abbrev pub end_kinds : List ℕ
 end_kinds = END ∷ PROCESS ∷ SEMI ∷ END ∷ NAME ∷ SEMI ∷ []
 
 -- from the beginning to r the entity was read: its ports, whose rows are written, and the index of the token behind them
-pub record EntityRead (ts : List Token) (r : EntityUnit) (before after : List ℕ) : Type 0 where
+pub record EntityRead (ts : List Token) (r : EntityPart) (before after : List ℕ) : Type 0 where
   pub groups : List Group
   pub at : ℕ
   pub named : r.header.cursor.fault ≡ 0 → (r.name ≡ 1) × (r.end ≡ at + 3)
@@ -46,13 +43,13 @@ pub record EntityRead (ts : List Token) (r : EntityUnit) (before after : List �
   pub wrote : r.header.cursor.fault ≡ 0 → WroteNames ts 0 (declared_by r.header) before after (groups_names groups)
 
 -- the same over the arrays, and where it ends; no item is written
-pub record EntityOver (kinds long : List ℕ) (n : ℕ) (before : List ℕ) (r : EntityUnit) (after : List ℕ) : Type 0 where
+pub record EntityOver (kinds long : List ℕ) (n : ℕ) (before : List ℕ) (r : EntityPart) (after : List ℕ) : Type 0 where
   pub asks : AsksHeader n r.header
   pub none : r.header.cursor.written ≡ 0
   pub reads : (ts : List Token) → Holds ts kinds long n → EntityRead ts r before after
 
 -- from p to r the architecture was read up to its second `begin`: its variables, whose rows are written
-pub record ArchitectureRead (ts : List Token) (p : Header) (r : ArchitectureUnit) (before after : List ℕ) : Type 0 where
+pub record ArchitectureRead (ts : List Token) (p : HeaderRead) (r : ArchitecturePart) (before after : List ℕ) : Type 0 where
   pub flag : Bool
   pub groups : List Group
   pub begin : Token
@@ -62,15 +59,15 @@ pub record ArchitectureRead (ts : List Token) (p : Header) (r : ArchitectureUnit
   pub wrote : r.header.cursor.fault ≡ 0 → WroteNames ts (declared_by p) (declared_by r.header) before after (groups_names groups)
 
 -- the same over the arrays, and where it ends; no item is written
-pub record ArchitectureOver (kinds long : List ℕ) (n : ℕ) (p : Header) (before : List ℕ) (r : ArchitectureUnit) (after : List ℕ) : Type 0 where
+pub record ArchitectureOver (kinds long : List ℕ) (n : ℕ) (p : HeaderRead) (before : List ℕ) (r : ArchitecturePart) (after : List ℕ) : Type 0 where
   pub asks : AsksHeader n r.header
-  pub none : r.header.cursor.written ≡ p.cursor.written
+  pub none : r.header.cursor.fault ≡ 0 → r.header.cursor.written ≡ p.cursor.written
   pub began : r.header.cursor.fault ≡ 0 → p.cursor.fault ≡ 0
   pub named : r.header.cursor.fault ≡ 0 → (r.name ≡ p.cursor.at + 1) × (r.of ≡ p.cursor.at + 3) × (r.process ≡ p.cursor.at + 6)
   pub reads : (ts : List Token) → Holds ts kinds long n → ArchitectureRead ts p r before after
 
 -- from p to r the statements were read, which are written, and what ends the text; at is the index of the token behind them
-pub record ProcessRead (ts : List Token) (p : Header) (r : ProcessUnit) (before after : Output) : Type 0 where
+pub record ProcessRead (ts : List Token) (p : HeaderRead) (r : ProcessPart) (before after : Output) : Type 0 where
   pub value : Body
   pub at : ℕ
   pub named : r.listing.cursor.fault ≡ 0 → r.end ≡ at + 4
@@ -79,7 +76,7 @@ pub record ProcessRead (ts : List Token) (p : Header) (r : ProcessUnit) (before 
   pub wrote : r.listing.cursor.fault ≡ 0 → WroteLines ts 0 0 r.listing.cursor.written r.listing.statements before after (body_entries value)
 
 -- the same over the arrays, and where it ends
-pub record ProcessOver (kinds long : List ℕ) (n : ℕ) (p : Header) (before : Output) (r : ProcessUnit) (after : Output) : Type 0 where
+pub record ProcessOver (kinds long : List ℕ) (n : ℕ) (p : HeaderRead) (before : Output) (r : ProcessPart) (after : Output) : Type 0 where
   pub inside : r.listing.cursor.at ≤ n
   pub room : r.listing.cursor.written ≤ n
   pub few : r.listing.statements ≤ 512

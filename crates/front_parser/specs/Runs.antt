@@ -2,21 +2,20 @@
 use Rattle.std.specs.Prelude.{Bool, true, ◌&&◌, List, [], ◌∷◌, ◌++◌, ℕ, ◌+◌, ltb}
 use Rattle.spec_grammar.specs.Token.{Token}
 use Rattle.spec_grammar.specs.Grammar.{NonTerminal, Says, Sym, tok, Fun}
-use Rattle.front_cursor.specs.declared.Cursor.{Cursor}
 use Rattle.front_layout.specs.Tokens.{token_at}
-use Rattle.front_cursor.specs.Reading.{expect_one}
-use Rattle.front_declarations.specs.declared.Header.{Header}
+use Rattle.front_cursor.specs.Reading.{Read, expect_one}
+use Rattle.front_declarations.specs.Headers.{HeaderRead}
 
 -- before the first token
-abbrev pub start : Cursor
+abbrev pub start : Read
 start = record { fault = 0; at = 0; items = 0; written = 0 }
 
 -- where the cursor is, with nothing declared
-abbrev pub heading_at : Cursor → Header
+abbrev pub heading_at : Read → HeaderRead
 heading_at q = record { cursor = q; waiting = 0; inputs = 0; outputs = 0; vars = 0 }
 
 -- tokens of these kinds are taken, one after another
-unfoldable pub expect_all : List ℕ → List ℕ → ℕ → List ℕ → Cursor → Cursor
+unfoldable pub expect_all : List ℕ → List ℕ → ℕ → List ℕ → Read → Read
 expect_all kinds long n [] q = q
 expect_all kinds long n (k ∷ ks) q = expect_all kinds long n ks (expect_one kinds long n k q)
 

@@ -1,17 +1,18 @@
 #![tactic(auto)]
-// The reader of a whole text: tokens to rows and items in lent arrays, or the refusal (3 or 4) with its token.
-ghost use Rattle.std.specs.Prelude.{◌≡◌, [], ◌∷◌, ◌<◌, ◌≤◌};
-ghost use Rattle.front_cursor.specs.Reading.{Asks};
+// The reader of a whole text: tokens to rows and items in lent arrays, or the refusal with its token.
+ghost use Rattle.std.specs.Prelude.{◌≡◌, true, ◌≤◌};
+ghost use Rattle.front_cursor.specs.Reading.{Asks, here, as_read};
 ghost use Rattle.front_layout.specs.Items.{arrays};
 ghost use Rattle.front_layout.specs.Rows.{output};
-ghost use Rattle.front_declarations.specs.Headers.{AsksHeader};
-ghost use Rattle.front_parser.specs.Runs.{start, heading_at, expect_all};
+ghost use Rattle.front_declarations.specs.Headers.{header_here, AsksHeader};
+ghost use Rattle.front_parser.specs.Runs.{expect_all, positive};
+ghost use Rattle.front_parser.specs.Units.{entity_here, architecture_here, process_here, as_entity, as_architecture, as_process};
 ghost use Rattle.front_parser.specs.Parts.{EntityOver, ArchitectureOver, ProcessOver};
-ghost use Rattle.front_parser.specs.Answers.{lent, numbers_of, parsing_of, ParsesOver};
+ghost use Rattle.front_parser.specs.Answers.{lent, numbers_of, ParsesOver};
 
-use base_codes::{declaration, limit, refusal, statement, token};
-use front_cursor::{Cursor, expect};
-use front_declarations::{Header, declared_by, moved, ports, variables};
+use base_codes::{declaration, limit, statement, token};
+use front_cursor::{Cursor, Tokens, Unread};
+use front_declarations::{Header, declared_by, ports, variables};
 use front_statements::{Listing, body};
 
 // What is known of a text that was read: the numbers of statements, items and declared names, and the indices of the tokens that the tree has beside them.
@@ -26,13 +27,6 @@ pub struct Parsed {
     pub arch_of: usize,
     pub process: usize,
     pub arch_end: usize,
-}
-
-// The text was read; or the refusal's number with the index of its token, the number of tokens being the text's end.
-#[derive(Clone, Copy)]
-pub enum Parsing {
-    Tree(Parsed),
-    NotParsed(u8, usize),
 }
 
 // The entity was read: where it ends, and the indices of its name and of the name behind its `end`.
@@ -59,161 +53,107 @@ pub struct ProcessUnit {
     pub end: usize,
 }
 
-// Before the first token.
-fn beginning() -> Cursor
-    ensures { result ≡ start }
+// Takes tokens of these kinds, one after another.
+fn expect_all(text: Tokens, q: Cursor, words: &[u8]) -> Result<Cursor, Unread>
+    requires { (positive words.now ≡ true) × Asks text.count (here q) }
+    ensures { as_read result ≡ expect_all text.entry.kinds.now text.entry.long.now text.entry.count words.now (here q) }
 {
-    Cursor {
-        fault: 0,
+    let mut a = q;
+    for word in words {
+        a = text.expect(a, *word)?;
+    }
+    Ok(a)
+}
+
+// `entity E is port ( GROUPS ) ; end E ;`
+fn entity(text: Tokens, decls: &mut [u16; declaration::ROWS]) -> Result<EntityUnit, Unread>
+    requires { text.count ≤ 16384 }
+    ensures { EntityOver text.entry.kinds.now text.entry.long.now text.entry.count decls.old (as_entity result) decls.new }
+{
+    let start = Cursor {
         at: 0,
         items: 0,
         written: 0,
-    }
-}
-
-// Where the cursor is, with nothing declared.
-fn heading(q: Cursor) -> Header
-    ensures { result ≡ heading_at q }
-{
-    Header {
-        cursor: q,
+    };
+    let a = text.expect(start, token::ENTITY)?;
+    let words = [token::NAME, token::IS, token::PORT, token::LP];
+    let cursor = expect_all(text, a, &words)?;
+    let heading = Header {
+        cursor,
         waiting: 0,
         inputs: 0,
         outputs: 0,
         vars: 0,
-    }
-}
-
-// Takes two tokens of these kinds.
-fn two(
-    kinds: &[u8; limit::TEXT],
-    long: &[u8; limit::TEXT],
-    n: usize,
-    q: Cursor,
-    a: u8,
-    b: u8,
-) -> Cursor
-    requires { (0 < a) × (0 < b) × Asks n q }
-    ensures { result ≡ expect_all kinds.now long.now n (a ∷ b ∷ []) q }
-{
-    let p = expect(kinds, long, n, q, a);
-    expect(kinds, long, n, p, b)
-}
-
-// Takes three tokens of these kinds.
-fn three(
-    kinds: &[u8; limit::TEXT],
-    long: &[u8; limit::TEXT],
-    n: usize,
-    q: Cursor,
-    a: u8,
-    b: u8,
-    c: u8,
-) -> Cursor
-    requires { (0 < a) × (0 < b) × (0 < c) × Asks n q }
-    ensures { result ≡ expect_all kinds.now long.now n (a ∷ b ∷ c ∷ []) q }
-{
-    let p = expect(kinds, long, n, q, a);
-    let r = expect(kinds, long, n, p, b);
-    expect(kinds, long, n, r, c)
-}
-
-// `entity E is port ( GROUPS ) ; end E ;`
-fn entity(
-    kinds: &[u8; limit::TEXT],
-    long: &[u8; limit::TEXT],
-    n: usize,
-    decls: &mut [u16; declaration::ROWS],
-) -> EntityUnit
-    requires { n ≤ 16384 }
-    ensures { EntityOver kinds.now long.now n decls.old result decls.new }
-{
-    let a = expect(kinds, long, n, beginning(), token::ENTITY);
-    let b = two(kinds, long, n, a, token::NAME, token::IS);
-    let c = two(kinds, long, n, b, token::PORT, token::LP);
-    let d = ports(kinds, long, n, heading(c), decls);
-    let q = d.cursor;
-    let e = three(kinds, long, n, q, token::RP, token::SEMI, token::END);
-    let f = two(kinds, long, n, e, token::NAME, token::SEMI);
-    let header = moved(d, f);
-    EntityUnit {
-        header,
+    };
+    let d = ports(text, heading, decls)?;
+    let words = [token::RP, token::SEMI, token::END];
+    let e = expect_all(text, d.cursor, &words)?;
+    let f = expect_all(text, e, &[token::NAME, token::SEMI])?;
+    Ok(EntityUnit {
+        header: Header { cursor: f, ..d },
         name: a.at,
         end: e.at,
-    }
+    })
 }
 
 // `architecture A of E is begin process`, the variables and `begin`.
 fn architecture(
-    kinds: &[u8; limit::TEXT],
-    long: &[u8; limit::TEXT],
-    n: usize,
+    text: Tokens,
     p: Header,
     decls: &mut [u16; declaration::ROWS],
-) -> ArchitectureUnit
-    requires { AsksHeader n p }
-    ensures { ArchitectureOver kinds.now long.now n p decls.old result decls.new }
+) -> Result<ArchitectureUnit, Unread>
+    requires { AsksHeader text.count (header_here p) }
+    ensures { ArchitectureOver text.entry.kinds.now text.entry.long.now text.entry.count (header_here p) decls.old (as_architecture result) decls.new }
 {
-    let q = p.cursor;
-    let a = expect(kinds, long, n, q, token::ARCHITECTURE);
-    let b = two(kinds, long, n, a, token::NAME, token::OF);
-    let c = three(kinds, long, n, b, token::NAME, token::IS, token::BEGIN);
-    let d = expect(kinds, long, n, c, token::PROCESS);
-    let e = variables(kinds, long, n, moved(p, d), decls);
-    let x = e.cursor;
-    let f = expect(kinds, long, n, x, token::BEGIN);
-    let header = moved(e, f);
-    ArchitectureUnit {
-        header,
+    let a = text.expect(p.cursor, token::ARCHITECTURE)?;
+    let b = expect_all(text, a, &[token::NAME, token::OF])?;
+    let words = [token::NAME, token::IS, token::BEGIN];
+    let c = expect_all(text, b, &words)?;
+    let d = text.expect(c, token::PROCESS)?;
+    let e = variables(text, Header { cursor: d, ..p }, decls)?;
+    let f = text.expect(e.cursor, token::BEGIN)?;
+    Ok(ArchitectureUnit {
+        header: Header { cursor: f, ..e },
         name: a.at,
         of: b.at,
         process: c.at,
-    }
+    })
 }
 
 // The statements of the process, and `end process ; end A ;`.
 fn process(
-    kinds: &[u8; limit::TEXT],
-    long: &[u8; limit::TEXT],
-    n: usize,
+    text: Tokens,
     p: Header,
     codes: &mut [u8; limit::TEXT],
     tokens: &mut [u16; limit::TEXT],
     rows: &mut [u16; statement::ROWS],
-) -> ProcessUnit
-    requires { AsksHeader n p × (p.cursor.written ≡ 0) }
-    ensures { ProcessOver kinds.now long.now n p (output (arrays codes.old tokens.old) rows.old) result (output (arrays codes.new tokens.new) rows.new) }
+) -> Result<ProcessUnit, Unread>
+    requires { AsksHeader text.count (header_here p) × (p.cursor.written ≡ 0) }
+    ensures { ProcessOver text.entry.kinds.now text.entry.long.now text.entry.count (header_here p) (output (arrays codes.old tokens.old) rows.old) (as_process result) (output (arrays codes.new tokens.new) rows.new) }
 {
-    let q = p.cursor;
     let first = Listing {
-        cursor: q,
+        cursor: p.cursor,
         statements: 0,
     };
-    let a = body(kinds, long, n, first, 1, codes, tokens, rows);
-    let x = a.cursor;
-    let b = three(kinds, long, n, x, token::END, token::PROCESS, token::SEMI);
-    let c = expect(kinds, long, n, b, token::END);
-    let d = two(kinds, long, n, c, token::NAME, token::SEMI);
-    let listing = Listing {
-        cursor: d,
-        statements: a.statements,
-    };
-    ProcessUnit { listing, end: c.at }
+    let a = body(text, first, 1, codes, tokens, rows)?;
+    let words = [token::END, token::PROCESS, token::SEMI, token::END];
+    let b = expect_all(text, a.cursor, &words)?;
+    let c = expect_all(text, b, &[token::NAME, token::SEMI])?;
+    Ok(ProcessUnit {
+        listing: Listing { cursor: c, ..a },
+        end: b.at,
+    })
 }
 
 // The numbers of a text that was read, each from the reader that came past it.
 fn numbers(p: EntityUnit, q: ArchitectureUnit, r: ProcessUnit) -> Parsed
     requires { (q.header.inputs ≤ 17) × (q.header.outputs ≤ 16) × (q.header.vars ≤ 32) }
-    ensures { result ≡ numbers_of p q r }
+    ensures { result ≡ numbers_of (entity_here p) (architecture_here q) (process_here r) }
 {
-    let header = q.header;
-    let listing = r.listing;
-    let last = listing.cursor;
-    let names = declared_by(header);
     Parsed {
-        statements: listing.statements,
-        items: last.written,
-        names,
+        statements: r.listing.statements,
+        items: r.listing.cursor.written,
+        names: declared_by(q.header),
         entity: p.name,
         entity_end: p.end,
         arch: q.name,
@@ -223,27 +163,9 @@ fn numbers(p: EntityUnit, q: ArchitectureUnit, r: ProcessUnit) -> Parsed
     }
 }
 
-// The answer on a text of n tokens whose parts were read: the refusal that stopped them, one at a token behind the end, or the numbers of the text.
-fn answered(n: usize, p: EntityUnit, q: ArchitectureUnit, r: ProcessUnit) -> Parsing
-    requires { (q.header.inputs ≤ 17) × (q.header.outputs ≤ 16) × (q.header.vars ≤ 32) }
-    ensures { result ≡ parsing_of n p q r }
-{
-    let listing = r.listing;
-    let last = listing.cursor;
-    if last.fault == refusal::NO_SENTENCE {
-        return Parsing::NotParsed(refusal::NO_SENTENCE, last.at);
-    }
-    if last.fault != 0 {
-        return Parsing::NotParsed(refusal::LIMIT_PASSED, last.at);
-    }
-    if last.at < n {
-        return Parsing::NotParsed(refusal::NO_SENTENCE, last.at);
-    }
-    Parsing::Tree(numbers(p, q, r))
-}
-
 // Reads a text of n tokens: kinds has their kinds, long a 1 where a name or a number passes its limit.
 // Items go to codes and tokens, statements to rows, declared names to decls. No text has more than 16384 tokens.
+// A refusal's token is the first that cannot continue, the number of tokens being the text's end.
 pub fn parse(
     kinds: &[u8; limit::TEXT],
     long: &[u8; limit::TEXT],
@@ -252,16 +174,23 @@ pub fn parse(
     tokens: &mut [u16; limit::TEXT],
     rows: &mut [u16; statement::ROWS],
     decls: &mut [u16; declaration::ROWS],
-) -> Parsing
+) -> Result<Parsed, Unread>
     ensures { ParsesOver kinds.now long.now n (lent (output (arrays codes.old tokens.old) rows.old) decls.old) (lent (output (arrays codes.new tokens.new) rows.new) decls.new) result }
 {
     if n > limit::TEXT {
-        return Parsing::NotParsed(refusal::NO_SENTENCE, 0);
+        return Err(Unread::NoSentence(0));
     }
-    let p = entity(kinds, long, n, decls);
-    let declared = p.header;
-    let q = architecture(kinds, long, n, declared, decls);
-    let heading = q.header;
-    let r = process(kinds, long, n, heading, codes, tokens, rows);
-    answered(n, p, q, r)
+    let text = Tokens {
+        kinds,
+        long,
+        count: n,
+    };
+    let p = entity(text, decls)?;
+    let q = architecture(text, p.header, decls)?;
+    let r = process(text, q.header, codes, tokens, rows)?;
+    let last = r.listing.cursor;
+    if last.at < n {
+        return Err(Unread::NoSentence(last.at));
+    }
+    Ok(numbers(p, q, r))
 }

@@ -5,6 +5,8 @@ use mathlib.Core.Option.{Option, none, some}
 use mathlib.Core.List.{List, [], ◌∷◌, ◌++◌, map}
 use Prim.Native.Nat.{ℕ, zero, suc, ◌+◌, ◌*◌, min}
 use native.Mathlib.Omega.{arith}
+use Rattle.std.specs.Prelude.{None, Some}
+use Rattle.std.specs.Prelude as P
 use borrow.Author.Tests.{eqb-true, eqb-false, eq-eqb, ne_eqb}
 use lib.Dec.{eqb, eqb-suc-suc}
 use lib.ListN.{get_or}
@@ -41,8 +43,8 @@ use Rattle.front_scope.specs.Judges.{HeadsIn, Held}
 use Rattle.front_scope.proofs.Resolved.{Named, named_declared, same_tokens}
 
 -- Declared twice: a declaration whose name has another number than its own.
-misplaced : (ℕ → ℕ) → ℕ → List Decl → ℕ
-misplaced pos j [] = 0
+misplaced : (ℕ → ℕ) → ℕ → List Decl → P.Option ℕ
+misplaced pos j [] = None
 misplaced pos j (d ∷ ds) = lower (lowest_of (unless (eqb (pos d.name.value) j) d.name.place)) (misplaced pos (j + 1) ds)
 
 -- one declaration more in front
@@ -60,10 +62,10 @@ module _ (v : ℕ) (pos : ℕ → ℕ) where
           ap (eqb (suc (pos u))) e ∙ (eqb-suc-suc (pos u) j ∙ sym (ap (λ (b : Bool). not b && eqb (pos u) j) (ne_eqb u v (λ z. eqb-false v u q (sym z)))))
 
   misplaced_later : (i j : ℕ) → i ≡ suc j → (ds : List Decl) → misplaced later i ds ≡ lower (lowest_of (again v ds)) (misplaced pos j ds)
-  unfolding misplaced again each L.number lowest lower
+  unfolding misplaced again each L.option_of lowest lower
   misplaced_later i j e [] = refl
   misplaced_later i j e (d ∷ ds) =
-      ap (λ (x : ℕ). lower x (misplaced later (i + 1) ds))
+      ap (λ (x : P.Option ℕ). lower x (misplaced later (i + 1) ds))
       (ap (λ (b : Bool). lowest_of (unless b d.name.place)) (later_test d.name.value i j e)
       ∙ both_unless (not (eqb d.name.value v)) (eqb (pos d.name.value) j) d.name.place)
       ∙ (ap (lower (lower (lowest_of (unless (not (eqb d.name.value v)) d.name.place))
@@ -71,15 +73,15 @@ module _ (v : ℕ) (pos : ℕ → ℕ) where
       (misplaced_later (i + 1) (j + 1) (omega arith) ds)
       ∙ (lower_swap (lowest_of (unless (not (eqb d.name.value v)) d.name.place)) (lowest_of (unless (eqb (pos d.name.value) j) d.name.place))
       (lowest_of (again v ds)) (misplaced pos (j + 1) ds)
-      ∙ ap (λ (x : ℕ). lower x (lower (lowest_of (unless (eqb (pos d.name.value) j) d.name.place)) (misplaced pos (j + 1) ds)))
+      ∙ ap (λ (x : P.Option ℕ). lower x (lower (lowest_of (unless (eqb (pos d.name.value) j) d.name.place)) (misplaced pos (j + 1) ds)))
       (sym (lowest_append (unless (not (eqb d.name.value v)) d.name.place) (again v ds)))))
 
 misplaced_doubled : (Δ : List Decl) → misplaced (position Δ) 0 Δ ≡ lowest_of (doubled Δ)
-unfolding misplaced doubled L.number lowest lower position later
+unfolding misplaced doubled L.option_of lowest lower position later
 misplaced_doubled [] = refl
 misplaced_doubled (d ∷ ds) =
     let z : eqb (position (d ∷ ds) d.name.value) 0 ≡ true = rw (eq-eqb d.name.value d.name.value refl) in
-    ap (λ (x : ℕ). lower x (misplaced (position (d ∷ ds)) (0 + 1) ds)) (lowest_fine (eqb (position (d ∷ ds) d.name.value) 0) d.name.place z)
+    ap (λ (x : P.Option ℕ). lower x (misplaced (position (d ∷ ds)) (0 + 1) ds)) (lowest_fine (eqb (position (d ∷ ds) d.name.value) 0) d.name.place z)
     ∙ (misplaced_later d.name.value (position ds) (0 + 1) 0 (omega arith) ds
     ∙ (ap (lower (lowest_of (again d.name.value ds))) (misplaced_doubled ds) ∙ sym (lowest_append (again d.name.value ds) (doubled ds))))
 
@@ -158,7 +160,7 @@ module _ (Δ : List Decl) where
       ∙ ap (λ (l : List ℕ). lower (lowest_of (unless b p)) (lowest_of l)) (read_expr_lem Δ e))
 
   names_split : (s : Stmt) → lowest_of (names_of Δ s) ≡ lower (lowest_of (target_of Δ s)) (lowest_of (of_reads (read_rule Δ) s))
-  unfolding names_of target_of target_rule has_name stmt_entry of_reads fits_in L.number lowest lower
+  unfolding names_of target_of target_rule has_name stmt_entry of_reads fits_in L.option_of lowest lower
   names_split (output x e) = assigned (is_a (λ d. is_output d.mode) (find Δ x.value)) (eqb (mode_of (find Δ x.value)) 1) x.place e
       (output_code (find Δ x.value))
   names_split (assign x e) = assigned (is_a (λ d. is_variable d.mode) (find Δ x.value)) (eqb (mode_of (find Δ x.value)) 2) x.place e
@@ -181,12 +183,12 @@ module _ (text sizes : List ℕ) (ts : List Token) (t : Text) (kinds starts : Li
 
   target_is : (j : ℕ) → NamedRow (get_or rows (6 * j) 0) (token_at ts (get_or rows (6 * j + 1) 0))
       → target_at rows starts owners n decls d j ≡ lowest_of (target_rule (declared t) (get_or rows (6 * j) 0) (token_at ts (get_or rows (6 * j + 1) 0)))
-  unfolding target_at target_rule L.number lowest
+  unfolding target_at target_rule L.option_of lowest
   target_is j h = go (has_name (get_or rows (6 * j) 0)) refl
     where
       go : (b : Bool) → has_name (get_or rows (6 * j) 0) ≡ b
           → choose b (lowest_of (unless (fits_in (get_or rows (6 * j) 0) (mode_in decls d (number_in owners n (get_or rows (6 * j + 1) 0))))
-          (number_in starts n (get_or rows (6 * j + 1) 0)))) 0
+          (number_in starts n (get_or rows (6 * j + 1) 0)))) None
           ≡ lowest_of (choose b (unless (fits_in (get_or rows (6 * j) 0) (mode_of (find (declared t) (token_at ts (get_or rows (6 * j + 1) 0)).value)))
           (token_at ts (get_or rows (6 * j + 1) 0)).place) [])
       go true q =
@@ -206,11 +208,11 @@ module _ (text sizes : List ℕ) (ts : List Token) (t : Text) (kinds starts : Li
 
   read_is : (j : ℕ) → NamedItem (get_or codes j 0) (token_at ts (get_or indices j 0))
       → read_at codes indices starts owners n decls d j ≡ lowest_of (of_item (read_rule (declared t)) (get_or codes j 0) (token_at ts (get_or indices j 0)))
-  unfolding read_at read_rule L.number lowest
+  unfolding read_at read_rule L.option_of lowest
   read_is j h = go (eqb (get_or codes j 0) I.NAME) refl
     where
       go : (b : Bool) → eqb (get_or codes j 0) I.NAME ≡ b
-          → choose b (lowest_of (unless (readable_in (mode_in decls d (number_in owners n (get_or indices j 0)))) (number_in starts n (get_or indices j 0)))) 0
+          → choose b (lowest_of (unless (readable_in (mode_in decls d (number_in owners n (get_or indices j 0)))) (number_in starts n (get_or indices j 0)))) None
           ≡ lowest_of (choose b (unless (is_a readable (find (declared t) (token_at ts (get_or indices j 0)).value)) (token_at ts (get_or indices j 0)).place) [])
       go true q =
           ap (λ (b : Bool). lowest_of (unless b (number_in starts n (get_or indices j 0))))
@@ -298,7 +300,7 @@ module _ (text sizes : List ℕ) (ts : List Token) (t : Text) (kinds starts : Li
             ∙ sym (lower_assoc (lowest_of p) (lower (lowest_of q) (lowest_of r)) (lower (lowest_of u) (lowest_of v))
             ∙ ap (lower (lowest_of p)) (lower_assoc (lowest_of q) (lowest_of r) (lower (lowest_of u) (lowest_of v)))))
 
-        regroup : (a b c u v w : ℕ) → a ≡ lowest_of (differs t.end_of_entity t.entity) → b ≡ lowest_of (differs t.of_arch t.entity) → c
+        regroup : (a b c u v w : P.Option ℕ) → a ≡ lowest_of (differs t.end_of_entity t.entity) → b ≡ lowest_of (differs t.of_arch t.entity) → c
             ≡ lowest_of (differs t.end_of_arch t.arch)
             → u ≡ lowest_of (doubled Δ) → v ≡ lowest_of (each (target_of Δ) l) → w ≡ lowest_of (each (of_reads (read_rule Δ)) l)
             → lower (lower a (lower b c)) (lower u (lower v w))

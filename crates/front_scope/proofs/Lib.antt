@@ -1,4 +1,3 @@
-pub mod Steps
 pub mod Owning
 pub mod Resolved
 pub mod Exact

@@ -1,11 +1,11 @@
 -- What the stage of names answers, on any arrays and on those of a tree. Assumes nothing.
-use Rattle.std.specs.Prelude.{◌≡◌, List, ℕ}
+use Rattle.std.specs.Prelude.{◌≡◌, List, Option, ℕ}
 use Rattle.spec_grammar.specs.Token.{Token}
 use Rattle.spec_grammar.specs.Tree.{Text}
 use Rattle.spec_language.specs.Names.{names}
 use Rattle.front_layout.specs.Tokens.{token_at}
-use Rattle.front_offences.specs.declared.Finding.{Finding}
 use Rattle.front_offences.specs.declared.Shape.{Shape}
+use Rattle.front_offences.specs.declared.tree.Tree.{Tree}
 use Rattle.front_offences.specs.Judged.{LaidIn, Judged}
 use Rattle.front_limits.specs.Words.{WordsIn}
 use Rattle.front_scope.specs.Positions.{lowest_in}
@@ -27,6 +27,7 @@ pub record Held (text starts sizes : List ℕ) (p : Shape) (codes indices rows d
   pub heads : HeadsIn tokens t p
 
 -- the stage's answer: the lowest place by position; and for such a tree the lowest offence of refusal 5
-abbrev pub Judges : List ℕ → List ℕ → List ℕ → Shape → List ℕ → List ℕ → List ℕ → List ℕ → List ℕ → Finding → Type 0
-Judges text starts sizes p codes indices rows decls owners r =
-    Judged (lowest_in text starts sizes p codes indices rows decls owners) (Held text starts sizes p codes indices rows decls owners) names r
+abbrev pub Judges : List ℕ → List ℕ → Tree → Option ℕ → Type 0
+Judges text sizes tree r =
+    Judged (lowest_in text tree.starts.now sizes tree.shape tree.codes.now tree.indices.now tree.rows.now tree.decls.now tree.owners.now)
+    (Held text tree.starts.now sizes tree.shape tree.codes.now tree.indices.now tree.rows.now tree.decls.now tree.owners.now) names r

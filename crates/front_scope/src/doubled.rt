@@ -3,40 +3,23 @@ ghost use Rattle.std.specs.Prelude.{◌≡◌, ◌<◌};
 ghost use Rattle.front_scope.specs.Positions.{doubled_at, doubled_in};
 
 use base_codes::{declaration, limit};
+use front_offences::Tree;
 
 // A declared name that stands for an earlier one.
-fn doubled_at(
-    decls: &[u16; declaration::ROWS],
-    starts: &[u16; limit::TEXT],
-    owners: &[u8; limit::TEXT],
-    n: usize,
-    j: usize,
-) -> usize
+fn doubled_at(tree: &Tree, j: usize) -> Option<usize>
     requires { j < 65 }
-    ensures { result ≡ doubled_at decls.now starts.now owners.now n j }
+    ensures { result ≡ doubled_at tree.now.decls.now tree.now.starts.now tree.now.owners.now tree.now.shape.tokens j }
 {
-    let i = front_offences::wide(decls[declaration::ROW * j]);
-    let o = front_offences::owner_at(owners, n, i);
+    let i = usize::from(tree.declared(j, declaration::NAME));
+    let o = tree.owner(i);
     let first = o == j;
-    front_offences::offence(first, front_offences::place_at(starts, n, i))
+    front_offences::offence(first, tree.place(i))
 }
 
 // The lowest of those.
-pub(crate) fn doubled(
-    decls: &[u16; declaration::ROWS],
-    d: usize,
-    starts: &[u16; limit::TEXT],
-    owners: &[u8; limit::TEXT],
-    n: usize,
-) -> usize
-    ensures { result ≡ doubled_in decls.now d starts.now owners.now n }
+pub(crate) fn doubled(tree: &Tree) -> Option<usize>
+    ensures { result ≡ doubled_in tree.now.decls.now tree.now.shape.names tree.now.starts.now tree.now.owners.now tree.now.shape.tokens }
 {
-    let end = front_offences::at_most(d, limit::NAMES);
-    let mut low = 0;
-    let mut j = 0;
-    while j < end {
-        low = front_offences::lower(low, doubled_at(decls, starts, owners, n, j));
-        j += 1;
-    }
-    low
+    let end = tree.shape.names.min(limit::NAMES);
+    front_offences::lowest_below(end, |j| doubled_at(tree, j))
 }

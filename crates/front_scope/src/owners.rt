@@ -15,14 +15,14 @@ pub(crate) fn same_at(
 ) -> bool
     ensures { result ≡ same_in text.now starts.now sizes.now n a b }
 {
-    let start_a = front_offences::wide(front_offences::place_at(starts, n, a));
-    let size_a = front_offences::wide(front_offences::place_at(sizes, n, a));
-    let start_b = front_offences::wide(front_offences::place_at(starts, n, b));
-    let size_b = front_offences::wide(front_offences::place_at(sizes, n, b));
+    let start_a = usize::from(front_offences::place_at(starts, n, a));
+    let size_a = usize::from(front_offences::place_at(sizes, n, a));
+    let start_b = usize::from(front_offences::place_at(starts, n, b));
+    let size_b = usize::from(front_offences::place_at(sizes, n, b));
     front_lexer::parts::same_name(text, start_a, size_a, start_b, size_b)
 }
 
-// The number of the first declared name that is the name at an index.
+// The number of the first declared name that is the name at an index, or of them all for none; at most 65, so `as u8` loses nothing and `try_from` would add a branch never taken.
 fn owner_of(
     text: &[u8],
     starts: &[u16; limit::TEXT],
@@ -34,14 +34,12 @@ fn owner_of(
 ) -> u8
     ensures { result ≡ owner_in text.now starts.now sizes.now n decls.now d i }
 {
-    let end = front_offences::at_most(d, limit::NAMES);
-    let mut j = 0;
-    while j < end {
-        let name = front_offences::wide(decls[declaration::ROW * j]);
+    let end = d.min(limit::NAMES);
+    for j in 0..end {
+        let name = usize::from(decls[declaration::ROW * j]);
         if same_at(text, starts, sizes, n, name, i) {
             return j as u8;
         }
-        j += 1;
     }
     end as u8
 }
@@ -61,8 +59,7 @@ pub(crate) fn settle(
     requires { i < 16384 }
     ensures { owners.new ≡ filled (owner_in text.now starts.now sizes.now n decls.now d) kinds.now i owners.old }
 {
-    if kinds[i] != token::NAME {
-        return;
+    if kinds[i] == token::NAME {
+        owners[i] = owner_of(text, starts, sizes, n, decls, d, i);
     }
-    owners[i] = owner_of(text, starts, sizes, n, decls, d, i);
 }

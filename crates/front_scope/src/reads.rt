@@ -3,59 +3,34 @@ ghost use Rattle.std.specs.Prelude.{◌≡◌, ◌<◌};
 ghost use Rattle.front_scope.specs.Positions.{readable_in, read_at, reads_in};
 
 use base_codes::{declaration, item, limit};
+use front_offences::Tree;
 
 // A name of a mode may be read: it is declared, and no output.
 fn readable(mode: u16) -> bool
     ensures { result ≡ readable_in mode }
 {
-    if mode == declaration::OUT {
-        return false;
-    }
-    mode != declaration::NO_MODE
+    mode != declaration::OUT && mode != declaration::NO_MODE
 }
 
 // An item that is a name and may not be read.
-fn read_at(
-    codes: &[u8; limit::TEXT],
-    indices: &[u16; limit::TEXT],
-    starts: &[u16; limit::TEXT],
-    owners: &[u8; limit::TEXT],
-    n: usize,
-    decls: &[u16; declaration::ROWS],
-    d: usize,
-    j: usize,
-) -> usize
+fn read_at(tree: &Tree, j: usize) -> Option<usize>
     requires { j < 16384 }
-    ensures { result ≡ read_at codes.now indices.now starts.now owners.now n decls.now d j }
+    ensures { result ≡ read_at tree.now.codes.now tree.now.indices.now tree.now.starts.now tree.now.owners.now tree.now.shape.tokens
+        tree.now.decls.now tree.now.shape.names j }
 {
-    if codes[j] != item::NAME {
-        return 0;
+    if tree.codes[j] != item::NAME {
+        return None;
     }
-    let i = front_offences::wide(indices[j]);
-    let mode = front_offences::mode_at(decls, d, front_offences::owner_at(owners, n, i));
-    let ok = readable(mode);
-    front_offences::offence(ok, front_offences::place_at(starts, n, i))
+    let i = usize::from(tree.indices[j]);
+    let ok = readable(tree.mode(tree.owner(i)));
+    front_offences::offence(ok, tree.place(i))
 }
 
 // The lowest of those.
-pub(crate) fn reads(
-    codes: &[u8; limit::TEXT],
-    indices: &[u16; limit::TEXT],
-    k: usize,
-    starts: &[u16; limit::TEXT],
-    owners: &[u8; limit::TEXT],
-    n: usize,
-    decls: &[u16; declaration::ROWS],
-    d: usize,
-) -> usize
-    ensures { result ≡ reads_in codes.now indices.now k starts.now owners.now n decls.now d }
+pub(crate) fn reads(tree: &Tree) -> Option<usize>
+    ensures { result ≡ reads_in tree.now.codes.now tree.now.indices.now tree.now.shape.items
+        tree.now.starts.now tree.now.owners.now tree.now.shape.tokens tree.now.decls.now tree.now.shape.names }
 {
-    let end = front_offences::at_most(k, limit::TEXT);
-    let mut low = 0;
-    let mut j = 0;
-    while j < end {
-        low = front_offences::lower(low, read_at(codes, indices, starts, owners, n, decls, d, j));
-        j += 1;
-    }
-    low
+    let end = tree.shape.items.min(limit::TEXT);
+    front_offences::lowest_below(end, |j| read_at(tree, j))
 }

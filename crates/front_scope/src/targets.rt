@@ -3,61 +3,39 @@ ghost use Rattle.std.specs.Prelude.{◌≡◌, ◌<◌};
 ghost use Rattle.front_scope.specs.Positions.{fits_in, target_at, targets_in};
 
 use base_codes::{declaration, limit, statement};
+use front_offences::Tree;
 
 // A name of a mode fits a statement of a kind: <= wants an output, := a variable, a wait any declared name.
 fn target_fits(kind: u16, mode: u16) -> bool
     ensures { result ≡ fits_in kind mode }
 {
-    if kind == statement::WAIT {
-        return mode != declaration::NO_MODE;
+    match kind {
+        statement::WAIT => mode != declaration::NO_MODE,
+        statement::OUTPUT => mode == declaration::OUT,
+        _ => mode == declaration::VARIABLE,
     }
-    if kind == statement::OUTPUT {
-        return mode == declaration::OUT;
-    }
-    mode == declaration::VARIABLE
 }
 
 // A wait or an assignment whose name does not fit.
-fn target_at(
-    rows: &[u16; statement::ROWS],
-    starts: &[u16; limit::TEXT],
-    owners: &[u8; limit::TEXT],
-    n: usize,
-    decls: &[u16; declaration::ROWS],
-    d: usize,
-    j: usize,
-) -> usize
+fn target_at(tree: &Tree, j: usize) -> Option<usize>
     requires { j < 512 }
-    ensures { result ≡ target_at rows.now starts.now owners.now n decls.now d j }
+    ensures { result ≡ target_at tree.now.rows.now tree.now.starts.now tree.now.owners.now tree.now.shape.tokens
+        tree.now.decls.now tree.now.shape.names j }
 {
-    let kind = rows[statement::ROW * j];
+    let kind = tree.statement(j, statement::KIND);
     if !front_offences::has_name(kind) {
-        return 0;
+        return None;
     }
-    let i = front_offences::wide(rows[statement::ROW * j + statement::TOKEN]);
-    let mode = front_offences::mode_at(decls, d, front_offences::owner_at(owners, n, i));
-    let ok = target_fits(kind, mode);
-    front_offences::offence(ok, front_offences::place_at(starts, n, i))
+    let i = usize::from(tree.statement(j, statement::TOKEN));
+    let ok = target_fits(kind, tree.mode(tree.owner(i)));
+    front_offences::offence(ok, tree.place(i))
 }
 
 // The lowest of those.
-pub(crate) fn targets(
-    rows: &[u16; statement::ROWS],
-    s: usize,
-    starts: &[u16; limit::TEXT],
-    owners: &[u8; limit::TEXT],
-    n: usize,
-    decls: &[u16; declaration::ROWS],
-    d: usize,
-) -> usize
-    ensures { result ≡ targets_in rows.now s starts.now owners.now n decls.now d }
+pub(crate) fn targets(tree: &Tree) -> Option<usize>
+    ensures { result ≡ targets_in tree.now.rows.now tree.now.shape.statements tree.now.starts.now tree.now.owners.now tree.now.shape.tokens
+        tree.now.decls.now tree.now.shape.names }
 {
-    let end = front_offences::at_most(s, limit::STATEMENTS);
-    let mut low = 0;
-    let mut j = 0;
-    while j < end {
-        low = front_offences::lower(low, target_at(rows, starts, owners, n, decls, d, j));
-        j += 1;
-    }
-    low
+    let end = tree.shape.statements.min(limit::STATEMENTS);
+    front_offences::lowest_below(end, |j| target_at(tree, j))
 }

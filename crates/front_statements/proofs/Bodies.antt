@@ -2,7 +2,7 @@
 use mathlib.Core.Path.{◌≡◌, refl, sym, ◌∙◌, ap, subst}
 use mathlib.Core.Bool.{Bool, true, false}
 use mathlib.Core.List.{List, [], ◌∷◌, ◌++◌, append_assoc, append-nil}
-use Prim.Native.Nat.{ℕ, ◌+◌, ◌-◌, ◌≤◌, ◌<◌}
+use Prim.Native.Nat.{ℕ, ◌<◌}
 use native.Mathlib.Omega.{arith}
 use borrow.Author.Tests.{eqb-true, eqb-false}
 use lib.Dec.{T, eqb}
@@ -11,23 +11,21 @@ use Rattle.spec_grammar.specs.Tree.{Stmt, null, only, and_then}
 use Rattle.spec_grammar.specs.Grammar.{NonTerminal, statement, body, more, Says, Sym, nt, Fun, productions, ◌↠◌}
 use Rattle.spec_grammar.specs.Meter.{InHeading}
 use Rattle.spec_grammar.specs.Derivation.{here}
-use Rattle.spec_grammar.specs.Reader.{choose, compose, pick, take}
+use Rattle.spec_grammar.specs.Reader.{compose, pick, take}
 use Rattle.spec_grammar.proofs.Steps.{Ok}
 use Rattle.spec_grammar.proofs.Tables.{pick_rule}
 use Rattle.front_layout.specs.Tokens.{token_at, kind_in, Holds}
-use Rattle.front_cursor.proofs.Measures.{turn_falls}
 use Rattle.front_cursor.proofs.Steps.{kind_is, kind_inside, from_stays, rule_at, left_at, into_at, refused_at_lem}
 use Rattle.front_expressions.proofs.Primaries.{ok_of}
-use Rattle.front_statements.specs.declared.Listing.{Listing}
 use Rattle.front_layout.specs.Entries.{Entry, stmt_entries, body_entries}
 use Rattle.front_layout.specs.Rows.{Output, WroteLines}
-use Rattle.front_statements.specs.Listings.{refuse_listing, from_listing, is_start, more_statements, FineHeading, AsksListing, MovesListing}
+use Rattle.front_statements.specs.Listings.{ListingRead, refuse_listing, from_listing, is_start, FineHeading, AsksListing, MovesListing}
 use Rattle.front_statements.specs.Readers.{ReadsLinesOver, StatementOver}
 use Rattle.front_layout.proofs.Lines.{lines_none, lines_then}
 use Rattle.front_statements.proofs.Steps.{moves_listing}
 use Rattle.front_statements.proofs.Picks.{more_rule, no_statement, into_statement, starts_elem, pick_more}
 
-pub stay_listing : (n : ℕ) (p : Listing) → AsksListing n p → MovesListing n p p
+pub stay_listing : (n : ℕ) (p : ListingRead) → AsksListing n p → MovesListing n p p
 stay_listing n p a = record {
   on = omega arith;
   inside = omega arith;
@@ -39,7 +37,7 @@ stay_listing n p a = record {
 }
 
 -- what has refused stays so
-pub statement_stays : {kinds long : List ℕ} {n : ℕ} {p : Listing} {depth : ℕ} (b : Output) → AsksListing n p → (p.cursor.fault ≡ 0 → ⊥)
+pub statement_stays : {kinds long : List ℕ} {n : ℕ} {p : ListingRead} {depth : ℕ} (b : Output) → AsksListing n p → (p.cursor.fault ≡ 0 → ⊥)
     → StatementOver kinds long n p depth b p b
 statement_stays {n = n} {p} {depth} b a f = record {
   moves = stay_listing n p a;
@@ -53,7 +51,7 @@ statement_stays {n = n} {p} {depth} b a f = record {
 }
 
 -- no statement begins here
-pub statement_refused : {kinds long : List ℕ} {n : ℕ} {p : Listing} {depth : ℕ} (b : Output) (k : ℕ) → AsksListing n p → p.cursor.fault ≡ 0
+pub statement_refused : {kinds long : List ℕ} {n : ℕ} {p : ListingRead} {depth : ℕ} (b : Output) (k : ℕ) → AsksListing n p → p.cursor.fault ≡ 0
     → kind_in kinds n p.cursor.at ≡ k → (k ≡ 1 → ⊥) → (k ≡ 34 → ⊥) → (k ≡ 35 → ⊥) → (k ≡ 37 → ⊥) → (k ≡ 40 → ⊥)
     → StatementOver kinds long n p depth b (refuse_listing 3 p) b
 statement_refused {n = n} {p} {depth} b k a z e f1 f2 f3 f4 f5 = record {
@@ -81,7 +79,7 @@ statement_refused {n = n} {p} {depth} b k a z e f1 f2 f3 f4 f5 = record {
     three w = omega arith
 
 -- The loop: what comes after the first statement has grown by those read.
-pub record Further (ts : List Token) (depth : ℕ) (p r : Listing) (before after : Output) : Type 0 where
+pub record Further (ts : List Token) (depth : ℕ) (p r : ListingRead) (before after : Output) : Type 0 where
   pub grow : Says more → Says more
   pub extra : List Entry
   pub grows : (f : Says more) (es : List Entry) → ((s : Stmt) → body_entries (f s) ≡ stmt_entries s ++ es) → (s : Stmt)
@@ -90,11 +88,11 @@ pub record Further (ts : List Token) (depth : ℕ) (p r : Listing) (before after
       → from_listing ts S depth h p (nt more ∷ γ) φ ≡ from_listing ts S depth h r (nt more ∷ γ) (λ f. φ (grow f))
   pub wrote : r.cursor.fault ≡ 0 → WroteLines ts p.cursor.written p.statements r.cursor.written r.statements before after extra
 
-pub record FurtherOver (kinds long : List ℕ) (n : ℕ) (p : Listing) (depth : ℕ) (before : Output) (r : Listing) (after : Output) : Type 0 where
+pub record FurtherOver (kinds long : List ℕ) (n : ℕ) (p : ListingRead) (depth : ℕ) (before : Output) (r : ListingRead) (after : Output) : Type 0 where
   pub moves : MovesListing n p r
   pub reads : (ts : List Token) → Holds ts kinds long n → Further ts depth p r before after
 
-pub further_none : {kinds long : List ℕ} {n : ℕ} {p : Listing} {depth : ℕ} (b : Output) → AsksListing n p → FurtherOver kinds long n p depth b p b
+pub further_none : {kinds long : List ℕ} {n : ℕ} {p : ListingRead} {depth : ℕ} (b : Output) → AsksListing n p → FurtherOver kinds long n p depth b p b
 further_none {n = n} {p} b a = record {
   moves = stay_listing n p a;
   reads = λ ts holds. record {
@@ -107,19 +105,6 @@ further_none {n = n} {p} b a = record {
   };
 }
 
--- the test of the loop
-pub more_true : (f k : ℕ) → more_statements f k ≡ true → (f ≡ 0) × (is_start k ≡ true)
-unfolding more_statements
-more_true f k e = go (eqb f 0) refl e
-  where
-    go : (a : Bool) → eqb f 0 ≡ a → choose a (is_start k) false ≡ true → (f ≡ 0) × (is_start k ≡ true)
-    go true u z = (eqb-true f 0 u, z)
-    go false u z = absurd (let y : ◌≡◌ {A = ℕ} 0 1 = cc in omega arith)
-
-more_false : (f k : ℕ) → more_statements f k ≡ false → f ≡ 0 → is_start k ≡ false
-unfolding more_statements
-more_false f k e z = rw z at e
-
 start_pos : (k : ℕ) → is_start k ≡ true → 0 < k
 start_pos k h = go (eqb k 0) refl
   where
@@ -128,7 +113,7 @@ start_pos k h = go (eqb k 0) refl
     go false e = let f = eqb-false k 0 e in omega arith
 
 -- one statement more
-pub further_again : {kinds long : List ℕ} {n : ℕ} {p a r : Listing} {depth : ℕ} {before middle after : Output}
+pub further_again : {kinds long : List ℕ} {n : ℕ} {p a r : ListingRead} {depth : ℕ} {before middle after : Output}
     → FurtherOver kinds long n p depth before a middle → is_start (kind_in kinds n a.cursor.at) ≡ true
     → StatementOver kinds long n a depth middle r after → FurtherOver kinds long n p depth before r after
 unfolding compose body_entries
@@ -156,8 +141,8 @@ further_again {kinds} {long} {n} {p} {a} {r} {depth} {before} {middle} {after} u
 }
 
 -- the list ends where no statement begins, or where the reader has refused
-more_ends : {ts : List Token} {kinds long : List ℕ} {n : ℕ} (holds : Holds ts kinds long n) (r : Listing)
-    → more_statements r.cursor.fault (kind_in kinds n r.cursor.at) ≡ false
+more_ends : {ts : List Token} {kinds long : List ℕ} {n : ℕ} (holds : Holds ts kinds long n) (r : ListingRead)
+    → (r.cursor.fault ≡ 0 → is_start (kind_in kinds n r.cursor.at) ≡ false)
     → (S : NonTerminal) (l : ℕ) (h : InHeading) (γ : List Sym) (φ : Says more → Fun γ (Says S)) → Ok (nt more ∷ γ)
     → from_listing ts S l h r (nt more ∷ γ) φ ≡ from_listing ts S l h r γ (φ (λ s. only s))
 unfolding productions
@@ -167,13 +152,13 @@ more_ends {ts} {kinds} {long} {n} holds r e S l h γ φ o = go (eqb r.cursor.fau
     go true z = left_at ts S r.statements l h r.cursor 0 more γ φ o (λ s. only s) here
         (λ t. subst T (starts_elem (token_at ts r.cursor.at).kind
         ∙ (ap is_start (sym (kind_is holds r.cursor.at))
-        ∙ more_false r.cursor.fault (kind_in kinds n r.cursor.at) e (eqb-true r.cursor.fault 0 z))) t)
+        ∙ e (eqb-true r.cursor.fault 0 z))) t)
     go false z = from_stays ts S r.statements l r.statements l h h r.cursor r.cursor 0 0 (nt more ∷ γ) γ φ (φ (λ s. only s))
         (eqb-false r.cursor.fault 0 z) refl refl
 
-pub body_read : {kinds long : List ℕ} {n : ℕ} {p a r : Listing} {depth : ℕ} {before middle after : Output} → StatementOver kinds long n p depth before a middle
+pub body_read : {kinds long : List ℕ} {n : ℕ} {p a r : ListingRead} {depth : ℕ} {before middle after : Output} → StatementOver kinds long n p depth before a middle
     → FurtherOver kinds long n a depth middle r after
-    → more_statements r.cursor.fault (kind_in kinds n r.cursor.at) ≡ false → ReadsLinesOver body body_entries kinds long n p depth before r after
+    → (r.cursor.fault ≡ 0 → is_start (kind_in kinds n r.cursor.at) ≡ false) → ReadsLinesOver body body_entries kinds long n p depth before r after
 unfolding compose productions body_entries
 body_read {kinds} {long} {n} {p} {a} {r} {depth} {before} {middle} {after} u v e = record {
   moves = moves_listing u.moves v.moves;
@@ -197,7 +182,7 @@ body_read {kinds} {long} {n} {p} {a} {r} {depth} {before} {middle} {after} u v e
       };
 }
 
--- a turn brings the loop nearer to its end
-pub body_falls : (n : ℕ) (a r : Listing) → a.cursor.at ≤ n → a.cursor.fault ≡ 0 → MovesListing n a r
-    → (r.cursor.fault ≡ 0 → a.cursor.at < r.cursor.at) → (n - r.cursor.at) + (1 - r.cursor.fault) < (n - a.cursor.at) + (1 - a.cursor.fault)
-body_falls n a r i z m f = turn_falls n a.cursor.at r.cursor.at a.cursor.fault r.cursor.fault m.inside z m.on f
+-- what has refused reads no list
+pub body_ended : {kinds long : List ℕ} {n : ℕ} {p : ListingRead} {depth : ℕ} (b : Output) → AsksListing n p → (p.cursor.fault ≡ 0 → ⊥)
+    → ReadsLinesOver body body_entries kinds long n p depth b p b
+body_ended b a f = body_read (statement_stays b a f) (further_none b a) (λ z. absurd (f z))

@@ -14,20 +14,17 @@ use Rattle.spec_grammar.specs.Derivation.{here}
 use Rattle.spec_grammar.specs.Reader.{compose, elem, first, pick, take}
 use Rattle.spec_grammar.proofs.Steps.{Ok}
 use Rattle.spec_grammar.proofs.Tables.{pick_rule}
-use Rattle.front_cursor.specs.declared.Cursor.{Cursor}
 use Rattle.front_layout.specs.Tokens.{token_at, kind_in, flag_in}
-use Rattle.front_cursor.specs.Reading.{expect_one}
+use Rattle.front_cursor.specs.Reading.{Read, expect_one}
 use Rattle.front_cursor.proofs.Steps.{kind_is, kind_inside, from_stays, rule_at, left_at}
 use Rattle.front_layout.specs.Postfix.{postfix}
 use Rattle.front_layout.specs.Items.{Arrays, Wrote}
 use Rattle.front_expressions.specs.Readers.{ReadsOver}
 use Rattle.front_expressions.proofs.Primaries.{ok_of}
-use Rattle.front_statements.specs.declared.Listing.{Listing}
-use Rattle.front_statements.specs.declared.Head.{Head}
 use Rattle.front_layout.specs.Entries.{entry, stmt_entries, body_entries}
 use Rattle.front_layout.specs.Rows as R
-use Rattle.front_layout.specs.Rows.{row, Output, WroteLines}
-use Rattle.front_statements.specs.Listings.{listing, begin_at, finish_at, AsksListing, MovesListing}
+use Rattle.front_layout.specs.Rows.{row, set_row, Output, WroteLines}
+use Rattle.front_statements.specs.Listings.{ListingRead, HeadRead, listing, begin_at, AsksListing, MovesListing}
 use Rattle.front_statements.specs.Readers.{first_of, ReadsLinesOver, StatementOver, ElseOver, OpeningOver}
 use Rattle.front_layout.proofs.Lines.{lines_none, lines_then, lines_row}
 use Rattle.front_statements.proofs.Steps.{Stepped, Took, Begun, asks_listing, moves_listing, stepped_asks, stepped_then, took_steps, took_plain}
@@ -37,7 +34,7 @@ use Rattle.front_statements.proofs.Bodies.{stay_listing}
 use Rattle.front_statements.proofs.Picks.{if_rule, while_rule, else_rule, pick_if, pick_while, pick_else}
 
 -- no else part
-pub else_none : {kinds long : List ℕ} {n : ℕ} {p : Listing} {depth : ℕ} (b : Output) → AsksListing n p → (kind_in kinds n p.cursor.at ≡ 39 → ⊥)
+pub else_none : {kinds long : List ℕ} {n : ℕ} {p : ListingRead} {depth : ℕ} (b : Output) → AsksListing n p → (kind_in kinds n p.cursor.at ≡ 39 → ⊥)
     → ElseOver kinds long n p depth b p b
 unfolding productions first elem stmt_entries
 else_none {n = n} {p} {depth} b a f = record {
@@ -53,7 +50,7 @@ else_none {n = n} {p} {depth} b a f = record {
 }
 
 -- else S
-pub else_read : {kinds long : List ℕ} {n : ℕ} {p r : Listing} {a : Cursor} {depth : ℕ} {before after : Output} → AsksListing n p
+pub else_read : {kinds long : List ℕ} {n : ℕ} {p r : ListingRead} {a : Read} {depth : ℕ} {before after : Output} → AsksListing n p
     → kind_in kinds n p.cursor.at ≡ 39 → a ≡ expect_one kinds long n 39 p.cursor
     → ReadsLinesOver body body_entries kinds long n (listing a p.statements) depth before r after → ElseOver kinds long n p depth before r after
 unfolding compose stmt_entries
@@ -75,16 +72,16 @@ else_read {kinds} {long} {n} {p} {r} {a} {depth} {before} {after} asks e ea b =
                 ∙ (took_plain holds asks 39 (omega arith) ea S h fh depth (nt body ∷ γ) (λ _ w. κ (λ i v s. if_else i v s w))
                 ∙ x.goes S h fh γ (λ w. κ (λ i v s. if_else i v s w)) (ok_of γ (pick_rule else_rule (token_at ts p.cursor.at).kind pk) o));
             wrote = λ z. subst (λ (m : ℕ). WroteLines ts m p.statements r.cursor.written r.statements before after (body_entries x.value))
-                t.steps.same (x.wrote z);
+                (t.steps.same (b.moves.began z)) (x.wrote z);
           };
     }
 
 -- the first token of a nested statement passes a limit
-pub opening_refused : {kinds long : List ℕ} {n : ℕ} {p a : Listing} {depth : ℕ} (word : ℕ) (b : Arrays) → kind_in kinds n p.cursor.at ≡ first_of word
+pub opening_refused : {kinds long : List ℕ} {n : ℕ} {p a : ListingRead} {depth : ℕ} (word to : ℕ) (b : Arrays) → kind_in kinds n p.cursor.at ≡ first_of word
     → AsksListing n p → p.cursor.at < n
     → a ≡ begin_at (flag_in long p.cursor.at) depth 0 p → (a.cursor.fault ≡ 0 → ⊥)
-    → OpeningOver kinds long n p depth word b (record { listing = a; to = a.cursor.written }) b
-opening_refused {kinds} {long} {n} {p} {a} {depth} word b first asks inside ea f = record {
+    → OpeningOver kinds long n p depth word b (record { listing = a; to = to }) b
+opening_refused {kinds} {long} {n} {p} {a} {depth} word to b first asks inside ea f = record {
   first = first;
   asks = asks;
   moves = (begin_steps (flag_in long p.cursor.at) depth 0 asks inside (omega arith) ea).steps.moves;
@@ -100,7 +97,7 @@ opening_refused {kinds} {long} {n} {p} {a} {depth} word b first asks inside ea f
 }
 
 -- its opening is read
-pub opening_read : {kinds long : List ℕ} {n : ℕ} {p a : Listing} {depth word : ℕ} {e t : Cursor} {m0 m1 : Arrays} → 0 < word
+pub opening_read : {kinds long : List ℕ} {n : ℕ} {p a : ListingRead} {depth word : ℕ} {e t : Read} {m0 m1 : Arrays} → 0 < word
     → kind_in kinds n p.cursor.at ≡ first_of word → AsksListing n p
     → p.cursor.at < n → a ≡ begin_at (flag_in long p.cursor.at) depth 0 p → ReadsOver expression postfix kinds long n a.cursor 0 m0 e m1
     → t ≡ expect_one kinds long n word e
@@ -112,7 +109,7 @@ opening_read {kinds} {long} {n} {p} {a} {depth} {word} {e} {t} {m0} {m1} pos fir
   opened = λ z. let st = beg.one (rest.began z) in record {
     further = let m = rest in omega arith;
     one = st.1;
-    written = tb.steps.same;
+    written = tb.steps.same z;
     shallow = begin_depth p (flag_in long p.cursor.at) depth 0 ea (rest.began z);
   };
   reads = λ ts holds. record {
@@ -121,7 +118,7 @@ opening_read {kinds} {long} {n} {p} {a} {depth} {word} {e} {t} {m0} {m1} pos fir
     goes = λ k ek S h fh γ κ o. begun_fresh holds asks k depth inside ek S h fh ea (nt expression ∷ tk deeper word ∷ γ) κ
         ∙ (expression_at holds a_asks reads S depth h fh (tk deeper word ∷ γ) (κ (token_at ts p.cursor.at)) o
         ∙ took_deeper holds u_asks word pos et S h fh depth γ (κ (token_at ts p.cursor.at) (reads.reads ts holds).value));
-    wrote = λ z. subst (λ (m : ℕ). Wrote ts m e.written m0 m1 (postfix (reads.reads ts holds).value)) beg.steps.same
+    wrote = λ z. subst (λ (m : ℕ). Wrote ts m e.written m0 m1 (postfix (reads.reads ts holds).value)) (beg.steps.same (rest.began z))
         ((reads.reads ts holds).wrote (tb.steps.moves.began z));
   };
 }
@@ -145,7 +142,7 @@ opening_read {kinds} {long} {n} {p} {a} {depth} {word} {e} {t} {m0} {m1} pos fir
     rest = moves_listing mu tb.steps.moves
 
 -- the opening of an if statement is refused
-pub if_refused : {kinds long : List ℕ} {n : ℕ} {p : Listing} {o : Head} {depth : ℕ} {m0 m1 : Arrays} (l : List ℕ)
+pub if_refused : {kinds long : List ℕ} {n : ℕ} {p : ListingRead} {o : HeadRead} {depth : ℕ} {m0 m1 : Arrays} (l : List ℕ)
     → kind_in kinds n p.cursor.at ≡ 37 → OpeningOver kinds long n p depth 38 m0 o m1 → (o.listing.cursor.fault ≡ 0 → ⊥)
     → StatementOver kinds long n p depth (R.output m0 l) o.listing (R.output m1 l)
 unfolding compose
@@ -171,7 +168,7 @@ if_refused {kinds} {long} {n} {p} {o} {depth} l kp op f = record {
 }
 
 -- the opening of a while statement is refused
-pub while_refused : {kinds long : List ℕ} {n : ℕ} {p : Listing} {o : Head} {depth : ℕ} {m0 m1 : Arrays} (l : List ℕ)
+pub while_refused : {kinds long : List ℕ} {n : ℕ} {p : ListingRead} {o : HeadRead} {depth : ℕ} {m0 m1 : Arrays} (l : List ℕ)
     → kind_in kinds n p.cursor.at ≡ 40 → OpeningOver kinds long n p depth 41 m0 o m1 → (o.listing.cursor.fault ≡ 0 → ⊥)
     → StatementOver kinds long n p depth (R.output m0 l) o.listing (R.output m1 l)
 unfolding compose
@@ -196,15 +193,15 @@ while_refused {kinds} {long} {n} {p} {o} {depth} l kp op f = record {
 }
 
 -- if e then S else S end if ;
-pub if_read : {kinds long : List ℕ} {n : ℕ} {p : Listing} {depth : ℕ} {o : Head}
-    {c d : Listing} {f g i : Cursor} {l l1 l2 l' : List ℕ} {m0 m1 m2 m3 : Arrays} → kind_in kinds n p.cursor.at ≡ 37
+pub if_read : {kinds long : List ℕ} {n : ℕ} {p : ListingRead} {depth : ℕ} {o : HeadRead}
+    {c d : ListingRead} {f g i : Read} {l l1 l2 l' : List ℕ} {m0 m1 m2 m3 : Arrays} → kind_in kinds n p.cursor.at ≡ 37
     → OpeningOver kinds long n p depth 38 m0 o m1
     → ReadsLinesOver body body_entries kinds long n o.listing (depth + 1) (R.output m1 l) c (R.output m2 l1)
     → ElseOver kinds long n c (depth + 1) (R.output m2 l1) d (R.output m3 l2)
     → f ≡ expect_one kinds long n 26 d.cursor → g ≡ expect_one kinds long n 37 f → i ≡ expect_one kinds long n 7 g
-    → l' ≡ finish_at i.fault p.statements (row 3 p.cursor.at p.cursor.written o.to c.statements d.statements) l2
+    → (i.fault ≡ 0 → l' ≡ set_row p.statements (row 3 p.cursor.at p.cursor.written o.to c.statements d.statements) l2)
     → StatementOver kinds long n p depth (R.output m0 l) (listing i d.statements) (R.output m3 l')
-unfolding compose stmt_entries finish_at
+unfolding compose stmt_entries
 if_read {kinds} {long} {n} {p} {depth} {o} {c} {d} {f} {g} {i} {l} {l1} {l2} {l'} {m0} {m1} {m2} {m3} kp op inner other ef eg ei el =
     record {
       moves = moves_listing op.moves rest;
@@ -248,11 +245,11 @@ if_read {kinds} {long} {n} {p} {depth} {o} {c} {d} {f} {g} {i} {l} {l1} {l2} {l'
                 subst (λ (m : ℕ). WroteLines ts o.to m d.cursor.written d.statements (R.output m1 l) (R.output m3 l2) (body_entries s ++ w.extra)) bs
                 (subst (λ (m : ℕ). WroteLines ts m o.listing.statements d.cursor.written d.statements (R.output m1 l) (R.output m3 l2)
                 (body_entries s ++ w.extra)) bn ins) in
-                let sn : i.written ≡ d.cursor.written = end.same in
+                let sn : i.written ≡ d.cursor.written = end.same z in
                 let all : WroteLines ts p.cursor.written p.statements d.cursor.written d.statements (R.output m0 l) (R.output m3 l')
                 (entry 3 x (postfix v) (length (body_entries s)) (length (body_entries s) + length w.extra) ∷ (body_entries s ++ w.extra)) =
                 lines_row {a = R.output m0 l} {b = R.output m1 l} {c = R.output m3 l2} 3 p.cursor.at (length (body_entries s))
-                (length (body_entries s) + length w.extra) l' own refl placed (el ∙ rw (z, ds, cs)) in
+                (length (body_entries s) + length w.extra) l' own refl placed (el z ∙ rw (ds, cs)) in
                 rw (sn, w.shape x v s) all;
           };
     }
@@ -288,14 +285,14 @@ if_read {kinds} {long} {n} {p} {depth} {o} {c} {d} {f} {g} {i} {l} {l1} {l2} {l'
     rest = moves_listing inner.moves (moves_listing other.moves end.moves)
 
 -- while e loop S end loop ;
-pub while_read : {kinds long : List ℕ} {n : ℕ} {p : Listing} {depth : ℕ} {o : Head}
-    {c : Listing} {f g i : Cursor} {l l1 l' : List ℕ} {m0 m1 m2 : Arrays} → kind_in kinds n p.cursor.at ≡ 40
+pub while_read : {kinds long : List ℕ} {n : ℕ} {p : ListingRead} {depth : ℕ} {o : HeadRead}
+    {c : ListingRead} {f g i : Read} {l l1 l' : List ℕ} {m0 m1 m2 : Arrays} → kind_in kinds n p.cursor.at ≡ 40
     → OpeningOver kinds long n p depth 41 m0 o m1
     → ReadsLinesOver body body_entries kinds long n o.listing (depth + 1) (R.output m1 l) c (R.output m2 l1)
     → f ≡ expect_one kinds long n 26 c.cursor → g ≡ expect_one kinds long n 41 f → i ≡ expect_one kinds long n 7 g
-    → l' ≡ finish_at i.fault p.statements (row 5 p.cursor.at p.cursor.written o.to c.statements c.statements) l1
+    → (i.fault ≡ 0 → l' ≡ set_row p.statements (row 5 p.cursor.at p.cursor.written o.to c.statements c.statements) l1)
     → StatementOver kinds long n p depth (R.output m0 l) (listing i c.statements) (R.output m2 l')
-unfolding compose stmt_entries finish_at
+unfolding compose stmt_entries
 while_read {kinds} {long} {n} {p} {depth} {o} {c} {f} {g} {i} {l} {l1} {l'} {m0} {m1} {m2} kp op inner ef eg ei el = record {
   moves = moves_listing op.moves rest;
   further = λ z. let y = (op.opened (rest.began z)).further in let m = rest in omega arith;
@@ -333,11 +330,11 @@ while_read {kinds} {long} {n} {p} {depth} {o} {c} {f} {g} {i} {l} {l1} {l'} {m0}
             subst (λ (m : ℕ). WroteLines ts o.to m c.cursor.written c.statements (R.output m1 l) (R.output m2 l1) (body_entries s)) bs
             (subst (λ (m : ℕ). WroteLines ts m o.listing.statements c.cursor.written c.statements (R.output m1 l) (R.output m2 l1)
             (body_entries s)) bn ins) in
-            let sn : i.written ≡ c.cursor.written = end.same in
+            let sn : i.written ≡ c.cursor.written = end.same z in
             let all : WroteLines ts p.cursor.written p.statements c.cursor.written c.statements (R.output m0 l) (R.output m2 l')
             (entry 5 x (postfix v) (length (body_entries s)) (length (body_entries s)) ∷ (body_entries s)) =
             lines_row {a = R.output m0 l} {b = R.output m1 l} {c = R.output m2 l1} 5 p.cursor.at (length (body_entries s))
-            (length (body_entries s)) l' own refl placed (el ∙ rw (z, cs)) in
+            (length (body_entries s)) l' own refl placed (el z ∙ rw cs) in
             rw sn all;
       };
 }
@@ -368,3 +365,19 @@ while_read {kinds} {long} {n} {p} {depth} {o} {c} {f} {g} {i} {l} {l1} {l'} {m0}
 
     rest : MovesListing n o.listing (listing i c.statements)
     rest = moves_listing inner.moves end.moves
+
+-- what has refused reads no else part
+pub else_ended : {kinds long : List ℕ} {n : ℕ} {p : ListingRead} {depth : ℕ} (b : Output) → AsksListing n p → (p.cursor.fault ≡ 0 → ⊥)
+    → ElseOver kinds long n p depth b p b
+unfolding stmt_entries
+else_ended {n = n} {p} {depth} b a f = record {
+  moves = stay_listing n p a;
+  reads = λ ts holds. record {
+    value = λ i e s. if_then i e s;
+    extra = [];
+    shape = λ i e s. rw (add-zero, append-nil);
+    goes = λ S h fh γ κ o. from_stays ts S p.statements depth p.statements depth h h p.cursor p.cursor 0 0 (nt else_part ∷ γ) γ κ
+        (κ (λ i e s. if_then i e s)) f refl refl;
+    wrote = λ z. absurd (f z);
+  };
+}

@@ -10,36 +10,33 @@ use Rattle.base_codes.specs.Token.{NAME, ONE, SEMI, EQ, UNTIL}
 use Rattle.spec_grammar.specs.Tree.{Stmt, null, wait}
 use Rattle.spec_grammar.specs.Grammar.{statement, tok, productions}
 use Rattle.spec_grammar.specs.Reader.{compose, pick}
-use Rattle.front_cursor.specs.declared.Cursor.{Cursor}
 use Rattle.front_layout.specs.Tokens.{token_at, no_token, kind_in, flag_in}
-use Rattle.front_cursor.specs.Reading.{expect_one}
+use Rattle.front_cursor.specs.Reading.{Read, expect_one}
 use Rattle.front_cursor.proofs.Steps.{kind_is, kind_inside, rule_at}
 use Rattle.front_layout.specs.Postfix.{Item}
 use Rattle.front_layout.specs.Items.{Arrays, Wrote}
 use Rattle.front_layout.proofs.ItemLists.{wrote_none}
-use Rattle.front_statements.specs.declared.Listing.{Listing}
 use Rattle.front_layout.specs.Entries.{entry, stmt_entries}
 use Rattle.front_layout.specs.Rows as R
-use Rattle.front_layout.specs.Rows.{row, WroteLines}
-use Rattle.front_statements.specs.Listings.{listing, begin_at, finish_at, AsksListing}
+use Rattle.front_layout.specs.Rows.{row, set_row, WroteLines}
+use Rattle.front_statements.specs.Listings.{ListingRead, listing, begin_at, AsksListing}
 use Rattle.front_statements.specs.Readers.{StatementOver}
 use Rattle.front_layout.proofs.Lines.{lines_none, lines_row}
 use Rattle.front_statements.proofs.Steps.{Stepped, Took, Begun, stepped_asks, stepped_then, took_steps, took_plain, begin_steps, begun_stmt}
 use Rattle.front_statements.proofs.Picks.{null_rule, wait_rule, pick_null, pick_wait}
 
 -- a statement that holds no others is written
-pub wrote_simple : {ts : List Token} {m s m1 fault : ℕ} {a b : Arrays} {own : List Item} (k i : ℕ) (l l' : List ℕ) → Wrote ts m m1 a b own → fault ≡ 0
-    → l' ≡ finish_at fault s (row k i m m1 (s + 1) (s + 1)) l
+pub wrote_simple : {ts : List Token} {m s m1 : ℕ} {a b : Arrays} {own : List Item} (k i : ℕ) (l l' : List ℕ) → Wrote ts m m1 a b own
+    → l' ≡ set_row s (row k i m m1 (s + 1) (s + 1)) l
     → WroteLines ts m s m1 (s + 1) (R.output a l) (R.output b l') (entry k (token_at ts i) own 0 0 ∷ [])
-unfolding finish_at
-wrote_simple {ts} {m} {s} {m1} {fault} {a} {b} {own} k i l l' w z e =
-    lines_row {a = R.output a l} {b = R.output b l} {c = R.output b l} k i 0 0 l' w refl (lines_none ts m1 (s + 1) (R.output b l)) (e ∙ rw (z, add-zero))
+wrote_simple {ts} {m} {s} {m1} {a} {b} {own} k i l l' w e =
+    lines_row {a = R.output a l} {b = R.output b l} {c = R.output b l} k i 0 0 l' w refl (lines_none ts m1 (s + 1) (R.output b l)) (e ∙ rw add-zero)
 
-module _ {kinds long : List ℕ} {n : ℕ} {p : Listing} {depth : ℕ} (asks : AsksListing n p) where
+module _ {kinds long : List ℕ} {n : ℕ} {p : ListingRead} {depth : ℕ} (asks : AsksListing n p) where
   -- null ;
-  pub null_read : {a : Listing} {b : Cursor} {l l' : List ℕ} → kind_in kinds n p.cursor.at ≡ 34
+  pub null_read : {a : ListingRead} {b : Read} {l l' : List ℕ} → kind_in kinds n p.cursor.at ≡ 34
       → a ≡ begin_at (flag_in long p.cursor.at) depth p.cursor.items p → b ≡ expect_one kinds long n 7 a.cursor
-      → l' ≡ finish_at b.fault p.statements (row 4 16384 p.cursor.written p.cursor.written (p.statements + 1) (p.statements + 1)) l
+      → (b.fault ≡ 0 → l' ≡ set_row p.statements (row 4 16384 p.cursor.written p.cursor.written (p.statements + 1) (p.statements + 1)) l)
       → (x : Arrays) → StatementOver kinds long n p depth (R.output x l) (listing b a.statements) (R.output x l')
   unfolding compose stmt_entries
   null_read {a} {b} {l} {l'} e ea eb el x = record {
@@ -56,11 +53,11 @@ module _ {kinds long : List ℕ} {n : ℕ} {p : Listing} {depth : ℕ} (asks : A
       wrote = λ z.
           let g = beg.one (end.steps.moves.began z) in
           let none : token_at ts 16384 ≡ no_token = get_or-eq_default ts no_token {n = 16384} (let c = holds.count in let d = asks.short in omega arith) in
-          let sn : b.written ≡ p.cursor.written = end.steps.same ∙ beg.steps.same in
+          let sn : b.written ≡ p.cursor.written = end.steps.same z ∙ beg.steps.same (end.steps.moves.began z) in
           let ss : a.statements ≡ p.statements + 1 = g.1 in
           rw (sn, ss) (subst (λ (t : Token). WroteLines ts p.cursor.written p.statements p.cursor.written (p.statements + 1) (R.output x l)
           (R.output x l') (entry 4 t [] 0 0 ∷ [])) none
-          (wrote_simple 4 16384 l l' (wrote_none ts p.cursor.written p.cursor.written x refl) z el));
+          (wrote_simple 4 16384 l l' (wrote_none ts p.cursor.written p.cursor.written x refl) (el z)));
     };
   }
     where
@@ -77,10 +74,10 @@ module _ {kinds long : List ℕ} {n : ℕ} {p : Listing} {depth : ℕ} (asks : A
       end = took_steps kinds long 7 (omega arith) a_asks eb
 
   -- wait until clk = '1' ;
-  pub wait_read : {a : Listing} {b c d e f : Cursor} {l l' : List ℕ} → kind_in kinds n p.cursor.at ≡ 35
+  pub wait_read : {a : ListingRead} {b c d e f : Read} {l l' : List ℕ} → kind_in kinds n p.cursor.at ≡ 35
       → a ≡ begin_at (flag_in long p.cursor.at) depth p.cursor.items p → b ≡ expect_one kinds long n 36 a.cursor → c ≡ expect_one kinds long n 1 b
       → d ≡ expect_one kinds long n 13 c → e ≡ expect_one kinds long n 4 d → f ≡ expect_one kinds long n 7 e
-      → l' ≡ finish_at f.fault p.statements (row 0 b.at p.cursor.written p.cursor.written (p.statements + 1) (p.statements + 1)) l
+      → (f.fault ≡ 0 → l' ≡ set_row p.statements (row 0 b.at p.cursor.written p.cursor.written (p.statements + 1) (p.statements + 1)) l)
       → (x : Arrays) → StatementOver kinds long n p depth (R.output x l) (listing f a.statements) (R.output x l')
   unfolding compose stmt_entries
   wait_read {a} {b} {c} {d} {e} {f} {l} {l'} k ea eb ec ed ee ef el x = record {
@@ -101,9 +98,9 @@ module _ {kinds long : List ℕ} {n : ℕ} {p : Listing} {depth : ℕ} (asks : A
           ∙ took_plain holds e_asks 7 (omega arith) ef S h fh depth γ (λ _. κ v))))));
       wrote = λ z.
           let g = beg.one (rest.moves.began z) in
-          let sn : f.written ≡ p.cursor.written = rest.same ∙ beg.steps.same in
+          let sn : f.written ≡ p.cursor.written = rest.same z ∙ beg.steps.same (rest.moves.began z) in
           let ss : a.statements ≡ p.statements + 1 = g.1 in
-          rw (sn, ss) (wrote_simple 0 b.at l l' (wrote_none ts p.cursor.written p.cursor.written x refl) z el);
+          rw (sn, ss) (wrote_simple 0 b.at l l' (wrote_none ts p.cursor.written p.cursor.written x refl) (el z));
     };
   }
     where

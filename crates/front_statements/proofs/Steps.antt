@@ -14,32 +14,34 @@ use Rattle.spec_grammar.specs.Grammar.{NonTerminal, expression, Says, Mark, plai
 use Rattle.spec_grammar.specs.Meter.{InHeading, tick, over, zeroes}
 use Rattle.spec_grammar.specs.Reader.{choose}
 use Rattle.spec_grammar.proofs.Steps.{Ok}
-use Rattle.front_cursor.specs.declared.Cursor.{Cursor}
 use Rattle.front_layout.specs.Tokens.{token_at, alone, kind_in, flag_in, Holds}
-use Rattle.front_cursor.specs.Reading.{meter, from, Fine, Asks, Moves, expect_at, expect_one}
+use Rattle.front_cursor.specs.declared.Unread.{Unread}
+use Rattle.front_cursor.specs.Reading.{Read, unread, meter, from, Fine, Asks, Moves, expect_at, expect_one}
 use Rattle.front_cursor.proofs.Measures.{three, or_assoc, or_true}
-use Rattle.front_cursor.proofs.Steps.{settle, kind_is, kind_inside, from_stays, expect_at_lem, expect_moves, expect_written, token_over, token_taken, over_plain}
+use Rattle.front_cursor.proofs.Steps.{settle, kind_is, kind_inside, from_stays, expect_at_lem, expect_moves, expect_written, unread_ends, token_over, token_taken, over_plain}
 use Rattle.front_layout.specs.Postfix.{postfix}
 use Rattle.front_layout.specs.Items.{Arrays}
+use Rattle.front_layout.specs.Entries.{Entry}
+use Rattle.front_layout.specs.Rows.{Output}
 use Rattle.front_expressions.specs.Readers.{ReadsOver}
-use Rattle.front_statements.specs.declared.Listing.{Listing}
-use Rattle.front_statements.specs.Listings.{listing, refuse_listing, begun, from_listing, begin_at, FineHeading, AsksListing, MovesListing}
+use Rattle.front_statements.specs.Readers.{StatementOver, ReadsLinesOver, OpeningOver}
+use Rattle.front_statements.specs.Listings.{ListingRead, listing, refuse_listing, begun, from_listing, begin_at, FineHeading, AsksListing, MovesListing}
 
 pub fine : {h : InHeading} {s : ℕ} → FineHeading h → s ≤ 512 → Fine s h
 fine f z = record { statements = z; inputs = f.inputs; outputs = f.outputs; vars = f.vars }
 
-pub cursor_asks : {n : ℕ} {p : Listing} → AsksListing n p → Asks n p.cursor
+pub cursor_asks : {n : ℕ} {p : ListingRead} → AsksListing n p → Asks n p.cursor
 cursor_asks a = record { short = a.short; inside = a.inside; room = a.room; few = a.few }
 
 -- a step that writes nothing
-pub record Stepped (n : ℕ) (p r : Listing) : Type 0 where
+pub record Stepped (n : ℕ) (p r : ListingRead) : Type 0 where
   pub moves : MovesListing n p r
-  pub same : r.cursor.written ≡ p.cursor.written
+  pub same : r.cursor.fault ≡ 0 → r.cursor.written ≡ p.cursor.written
 
-pub asks_listing : {n : ℕ} {p r : Listing} → AsksListing n p → MovesListing n p r → AsksListing n r
+pub asks_listing : {n : ℕ} {p r : ListingRead} → AsksListing n p → MovesListing n p r → AsksListing n r
 asks_listing u v = record { short = omega arith; inside = omega arith; room = omega arith; few = omega arith; statements = omega arith }
 
-pub moves_listing : {n : ℕ} {p a r : Listing} → MovesListing n p a → MovesListing n a r → MovesListing n p r
+pub moves_listing : {n : ℕ} {p a r : ListingRead} → MovesListing n p a → MovesListing n a r → MovesListing n p r
 moves_listing u v = record {
   on = omega arith;
   inside = omega arith;
@@ -50,18 +52,18 @@ moves_listing u v = record {
   began = λ z. u.began (v.began z);
 }
 
-pub stepped_then : {n : ℕ} {p a r : Listing} → Stepped n p a → Stepped n a r → Stepped n p r
-stepped_then u v = record { moves = moves_listing u.moves v.moves; same = v.same ∙ u.same }
+pub stepped_then : {n : ℕ} {p a r : ListingRead} → Stepped n p a → Stepped n a r → Stepped n p r
+stepped_then u v = record { moves = moves_listing u.moves v.moves; same = λ z. v.same z ∙ u.same (v.moves.began z) }
 
-pub stepped_asks : {n : ℕ} {p r : Listing} → AsksListing n p → Stepped n p r → AsksListing n r
+pub stepped_asks : {n : ℕ} {p r : ListingRead} → AsksListing n p → Stepped n p r → AsksListing n r
 stepped_asks u v = asks_listing u v.moves
 
 -- the same, where the number of statements stays too
-pub record Took (n : ℕ) (p r : Listing) : Type 0 where
+pub record Took (n : ℕ) (p r : ListingRead) : Type 0 where
   pub steps : Stepped n p r
   pub statements : r.statements ≡ p.statements
 
-pub took_steps : (kinds long : List ℕ) {n : ℕ} (k : ℕ) {p : Listing} {c : Cursor} → 0 < k → AsksListing n p → c ≡ expect_one kinds long n k p.cursor
+pub took_steps : (kinds long : List ℕ) {n : ℕ} (k : ℕ) {p : ListingRead} {c : Read} → 0 < k → AsksListing n p → c ≡ expect_one kinds long n k p.cursor
     → Took n p (listing c p.statements)
 took_steps kinds long {n} k {p} {c} pos a e = rw e (record {
   steps = record {
@@ -107,7 +109,7 @@ module _ (s l : ℕ) (h : InHeading) (f : Fine s h) (x : Token) (i : ℕ) (few :
     le-ltb 64 i few,
   )
 
-module _ {ts : List Token} {kinds long : List ℕ} {n : ℕ} (holds : Holds ts kinds long n) {p : Listing} {c : Cursor} (a : AsksListing n p) (k : ℕ) (pos : 0 < k)
+module _ {ts : List Token} {kinds long : List ℕ} {n : ℕ} (holds : Holds ts kinds long n) {p : ListingRead} {c : Read} (a : AsksListing n p) (k : ℕ) (pos : 0 < k)
     (e : c ≡ expect_one kinds long n k p.cursor) (S : NonTerminal) (h : InHeading) (f : FineHeading h) where
   took : (m : Mark) (l l' : ℕ) → over (tick (meter p.cursor.items 0 p.statements l h) m (token_at ts p.cursor.at)) ≡ alone
       (token_at ts p.cursor.at)
@@ -118,7 +120,7 @@ module _ {ts : List Token} {kinds long : List ℕ} {n : ℕ} (holds : Holds ts k
       expect_at_lem ts S p.statements l h p.cursor 0 m 0 l' o w k pos (eqb (kind_in kinds n p.cursor.at) k) (flag_in long p.cursor.at)
       (ap (λ (j : ℕ). eqb j k) (sym (kind_is holds p.cursor.at)))
       (λ u. sym (holds.flag p.cursor.at (let z = holds.count in omega arith))) γ κ
-      ∙ ap (λ (v : Cursor). from ts S p.statements l' h v 0 γ (κ (token_at ts p.cursor.at))) (sym e)
+      ∙ ap (λ (v : Read). from ts S p.statements l' h v 0 γ (κ (token_at ts p.cursor.at))) (sym e)
 
   pub took_plain : (l : ℕ) (γ : List Sym) (κ : Token → Fun γ (Says S))
       → from_listing ts S l h p (tk plain k ∷ γ) κ ≡ from_listing ts S l h (listing c p.statements) γ (κ (token_at ts p.cursor.at))
@@ -139,16 +141,16 @@ module _ {ts : List Token} {kinds long : List ℕ} {n : ℕ} (holds : Holds ts k
       (over_shallower p.statements (l + 1) h (fine f a.statements) (token_at ts p.cursor.at) p.cursor.items a.few) (rw add-one) γ κ
 
 -- The first token of a statement.
-pub record Begun (n : ℕ) (p r : Listing) : Type 0 where
+pub record Begun (n : ℕ) (p r : ListingRead) : Type 0 where
   pub steps : Stepped n p r
   pub one : r.cursor.fault ≡ 0 → (r.cursor.at ≡ p.cursor.at + 1) × (r.statements ≡ p.statements + 1)
 
-pub begin_steps : {n : ℕ} {p r : Listing} (b : Bool) (depth items : ℕ) → AsksListing n p → p.cursor.at < n → items ≤ 64 → r ≡ begin_at b depth items p
+pub begin_steps : {n : ℕ} {p r : ListingRead} (b : Bool) (depth items : ℕ) → AsksListing n p → p.cursor.at < n → items ≤ 64 → r ≡ begin_at b depth items p
     → Begun n p r
 unfolding begin_at
 begin_steps {n} {p} {r} b depth items a i few e = go (eqb p.cursor.fault 0) refl b (leb 512 p.statements) refl (ltb 16 depth) e
   where
-    Begins : Listing → Type 0
+    Begins : ListingRead → Type 0
     Begins v = Begun n p v
 
     halt : (k : ℕ) → (k ≡ 0 → ⊥) → p.cursor.fault ≡ 0 → Begun n p (refuse_listing k p)
@@ -156,8 +158,7 @@ begin_steps {n} {p} {r} b depth items a i few e = go (eqb p.cursor.fault 0) refl
       steps = record {
         moves = record
             { on = omega arith; inside = omega arith; room = omega arith; few = omega arith; more = omega arith; statements = omega arith; began = λ w. z };
-        same =
-            refl;
+        same = λ w. absurd (f w);
       };
       one = λ w. absurd (f w);
     }
@@ -172,8 +173,7 @@ begin_steps {n} {p} {r} b depth items a i few e = go (eqb p.cursor.fault 0) refl
           steps = record {
             moves = record
                 { on = omega arith; inside = omega arith; room = omega arith; few = omega arith; more = omega arith; statements = omega arith; began = λ y. y };
-            same =
-                refl;
+            same = λ y. refl;
           };
           one = λ y. absurd (eqb-false p.cursor.fault 0 w y);
         })
@@ -193,16 +193,16 @@ begin_steps {n} {p} {r} b depth items a i few e = go (eqb p.cursor.fault 0) refl
               statements = omega arith;
               began = λ y. y;
             };
-            same = refl;
+            same = λ y. refl;
           };
           one = λ y. (refl, refl);
         })
 
 -- it was taken at a depth that is allowed
-pub begin_depth : (p : Listing) {r : Listing} (b : Bool) (depth items : ℕ) → r ≡ begin_at b depth items p → r.cursor.fault ≡ 0 → depth ≤ 16
+pub begin_depth : (p : ListingRead) {r : ListingRead} (b : Bool) (depth items : ℕ) → r ≡ begin_at b depth items p → r.cursor.fault ≡ 0 → depth ≤ 16
 unfolding begin_at
 begin_depth p {r} b depth items e z = go (eqb p.cursor.fault 0) refl b (leb 512 p.statements) (ltb 16 depth) refl
-    (sym (ap (λ (v : Listing). v.cursor.fault) e) ∙ z)
+    (sym (ap (λ (v : ListingRead). v.cursor.fault) e) ∙ z)
   where
     four : ◌≡◌ {A = ℕ} 4 0 → ⊥
     four y = omega arith
@@ -231,7 +231,7 @@ module _ (s l : ℕ) (h : InHeading) (f : FineHeading h) (x : Token) (i : ℕ) (
       (ap (λ (b : Bool). ltb 32 (tick zeroes plain x).bytes || b) (or_assoc (ltb 512 (suc s)) (ltb 16 l) (ltb 2147483647 (tick zeroes plain x).literal))
       ∙ three (ltb 32 (tick zeroes plain x).bytes) (ltb 512 (suc s) || ltb 16 l) (ltb 2147483647 (tick zeroes plain x).literal))
 
-module _ {ts : List Token} {kinds long : List ℕ} {n : ℕ} (holds : Holds ts kinds long n) {p r : Listing} (a : AsksListing n p) (k l : ℕ)
+module _ {ts : List Token} {kinds long : List ℕ} {n : ℕ} (holds : Holds ts kinds long n) {p r : ListingRead} (a : AsksListing n p) (k l : ℕ)
     (inside : p.cursor.at < n) (ek : kind_in kinds n p.cursor.at ≡ k) (S : NonTerminal) (h : InHeading) (f : FineHeading h) where
   begins : (m : Mark) (items : ℕ) → r ≡ begin_at (flag_in long p.cursor.at) l items p
       → over (tick (meter p.cursor.items 0 p.statements l h) m (token_at ts p.cursor.at)) ≡ alone (token_at ts p.cursor.at) ||
@@ -245,7 +245,7 @@ module _ {ts : List Token} {kinds long : List ℕ} {n : ℕ} (holds : Holds ts k
       x : Token
       x = token_at ts p.cursor.at
 
-      To : Listing → Type 0
+      To : ListingRead → Type 0
       To v = from_listing ts S l h p (tk m k ∷ γ) κ ≡ from_listing ts S l h v γ (κ (token_at ts p.cursor.at))
 
       within : p.cursor.at < length ts
@@ -290,8 +290,74 @@ module _ {ts : List Token} {kinds long : List ℕ} {n : ℕ} (holds : Holds ts k
   begun_fresh e γ κ = begins stmt_fresh 0 e (over_stmt_fresh p.statements l h f (token_at ts p.cursor.at) p.cursor.items a.few) (rw add-one) γ κ
 
 -- An expression.
-pub expression_at : {ts : List Token} {kinds long : List ℕ} {n : ℕ} (holds : Holds ts kinds long n) {p : Listing} {e : Cursor} {before after : Arrays}
+pub expression_at : {ts : List Token} {kinds long : List ℕ} {n : ℕ} (holds : Holds ts kinds long n) {p : ListingRead} {e : Read} {before after : Arrays}
     → AsksListing n p → (reads : ReadsOver expression postfix kinds long n p.cursor 0 before e after)
     → (S : NonTerminal) (l : ℕ) (h : InHeading) → FineHeading h → (γ : List Sym) (κ : Expr → Fun γ (Says S)) → Ok (nt expression ∷ γ)
     → from_listing ts S l h p (nt expression ∷ γ) κ ≡ from_listing ts S l h (listing e p.statements) γ (κ (reads.reads ts holds).value)
 expression_at {ts} holds {p} a reads S l h f γ κ o = (reads.reads ts holds).goes S p.statements l h (fine f a.statements) γ κ o
+
+-- A refusal has no statements of its own, so what it says of one reader's number it says of another's.
+pub halted : {n : ℕ} {p : ListingRead} (s : ℕ) (e : Unread) → AsksListing n p → MovesListing n p (listing (unread e) s)
+    → MovesListing n p (listing (unread e) p.statements)
+halted s e h m = record {
+  on = m.on;
+  inside = m.inside;
+  room = m.room;
+  few = m.few;
+  more = omega arith;
+  statements = h.statements;
+  began = m.began;
+}
+
+pub from_halted : (ts : List Token) (S : NonTerminal) (depth : ℕ) (h : InHeading) (e : Unread) (s t : ℕ) (γ : List Sym) (κ : Fun γ (Says S))
+    → from_listing ts S depth h (listing (unread e) s) γ κ ≡ from_listing ts S depth h (listing (unread e) t) γ κ
+from_halted ts S depth h e s t γ κ =
+    from_stays ts S s depth t depth h h (unread e) (unread e) 0 0 γ γ κ κ (unread_ends e) refl refl
+
+pub statement_halted : {kinds long : List ℕ} {n : ℕ} {p : ListingRead} {depth : ℕ} {before after : Output} (s : ℕ) (e : Unread) → AsksListing n p
+    → StatementOver kinds long n p depth before (listing (unread e) s) after
+    → StatementOver kinds long n p depth before (listing (unread e) p.statements) after
+statement_halted {p = p} {depth} s e a v = record {
+  moves = halted s e a v.moves;
+  further = λ z. absurd (unread_ends e z);
+  reads = λ ts holds.
+      let x = v.reads ts holds in
+      record {
+        value = x.value;
+        goes = λ S h fh γ κ o. x.goes S h fh γ κ o ∙ from_halted ts S depth h e s p.statements γ (κ x.value);
+        wrote = λ z. absurd (unread_ends e z);
+      };
+}
+
+pub lines_halted : {M : NonTerminal} {flat : Says M → List Entry} {kinds long : List ℕ} {n : ℕ} {p : ListingRead} {depth : ℕ} {before after : Output}
+    (s : ℕ) (e : Unread) → AsksListing n p → ReadsLinesOver M flat kinds long n p depth before (listing (unread e) s) after
+    → ReadsLinesOver M flat kinds long n p depth before (listing (unread e) p.statements) after
+lines_halted {p = p} {depth} s e a v = record {
+  moves = halted s e a v.moves;
+  reads = λ ts holds.
+      let x = v.reads ts holds in
+      record {
+        value = x.value;
+        goes = λ S h fh γ κ o. x.goes S h fh γ κ o ∙ from_halted ts S depth h e s p.statements γ (κ x.value);
+        wrote = λ z. absurd (unread_ends e z);
+      };
+}
+
+pub opening_halted : {kinds long : List ℕ} {n : ℕ} {p : ListingRead} {depth word : ℕ} {before after : Arrays} (s to : ℕ) (e : Unread)
+    → OpeningOver kinds long n p depth word before (record { listing = listing (unread e) s; to = to }) after
+    → OpeningOver kinds long n p depth word before (record { listing = listing (unread e) p.statements; to = 0 }) after
+opening_halted {p = p} {depth} s to e v = record {
+  first = v.first;
+  asks = v.asks;
+  moves = halted s e v.asks v.moves;
+  opened = λ z. absurd (unread_ends e z);
+  reads = λ ts holds.
+      let x = v.reads ts holds in
+      record {
+        value = x.value;
+        last = x.last;
+        goes = λ k ek S h fh γ κ o. x.goes k ek S h fh γ κ o
+            ∙ from_halted ts S (depth + 1) h e s p.statements γ (κ (token_at ts p.cursor.at) x.value x.last);
+        wrote = λ z. absurd (unread_ends e z);
+      };
+}

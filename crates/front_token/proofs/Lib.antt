@@ -1,5 +1,6 @@
 pub mod Entries
 pub mod ByteKinds
+pub mod Lower
 pub mod RunLaws
 pub mod WordLaws
 pub mod MarkLaws

@@ -1,41 +1,34 @@
 -- The fixed tokens by their length: the first of the table that a text begins with is the longest, so three bytes, then two, then one, are compared.
 -- Assumes nothing.
 use mathlib.Core.Path.{◌≡◌, refl, sym, ◌∙◌, ap}
-use mathlib.Core.Bool.{Bool, true, false, ◌&&◌, and-false}
-use mathlib.Core.List.{List, [], ◌∷◌, ◌++◌, map}
-use Prim.Native.Nat.{ℕ, zero, suc, ◌+◌, ◌≤◌, ◌<◌}
+use mathlib.Core.Bool.{Bool, true, false, ◌&&◌}
+use Rattle.std.specs.Prelude.{Option, None, Some}
+use mathlib.Core.List.{List, [], ◌∷◌, ◌++◌}
+use Prim.Native.Nat.{ℕ, suc, ◌+◌, ◌<◌}
 use native.Mathlib.Omega.{arith}
-use lib.Dec.{eqb, ltb}
+use lib.Dec.{eqb}
 use lib.ListN.{length, get_or, take, drop}
 use lib.Seq.{drop-cons, get_or-drop}
-use borrow.Author.Tests.{eqb-true, ltb-true, ne_eqb}
-use Rattle.spec_language.specs.Bytes.{bytes, elem, Fixed, fixed}
-use Rattle.spec_language.specs.Lexing.{all, equal}
+use borrow.Author.Tests.{eqb-true}
+use Rattle.spec_language.specs.Bytes.{bytes, Fixed, fixed}
+use Rattle.spec_language.specs.Lexing.{equal}
 use Rattle.spec_language.specs.Lexer.{begins, Start, fixed_start}
 use Rattle.spec_language.proofs.Facts.{and_true_both}
 use Rattle.front_token.specs.declared.pieces.Piece.{Piece}
 use Rattle.front_token.specs.declared.pieces.Piece.TheVariants.{Token, Nothing}
 use Rattle.front_token.specs.Fixed.{fixed_kind, of_length}
 use Rattle.front_token.specs.Pieces.{placed}
-use Rattle.front_token.proofs.WordLaws.{begins_take, Missed, missed, not_among}
+use Rattle.front_token.proofs.WordLaws.{begins_take}
 
--- a token of the kind k up to e; where k is 0, something else
-abbrev token_or : ℕ → ℕ → Piece → Piece
-token_or zero e p = p
-token_or (suc k) e p = Token (suc k) e
+-- a token of the kind up to e; where there is no kind, something else
+abbrev pub token_or : Option ℕ → ℕ → Piece → Piece
+token_or None e p = p
+token_or (Some k) e p = Token k e
 
-token_some : (k e : ℕ) (p : Piece) → 0 < k → Token k e ≡ token_or k e p
-token_some zero e p h = absurd (omega arith)
-token_some (suc k) e p h = refl
-
-token_none : (k e : ℕ) (p : Piece) → k ≤ 0 → p ≡ token_or k e p
-token_none zero e p h = refl
-token_none (suc k) e p h = absurd (omega arith)
-
--- each is n bytes long and has a kind
+-- each is n bytes long
 grouped : ℕ → List Fixed → Bool
 grouped n [] = true
-grouped n (f ∷ fs) = (eqb (length f.bytes) n && ltb 0 f.kind) && grouped n fs
+grouped n (f ∷ fs) = eqb (length f.bytes) n && grouped n fs
 
 -- those of n bytes that stand first in a table, in one step
 group : (n : ℕ) (fs gs : List Fixed) (t : List ℕ) (at : ℕ) → grouped n fs ≡ true
@@ -43,17 +36,15 @@ group : (n : ℕ) (fs gs : List Fixed) (t : List ℕ) (at : ℕ) → grouped n f
 unfolding grouped fixed_start fixed_kind
 group n [] gs t at g = refl
 group n (f ∷ fs) gs t at g =
-    let u = and_true_both (eqb (length f.bytes) n && ltb 0 f.kind) (grouped n fs) g in
-    let v = and_true_both (eqb (length f.bytes) n) (ltb 0 f.kind) u.0 in
-    let z = eqb-true (length f.bytes) n v.0 in
-    go z (ltb-true 0 f.kind v.1) (equal f.bytes (take n t)) refl (begins_take f.bytes t ∙ ap (λ (m : ℕ). equal f.bytes (take m t)) z)
-    (group n fs gs t at u.1)
+    let u = and_true_both (eqb (length f.bytes) n) (grouped n fs) g in
+    let z = eqb-true (length f.bytes) n u.0 in
+    go z (equal f.bytes (take n t)) refl (begins_take f.bytes t ∙ ap (λ (m : ℕ). equal f.bytes (take m t)) z) (group n fs gs t at u.1)
   where
-    go : length f.bytes ≡ n → 0 < f.kind → (q : Bool) → equal f.bytes (take n t) ≡ q → begins f.bytes t ≡ equal f.bytes (take n t)
+    go : length f.bytes ≡ n → (q : Bool) → equal f.bytes (take n t) ≡ q → begins f.bytes t ≡ equal f.bytes (take n t)
         → placed (fixed_start (fs ++ gs) t) at ≡ token_or (fixed_kind fs (take n t)) (at + n) (placed (fixed_start gs t) at)
         → placed (fixed_start (f ∷ (fs ++ gs)) t) at ≡ token_or (fixed_kind (f ∷ fs) (take n t)) (at + n) (placed (fixed_start gs t) at)
-    go z k true e b h = rw (b, e, z) (token_some f.kind (at + n) (placed (fixed_start gs t) at) k)
-    go z k false e b h = rw (b, e) h
+    go z true e b h = rw (b, e, z)
+    go z false e b h = rw (b, e) h
 
 -- the table is its tokens of three bytes, of two, and of one
 fixed_by_length : fixed ≡ of_length 3 fixed ++ (of_length 2 fixed ++ (of_length 1 fixed ++ []))
@@ -99,68 +90,16 @@ module _ (text : List ℕ) (at c d : ℕ) (h : at < length text) (ec : c ≡ get
       (token_or (fixed_kind (of_length 1 fixed) (get_or text at 0 ∷ [])) (at + 1) Nothing))
   fixed_here = ap (λ (s : Start). placed s at) (at_three text at h) ∙ rw (← ec, ← ed) (longest_first (get_or text at 0 ∷ c ∷ d ∷ []) at)
 
--- what the code answers, its three kinds being those of the definition
-chosen : (p : Piece) (k3 k2 k1 at : ℕ) → p ≡ token_or k3 (at + 3) (token_or k2 (at + 2) (token_or k1 (at + 1) Nothing))
-    → (0 < k3 → Token k3 (at + 3) ≡ p) × (k3 ≤ 0 → 0 < k2 → Token k2 (at + 2) ≡ p)
-    × (k3 ≤ 0 → k2 ≤ 0 → 0 < k1 → Token k1 (at + 1) ≡ p) × (k3 ≤ 0 → k2 ≤ 0 → k1 ≤ 0 → Nothing ≡ p)
-chosen p k3 k2 k1 at e = (
-  λ h. token_some k3 (at + 3) (token_or k2 (at + 2) (token_or k1 (at + 1) Nothing)) h ∙ sym e,
-  λ n h. token_some k2 (at + 2) (token_or k1 (at + 1) Nothing) h ∙ past3 n,
-  λ n m h. token_some k1 (at + 1) Nothing h ∙ (past2 m ∙ past3 n),
-  λ n m l. token_none k1 (at + 1) Nothing l ∙ (past2 m ∙ past3 n),
-)
-  where
-    past3 : k3 ≤ 0 → token_or k2 (at + 2) (token_or k1 (at + 1) Nothing) ≡ p
-    past3 n = token_none k3 (at + 3) (token_or k2 (at + 2) (token_or k1 (at + 1) Nothing)) n ∙ sym e
+  pub fixed_three : (k : ℕ) → Some k ≡ fixed_kind (of_length 3 fixed) (get_or text at 0 ∷ c ∷ d ∷ []) → Token k (at + 3) ≡ placed (fixed_start fixed (drop at text)) at
+  fixed_three k e = sym (fixed_here ∙ rw (← e))
 
-    past2 : k2 ≤ 0 → token_or k1 (at + 1) Nothing ≡ token_or k2 (at + 2) (token_or k1 (at + 1) Nothing)
-    past2 m = token_none k2 (at + 2) (token_or k1 (at + 1) Nothing) m
+  module _ (none3 : None ≡ fixed_kind (of_length 3 fixed) (get_or text at 0 ∷ c ∷ d ∷ [])) where
+    pub fixed_two : (k : ℕ) → Some k ≡ fixed_kind (of_length 2 fixed) (get_or text at 0 ∷ c ∷ []) → Token k (at + 2) ≡ placed (fixed_start fixed (drop at text)) at
+    fixed_two k e = sym (fixed_here ∙ rw (← none3, ← e))
 
-module _ (text : List ℕ) (at c d three : ℕ) (h : at < length text) (ec : c ≡ get_or text (at + 1) 0) (ed : d ≡ get_or text (at + 2) 0)
-    (e3 : three ≡ fixed_kind (of_length 3 fixed) (get_or text at 0 ∷ c ∷ d ∷ [])) where
-  pub fixed_three : 0 < three → Token three (at + 3) ≡ placed (fixed_start fixed (drop at text)) at
-  fixed_three p =
-      (chosen (placed (fixed_start fixed (drop at text)) at) three (fixed_kind (of_length 2 fixed) (get_or text at 0 ∷ c ∷ []))
-      (fixed_kind (of_length 1 fixed) (get_or text at 0 ∷ [])) at (rw e3 (fixed_here text at c d h ec ed))).0 p
+    module _ (none2 : None ≡ fixed_kind (of_length 2 fixed) (get_or text at 0 ∷ c ∷ [])) where
+      pub fixed_one : (k : ℕ) → Some k ≡ fixed_kind (of_length 1 fixed) (get_or text at 0 ∷ []) → Token k (at + 1) ≡ placed (fixed_start fixed (drop at text)) at
+      fixed_one k e = sym (fixed_here ∙ rw (← none3, ← none2, ← e))
 
-  module _ (none3 : three ≤ 0) (two : ℕ) (e2 : two ≡ fixed_kind (of_length 2 fixed) (get_or text at 0 ∷ c ∷ [])) where
-    pub fixed_two : 0 < two → Token two (at + 2) ≡ placed (fixed_start fixed (drop at text)) at
-    fixed_two p =
-        (chosen (placed (fixed_start fixed (drop at text)) at) three two (fixed_kind (of_length 1 fixed) (get_or text at 0 ∷ [])) at
-        (rw (e3, e2) (fixed_here text at c d h ec ed))).1 none3 p
-
-    module _ (none2 : two ≤ 0) (one : ℕ) (e1 : one ≡ fixed_kind (of_length 1 fixed) (get_or text at 0 ∷ [])) where
-      pub fixed_one : 0 < one → Token one (at + 1) ≡ placed (fixed_start fixed (drop at text)) at
-      fixed_one p = (chosen (placed (fixed_start fixed (drop at text)) at) three two one at (rw (e3, e2, e1) (fixed_here text at c d h ec ed))).2 none3 none2 p
-
-      pub fixed_none : one ≤ 0 → Nothing ≡ placed (fixed_start fixed (drop at text)) at
-      fixed_none p = (chosen (placed (fixed_start fixed (drop at text)) at) three two one at (rw (e3, e2, e1) (fixed_here text at c d h ec ed))).3 none3 none2 p
-
--- what is no token of three bytes, and of two
-pub not_three_first : (b c d : ℕ) → (b ≡ 39 → ⊥) → 0 ≡ fixed_kind (of_length 3 fixed) (b ∷ c ∷ d ∷ [])
-unfolding fixed_kind of_length fixed bytes equal
-not_three_first b c d h = rw (ne_eqb 39 b (λ e. h (sym e)))
-
-pub not_three_last : (b c d : ℕ) → (d ≡ 39 → ⊥) → 0 ≡ fixed_kind (of_length 3 fixed) (b ∷ c ∷ d ∷ [])
-unfolding fixed_kind of_length fixed bytes equal
-not_three_last b c d h = simp (ne_eqb 39 d (λ e. h (sym e)), and-false)
-
-pub not_three_middle : (c : ℕ) → (c ≡ 48 → ⊥) → (c ≡ 49 → ⊥) → 0 ≡ fixed_kind (of_length 3 fixed) (39 ∷ c ∷ 39 ∷ [])
-unfolding fixed_kind of_length fixed bytes equal
-not_three_middle c h k = rw (ne_eqb 48 c (λ e. h (sym e)), ne_eqb 49 c (λ e. k (sym e)))
-
-pub not_two_last : (b c : ℕ) → (c ≡ 61 → ⊥) → 0 ≡ fixed_kind (of_length 2 fixed) (b ∷ c ∷ [])
-unfolding fixed_kind of_length fixed bytes equal
-not_two_last b c h = simp (ne_eqb 61 c (λ e. h (sym e)), and-false)
-
-abbrev pub first : List ℕ → ℕ
-first w = get_or w 0 0
-
--- what begins with none of the bytes is no fixed token
-pub no_mark : (ks : List ℕ) (fs : List Fixed) (b : ℕ) (t : List ℕ) → all (λ (c : ℕ). elem c ks) (map (λ (f : Fixed). first f.bytes) fs) ≡ true
-    → Missed b ks Unit → 0 ≡ fixed_kind fs (b ∷ t)
-unfolding fixed_kind all
-no_mark ks [] b t a m = refl
-no_mark ks (f ∷ fs) b t a m =
-    let u = and_true_both (elem (first f.bytes) ks) (all (λ (c : ℕ). elem c ks) (map (λ (f : Fixed). first f.bytes) fs)) a in
-    rw (not_among first (λ (c : ℕ). elem c ks) f.bytes (b ∷ t) u.0 (missed b ks m).1) (no_mark ks fs b t u.1 m)
+      pub fixed_none : None ≡ fixed_kind (of_length 1 fixed) (get_or text at 0 ∷ []) → Nothing ≡ placed (fixed_start fixed (drop at text)) at
+      fixed_none e = sym (fixed_here ∙ rw (← none3, ← none2, ← e))

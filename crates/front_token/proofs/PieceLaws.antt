@@ -1,25 +1,28 @@
 -- What starts at a place, by the kind of the byte there: the code's answers are those of start_of. Assumes nothing.
 use mathlib.Core.Path.{◌≡◌, refl, sym, ◌∙◌, ap}
-use mathlib.Core.Bool.{Bool, true, false, cond}
+use mathlib.Core.Bool.{Bool, true, false}
+use mathlib.Core.Logic.{◌⊎◌, inl, inr}
 use mathlib.Core.List.{List, [], ◌∷◌, map}
 use Prim.Native.Nat.{ℕ, suc, ◌+◌, ◌-◌, ◌≤◌, ◌<◌}
 use native.Mathlib.Omega.{arith}
 use native.Mathlib.Numerals.{add-one}
-use native.Mathlib.Decide.{dec_lt}
 use lib.Dec.{eqb}
 use lib.ListN.{length, get_or, take, drop, drop_of_length-le}
 use lib.Seq.{drop-cons, get_or-drop, take_at}
 use borrow.Author.Tests.{eq-eqb, ne_eqb}
 use Rattle.base_codes.specs.Token.{NUMBER}
-use Rattle.spec_language.specs.Bytes.{bytes, between, elem, bytes_of, ByteKind, letter, digit, underscore, blank, quote, mark, none, byte_kind, kind_code, is}
+use Rattle.spec_language.specs.Bytes.{bytes, between, elem, bytes_of, letter, digit, underscore, blank, quote, mark, none, byte_kind, kind_code, is}
 use Rattle.spec_language.specs.Bytes.{is_digit, in_word, not_lf, lower, fixed}
 use Rattle.spec_language.specs.Words.{well_made, folded, reserved, word_kind, peek, is_dashes}
 use Rattle.spec_language.specs.Lexer.{run, fixed_start, word_start, number_start, start_from, start_of}
 use Rattle.spec_language.proofs.Lexing.{run_is}
+use Rattle.front_token.specs.declared.kinds.ByteKind as K
+use Rattle.front_token.specs.declared.kinds.ByteKind.TheVariants.{Letter, Digit, Underscore, Blank, Quote, Mark, Other}
 use Rattle.front_token.specs.declared.pieces.Piece.TheVariants.{Gap, Token, Nothing}
 use Rattle.front_token.specs.Places.{end_of_run, part}
 use Rattle.front_token.specs.Pieces.{placed, piece_from, piece_at}
 use Rattle.front_token.specs.Reserved.{reserved_kind}
+use Rattle.front_token.proofs.ByteKinds.{kind_at, kind_is}
 use Rattle.front_token.proofs.WordLaws.{reserved_kind_lem}
 
 -- the part up to a run's end is the run
@@ -78,95 +81,57 @@ module _ (text : List ℕ) (at b : ℕ) where
   unfolding start_from
   mark_fixed d = rw d
 
--- the kind of that number
-kind_from : ℕ → ByteKind
-kind_from n =
-    cond (eqb n 0) letter
-    (cond (eqb n 1) digit
-    (cond (eqb n 2) underscore
-    (cond (eqb n 3) blank
-    (cond (eqb n 4) quote
-    (cond (eqb n 5) mark none)))))
-
-kind_from_lem : (k : ByteKind) → kind_from (kind_code k) ≡ k
-unfolding kind_from
-kind_from_lem letter = refl
-kind_from_lem digit = refl
-kind_from_lem underscore = refl
-kind_from_lem blank = refl
-kind_from_lem quote = refl
-kind_from_lem mark = refl
-kind_from_lem none = refl
-
-kind_one : (j k : ByteKind) → kind_code j ≡ kind_code k → j ≡ k
-kind_one j k e = sym (kind_from_lem j) ∙ (ap kind_from e ∙ kind_from_lem k)
-
 run_first : (p : ℕ → Bool) (b : ℕ) (l : List ℕ) → p b ≡ true → run p (b ∷ l) ≡ b ∷ run p l
 unfolding run
 run_first p b l e = rw e
 
--- by the kind's number, at a place that is in the text
-module _ (text : List ℕ) (at kind : ℕ) (h : at < length text) (e : kind ≡ kind_code (byte_kind (get_or text at 0))) where
-  is_kind : (k : ByteKind) → kind ≡ kind_code k → byte_kind (get_or text at 0) ≡ k
-  is_kind k f = kind_one (byte_kind (get_or text at 0)) k (sym e ∙ f)
-
+-- by the kind of the byte, at a place that is in the text
+module _ (text : List ℕ) (at : ℕ) (h : at < length text) where
   opened : piece_at text at ≡ placed (start_from (byte_kind (get_or text at 0)) (get_or text at 0) (drop (suc at) text)) at
   unfolding start_of
   opened = ap (λ (l : List ℕ). piece_from l at) (drop-cons text at 0 h)
 
-  pub piece_word : kind ≡ 0 → placed (word_start (run in_word (drop at text))) at ≡ piece_at text at
+  pub piece_word : Letter ≡ kind_at (get_or text at 0) → placed (word_start (run in_word (drop at text))) at ≡ piece_at text at
   unfolding start_from in_word is
   piece_word f =
-      let k = is_kind letter f in
+      let k = kind_is letter _ f in
       let p : in_word (get_or text at 0) ≡ true = rw k in
       sym (opened ∙ rw (k, drop-cons text at 0 h, run_first in_word (get_or text at 0) (drop (suc at) text) p))
 
-  pub piece_number : kind ≡ 1 → placed (number_start (run is_digit (drop at text))) at ≡ piece_at text at
+  pub piece_number : Digit ≡ kind_at (get_or text at 0) → placed (number_start (run is_digit (drop at text))) at ≡ piece_at text at
   unfolding start_from is
   piece_number f =
-      let k = is_kind digit f in
+      let k = kind_is digit _ f in
       let p : is_digit (get_or text at 0) ≡ true = rw k in
       sym (opened ∙ rw (k, drop-cons text at 0 h, run_first is_digit (get_or text at 0) (drop (suc at) text) p))
 
-  pub piece_blank : kind ≡ 3 → Gap (at + 1) ≡ piece_at text at
+  pub piece_blank : Blank ≡ kind_at (get_or text at 0) → Gap (at + 1) ≡ piece_at text at
   unfolding start_from
-  piece_blank f = sym (opened ∙ rw (is_kind blank f))
+  piece_blank f = sym (opened ∙ rw (kind_is blank _ f))
 
-  piece_mark : kind ≡ 5 → placed (start_from mark (get_or text at 0) (drop (suc at) text)) at ≡ piece_at text at
-  piece_mark f = sym (opened ∙ rw (is_kind mark f))
-
-  piece_quote : kind ≡ 4 → placed (fixed_start fixed (drop at text)) at ≡ piece_at text at
-  unfolding start_from
-  piece_quote f = sym (opened ∙ rw (is_kind quote f, drop-cons text at 0 h))
+  piece_mark : Mark ≡ kind_at (get_or text at 0) → placed (start_from mark (get_or text at 0) (drop (suc at) text)) at ≡ piece_at text at
+  piece_mark f = sym (opened ∙ rw (kind_is mark _ f))
 
   -- a quote opens no comment
-  quote_dash : kind ≡ 4 → get_or text at 0 ≡ 45 → ⊥
+  quote_dash : byte_kind (get_or text at 0) ≡ quote → get_or text at 0 ≡ 45 → ⊥
   unfolding byte_kind between elem bytes_of fixed bytes
-  quote_dash f g = let z : kind ≡ 5 = e ∙ ap (λ (b : ℕ). kind_code (byte_kind b)) g in omega arith
+  quote_dash f g = let z : ◌≡◌ {A = ℕ} 5 4 = ap (λ (b : ℕ). kind_code (byte_kind b)) (sym g) ∙ ap kind_code f in omega arith
 
-  -- a quote or a mark
-  pub piece_fixed : 4 ≤ kind → kind < 6 → placed (start_from mark (get_or text at 0) (drop (suc at) text)) at ≡ piece_at text at
-  piece_fixed l m = go (dec_lt kind 5)
-    where
-      go : Dec (kind < 5) → placed (start_from mark (get_or text at 0) (drop (suc at) text)) at ≡ piece_at text at
-      go (yes k) =
-          let f : kind ≡ 4 = omega arith in
-          mark_fixed text at (get_or text at 0) (sym (dashes_not text at (get_or text at 0) (quote_dash f)))
-          ∙ (ap (λ (l : List ℕ). placed (fixed_start fixed l) at) (sym (drop-cons text at 0 h)) ∙ piece_quote f)
-      go (no n) = piece_mark (omega arith)
-
-  pub piece_nothing : (kind ≡ 0 → ⊥) → (kind ≡ 3 → ⊥) → (kind ≡ 5 → ⊥) → (kind ≡ 1 → ⊥) → (kind ≡ 4 → ⊥) → Nothing ≡ piece_at text at
+  piece_quote : Quote ≡ kind_at (get_or text at 0) → placed (start_from mark (get_or text at 0) (drop (suc at) text)) at ≡ piece_at text at
   unfolding start_from
-  piece_nothing n0 n3 n5 n1 n4 = sym (opened ∙ go (byte_kind (get_or text at 0)) refl)
-    where
-      go : (k : ByteKind) → byte_kind (get_or text at 0) ≡ k → placed (start_from k (get_or text at 0) (drop (suc at) text)) at ≡ Nothing
-      go letter f = absurd (n0 (e ∙ ap kind_code f))
-      go digit f = absurd (n1 (e ∙ ap kind_code f))
-      go underscore f = refl
-      go blank f = absurd (n3 (e ∙ ap kind_code f))
-      go quote f = absurd (n4 (e ∙ ap kind_code f))
-      go mark f = absurd (n5 (e ∙ ap kind_code f))
-      go none f = refl
+  piece_quote f =
+      let k = kind_is quote _ f in
+      mark_fixed text at (get_or text at 0) (sym (dashes_not text at (get_or text at 0) (quote_dash k))) ∙ sym (opened ∙ rw k)
+
+  pub piece_fixed : (k : K.ByteKind) → k ≡ kind_at (get_or text at 0) → (k ≡ Quote) ⊎ (k ≡ Mark)
+      → placed (start_from mark (get_or text at 0) (drop (suc at) text)) at ≡ piece_at text at
+  piece_fixed k e (inl q) = piece_quote (sym q ∙ e)
+  piece_fixed k e (inr m) = piece_mark (sym m ∙ e)
+
+  pub piece_nothing : (k : K.ByteKind) → k ≡ kind_at (get_or text at 0) → (k ≡ Underscore) ⊎ (k ≡ Other) → Nothing ≡ piece_at text at
+  unfolding start_from
+  piece_nothing k e (inl u) = sym (opened ∙ rw (kind_is underscore _ (sym u ∙ e)))
+  piece_nothing k e (inr o) = sym (opened ∙ rw (kind_is none _ (sym o ∙ e)))
 
 pub piece_end : (text : List ℕ) (at : ℕ) → length text ≤ at → Nothing ≡ piece_at text at
 piece_end text at h = rw (drop_of_length-le text h)

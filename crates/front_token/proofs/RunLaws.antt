@@ -1,14 +1,13 @@
 -- The longest run from a place: what one byte more or less says of its end. Assumes nothing.
-use mathlib.Core.Path.{◌≡◌, refl}
+use mathlib.Core.Path.{◌≡◌, refl, sym, ◌∙◌}
 use mathlib.Core.Bool.{Bool, true, false}
 use mathlib.Core.List.{List, [], ◌∷◌}
-use Prim.Native.Nat.{ℕ, suc, ◌+◌, ◌≤◌, ◌<◌}
+use Prim.Native.Nat.{ℕ, suc, ◌+◌, ◌≤◌, ◌<◌, max}
 use native.Mathlib.Omega.{arith}
 use native.Mathlib.Numerals.{add-one}
+use native.Mathlib.Decide.{dec_le}
 use lib.ListN.{length, get_or, drop, drop_of_length-le, length-drop}
 use lib.Seq.{drop-cons}
-use borrow.Author.Tests.{eq-eqb, ne_eqb}
-use Rattle.spec_language.specs.Bytes.{not_lf}
 use Rattle.spec_language.specs.Lexer.{run}
 use Rattle.front_token.specs.Places.{end_of_run}
 
@@ -48,10 +47,11 @@ module _ (p : ℕ → Bool) (text : List ℕ) (i : ℕ) where
   pub run_within : i ≤ length text → end_of_run p text i ≤ length text
   run_within h = let z = run_short p (drop i text) in let l = length-drop i text in omega arith
 
-pub not_LF : (b : ℕ) → (b ≡ 10 → ⊥) → not_lf b ≡ true
-unfolding not_lf
-not_LF b h = rw (ne_eqb b 10 h)
-
-pub is_LF : (b : ℕ) → b ≡ 10 → not_lf b ≡ false
-unfolding not_lf
-is_LF b h = rw (eq-eqb b 10 h)
+-- past the last byte, or past the text from the start
+pub run_over : (p : ℕ → Bool) (text : List ℕ) (at i : ℕ) → length text ≤ i → (at ≤ length text → i ≤ length text)
+    → end_of_run p text i ≡ end_of_run p text at → max at (length text) ≡ end_of_run p text at
+run_over p text at i h b e = go (dec_le at (length text))
+  where
+    go : Dec (at ≤ length text) → max at (length text) ≡ end_of_run p text at
+    go (yes l) = let k = b l in let n : max at (length text) ≡ i = omega arith in n ∙ (sym (run_end p text i h) ∙ e)
+    go (no n) = let m : max at (length text) ≡ at = omega arith in m ∙ sym (run_end p text at (omega arith))

@@ -1,10 +1,13 @@
 -- Words by their places: underscores, the reserved words by their bytes, and that these are the reserved words by their folded number. Assumes nothing.
 use mathlib.Core.Path.{◌≡◌, refl, sym, ◌∙◌, ap}
 use mathlib.Core.Bool.{Bool, true, false, cond, not, ◌&&◌}
+use mathlib.Core.Logic.{◌⊎◌, inl, inr}
 use mathlib.Core.List.{List, [], ◌∷◌, map}
-use Prim.Native.Nat.{ℕ, ◌+◌, ◌≤◌, ◌<◌}
+use Prim.Native.Nat.{ℕ, suc, ◌+◌, ◌≤◌, ◌<◌}
 use native.Mathlib.Omega.{arith}
 use native.Mathlib.Numerals.{add-one}
+use Rattle.std.proofs.lemmas.List.{get_or-map}
+use Rattle.std.specs.Prelude.{IsTrue, ◌↔◌}
 use lib.Dec.{eqb}
 use lib.ListN.{length, get_or, take, drop, drop_of_length-le, length-map}
 use lib.Seq.{drop-cons}
@@ -21,13 +24,14 @@ use Rattle.front_token.specs.Reserved.{spelled_kind, reserved_kind, keep_if, of_
 
 -- one byte more of a word, u saying that an underscore stands before it, and here that it is one
 module _ (word : List ℕ) (i : ℕ) (u here : Bool) (h : i < length word) (q : here ≡ is_under (get_or word i 0)) where
-  pub made_again : (u && here) ≡ false → well_made here (drop (i + 1) word) ≡ well_made u (drop i word)
+  pub made_again : ((u ≡ true) × (here ≡ false)) ⊎ (u ≡ false) → well_made here (drop (i + 1) word) ≡ well_made u (drop i word)
   unfolding well_made
-  made_again e = rw (drop-cons word i 0 h, add-one i, ← q, e)
+  made_again (inl e) = rw (drop-cons word i 0 h, add-one i, ← q, e.0, e.1)
+  made_again (inr e) = rw (drop-cons word i 0 h, add-one i, ← q, e)
 
-  pub made_stop : (u && here) ≡ true → well_made u (drop i word) ≡ false
+  pub made_stop : u ≡ true → here ≡ true → well_made u (drop i word) ≡ false
   unfolding well_made
-  made_stop e = rw (drop-cons word i 0 h, ← q, e)
+  made_stop e f = rw (drop-cons word i 0 h, ← q, e, f)
 
 pub made_end : (word : List ℕ) (i : ℕ) (u : Bool) → length word ≤ i → well_made u (drop i word) ≡ not u
 unfolding well_made
@@ -55,6 +59,29 @@ apart f w x h = go (equal w x) refl
     go : (q : Bool) → equal w x ≡ q → q ≡ false
     go false e = refl
     go true e = absurd (h (ap f (equal_is w x e)))
+
+-- as long and alike at every place
+equal_by : (w x : List ℕ) → length x ≡ length w → ((k : ℕ) → k < length x → get_or x k 0 ≡ get_or w k 0) → equal w x ≡ true
+unfolding equal
+equal_by [] [] l a = refl
+equal_by [] (c ∷ x) l a = absurd (omega arith)
+equal_by (b ∷ w) [] l a = absurd (omega arith)
+equal_by (b ∷ w) (c ∷ x) l a =
+    let e : c ≡ b = a 0 (omega arith) in
+    rw (eq-eqb b c (sym e), equal_by w x (omega arith) (λ k h. a (suc k) (omega arith)))
+
+pub spells_by : (w x : List ℕ) (r : Bool) → length x ≡ length w → IsTrue r ↔ ((k : ℕ) → k < length x → lower (get_or x k 0) ≡ get_or w k 0)
+    → r ≡ equal w (map lower x)
+spells_by w x r l e = go r e (equal w (map lower x)) refl
+  where
+    at : (k : ℕ) → k < length x → get_or (map lower x) k 0 ≡ lower (get_or x k 0)
+    at k h = get_or-map lower x k 0 0 h
+
+    go : (r : Bool) → IsTrue r ↔ ((k : ℕ) → k < length x → lower (get_or x k 0) ≡ get_or w k 0) → (q : Bool) → equal w (map lower x) ≡ q → r ≡ q
+    go true e q f =
+        sym (equal_by w (map lower x) (length-map x lower ∙ l) (λ k h. let m : k < length x = rw length-map at h in at k m ∙ e.0 refl k m)) ∙ f
+    go false e true f = clash (sym (e.1 (λ k h. sym (at k h) ∙ ap (λ (y : List ℕ). get_or y k 0) (sym (equal_is w (map lower x) f)))))
+    go false e false f = refl
 
 pub spells_length : (w x : List ℕ) → (length x ≡ length w → ⊥) → equal w (map lower x) ≡ false
 spells_length w x h = apart length w (map lower x) (λ e. h (sym (e ∙ length-map x lower)))

@@ -1,12 +1,12 @@
 -- Marks and the literals '0' and '1' by their bytes. Assumes nothing.
-use Rattle.std.specs.Prelude.{Bool, true, false, cond, List, [], ◌∷◌, ℕ, eqb, length}
+use Rattle.std.specs.Prelude.{Bool, true, false, cond, List, [], ◌∷◌, ℕ, Option, Some, None, eqb, length}
 use Rattle.spec_language.specs.Bytes.{Fixed}
 use Rattle.spec_language.specs.Lexing.{equal}
 
--- the kind of the first that w is, or 0
-unfoldable pub fixed_kind : List Fixed → List ℕ → ℕ
-fixed_kind [] w = 0
-fixed_kind (f ∷ fs) w = cond (equal f.bytes w) f.kind (fixed_kind fs w)
+-- the kind of the first that w is
+unfoldable pub fixed_kind : List Fixed → List ℕ → Option ℕ
+fixed_kind [] w = None
+fixed_kind (f ∷ fs) w = cond (equal f.bytes w) (Some f.kind) (fixed_kind fs w)
 
 -- a fixed token kept or left out
 abbrev pub keep_fixed : Bool → Fixed → List Fixed → List Fixed

@@ -1,37 +1,28 @@
+#![tactic(auto, using(crate::proofs::WordLaws::by_size, crate::proofs::WordLaws::word_rest, crate::proofs::WordLaws::no_rest), unfolding(crate::specs::Reserved::spelled_kind, crate::specs::Reserved::of_size, spec_language::specs::Words::reserved, spec_language::specs::Bytes::bytes))]
 // Words: whether one is well made, and which reserved word it is.
-ghost use Rattle.std.specs.Prelude.{◌≡◌, true, false, cond, ◌&&◌, map};
+ghost use Rattle.std.specs.Prelude.{◌≡◌, false, cond, map};
 ghost use Rattle.spec_language.specs.Bytes.{lower};
 ghost use Rattle.spec_language.specs.Words.{well_made, reserved};
 ghost use Rattle.spec_language.specs.Lexing.{equal};
 ghost use Rattle.front_token.specs.Kinds.{Kinds};
 ghost use Rattle.front_token.specs.Reserved.{spelled_kind, reserved_kind, of_size};
 
-use crate::{bytes, kinds};
+use crate::bytes;
+use crate::kinds::{BYTES, ByteKind};
 use base_codes::token;
 
-fn both(a: bool, b: bool) -> bool
-    ensures { result ≡ (a && b) }
-{
-    if a {
-        return b;
-    }
-    false
-}
-
 // "no doubled or last underscore".
-pub(crate) fn well_made(table: &[u8; kinds::BYTES], word: &[u8]) -> bool
+pub(crate) fn well_made(table: &[ByteKind; BYTES], word: &[u8]) -> bool
     requires { Kinds table.now }
     ensures { result ≡ well_made false word.now }
 {
     let mut after_underscore = false;
-    let mut i = 0;
-    while i < word.len() {
-        let underscore = bytes::is_underscore(table, word[i]);
-        if both(after_underscore, underscore) {
+    for b in word {
+        let underscore = bytes::is_underscore(table, *b);
+        if after_underscore && underscore {
             return false;
         }
         after_underscore = underscore;
-        i += 1;
     }
     !after_underscore
 }
@@ -40,27 +31,18 @@ pub(crate) fn well_made(table: &[u8; kinds::BYTES], word: &[u8]) -> bool
 fn spells(word: &[u8], spelling: &[u8]) -> bool
     ensures { result ≡ equal spelling.now (map lower word.now) }
 {
-    if word.len() != spelling.len() {
-        return false;
-    }
-    let mut i = 0;
-    while i < spelling.len() {
-        if bytes::lower_case(word[i]) != spelling[i] {
-            return false;
-        }
-        i += 1;
-    }
-    true
+    word.len() == spelling.len()
+        && word
+            .iter()
+            .zip(spelling)
+            .all(|(b, c)| bytes::lower_case(*b) == *c)
 }
 
 // The kind of a reserved word where the word is it, else what the words after it say.
 fn pick(word: &[u8], spelling: &[u8], kind: u8, rest: u8) -> u8
     ensures { result ≡ cond (equal spelling.now (map lower word.now)) kind rest }
 {
-    if spells(word, spelling) {
-        return kind;
-    }
-    rest
+    if spells(word, spelling) { kind } else { rest }
 }
 
 // The kind of a word of two bytes. The words stand from the last of the list backwards, since each row takes what the words after it in the list say.

@@ -4,6 +4,7 @@ use mathlib.Core.Option.{Option}
 use mathlib.Core.List.{List, ◌∷◌, [], ◌++◌}
 use Prim.Native.Nat.{ℕ, ◌+◌, ◌≤◌, ◌<◌}
 use native.Mathlib.Omega.{arith}
+use Rattle.std.specs.Prelude as P
 use borrow.Author.Tests.{lt-ltb}
 use lib.ListN.{length}
 use Rattle.spec_grammar.specs.Token.{Token}
@@ -21,7 +22,7 @@ use Rattle.base_codes.specs.Types.{tag_of, tag_or}
 use Rattle.base_codes.specs.Limit.{ITEMS}
 use Rattle.front_layout.specs.Postfix.{Item, item_of, binary_item, postfix}
 use Rattle.front_layout.proofs.Folds.{Steps, postfix_law}
-use Rattle.front_offences.specs.Lowest.{number, lowest_of, lower}
+use Rattle.front_offences.specs.Lowest.{option_of, lowest_of, lower}
 use Rattle.front_offences.specs.Kinded.{OperatorKind, KindedExpr}
 use Rattle.front_offences.proofs.Lowest.{lower_none, lower_assoc, lowest_append}
 use Rattle.front_typing.specs.Operators.{right_one, right_two}
@@ -37,28 +38,28 @@ module _ (Δ : List Decl) where
   list_work [] w = w
   list_work (i ∷ is) w = list_work is (item_step i w)
 
-  number_step : (x : Token) (s : List ℕ) (b : ℕ) → length s < ITEMS → item_step (item_of I.NUMBER x) (work s b) ≡ work (tag_of (plain integer) ∷ s) b
+  number_step : (x : Token) (s : List ℕ) (b : P.Option ℕ) → length s < ITEMS → item_step (item_of I.NUMBER x) (work s b) ≡ work (tag_of (plain integer) ∷ s) b
   unfolding item_step step_work pushed operands_of count_or
   number_step x s b h = rw (lt-ltb (length s) ITEMS h)
 
-  bit_step : (x : Token) (s : List ℕ) (b : ℕ) → length s < ITEMS → item_step (item_of I.BIT x) (work s b) ≡ work (tag_of (plain std_logic) ∷ s) b
+  bit_step : (x : Token) (s : List ℕ) (b : P.Option ℕ) → length s < ITEMS → item_step (item_of I.BIT x) (work s b) ≡ work (tag_of (plain std_logic) ∷ s) b
   unfolding item_step step_work pushed operands_of count_or
   bit_step x s b h = rw (lt-ltb (length s) ITEMS h)
 
-  name_step : (x : Token) (s : List ℕ) (b : ℕ) → length s < ITEMS → item_step (item_of I.NAME x) (work s b) ≡ work (tag_or (type_in (find Δ x.value)) ∷ s) b
+  name_step : (x : Token) (s : List ℕ) (b : P.Option ℕ) → length s < ITEMS → item_step (item_of I.NAME x) (work s b) ≡ work (tag_or (type_in (find Δ x.value)) ∷ s) b
   unfolding item_step step_work pushed operands_of count_or
   name_step x s b h = rw (lt-ltb (length s) ITEMS h)
 
   -- a leaf has no offence
-  none_found : (s : List ℕ) (b : ℕ) (k : List Item) (r : Work) → list_work k (work s (lower b 0)) ≡ r → list_work k (work s b) ≡ r
-  none_found s b k r c = ap (λ (z : ℕ). list_work k (work s z)) (sym (lower_none b)) ∙ c
+  none_found : (s : List ℕ) (b : P.Option ℕ) (k : List Item) (r : Work) → list_work k (work s (lower b P.None)) ≡ r → list_work k (work s b) ≡ r
+  none_found s b k r c = ap (λ (z : P.Option ℕ). list_work k (work s z)) (sym (lower_none b)) ∙ c
 
   -- an operator's place joins what was found before it
-  join1 : (b : ℕ) (l : List ℕ) (a r : Option ExprTy) (p : ℕ)
+  join1 : (b : P.Option ℕ) (l : List ℕ) (a r : Option ExprTy) (p : ℕ)
       → lower (lower b (lowest_of l)) (lowest_of (unless (right_one (tag_or a) (tag_or r)) p)) ≡ lower b (lowest_of (l ++ wrong1 a r p))
   join1 b l a r p = rw (wrong1_law a r p, lowest_append l (wrong1 a r p)) (lower_assoc b (lowest_of l) (lowest_of (wrong1 a r p)))
 
-  join2 : (b : ℕ) (l m : List ℕ) (a c r : Option ExprTy) (p : ℕ)
+  join2 : (b : P.Option ℕ) (l m : List ℕ) (a c r : Option ExprTy) (p : ℕ)
       → lower (lower (lower b (lowest_of l)) (lowest_of m)) (lowest_of (unless (right_two (tag_or a) (tag_or c) (tag_or r)) p))
       ≡ lower b (lowest_of (l ++ (m ++ wrong2 a c r p)))
   join2 b l m a c r p =
@@ -66,19 +67,19 @@ module _ (Δ : List Decl) where
       (lower_assoc (lower b (lowest_of l)) (lowest_of m) (lowest_of (wrong2 a c r p))
       ∙ lower_assoc b (lowest_of l) (lower (lowest_of m) (lowest_of (wrong2 a c r p))))
 
-  sign_step : (x : Token) (a : Option ExprTy) (l : List ℕ) (s : List ℕ) (b : ℕ)
+  sign_step : (x : Token) (a : Option ExprTy) (l : List ℕ) (s : List ℕ) (b : P.Option ℕ)
       → item_step (item_of SIGN x) (work (tag_or a ∷ s) (lower b (lowest_of l)))
       ≡ work (tag_or (on_one sum_type a) ∷ s) (lower b (lowest_of (l ++ wrong1 a (on_one sum_type a) x.place)))
   unfolding item_step step_work unary_on operands_of count_or type_of_unary
   sign_step x a l s b = rw (unary_law SIGN O.sign refl a, join1 b l a (on_one sum_type a) x.place)
 
-  not_step : (x : Token) (a : Option ExprTy) (l : List ℕ) (s : List ℕ) (b : ℕ)
+  not_step : (x : Token) (a : Option ExprTy) (l : List ℕ) (s : List ℕ) (b : P.Option ℕ)
       → item_step (item_of NOT x) (work (tag_or a ∷ s) (lower b (lowest_of l)))
       ≡ work (tag_or (on_one logical_type a) ∷ s) (lower b (lowest_of (l ++ wrong1 a (on_one logical_type a) x.place)))
   unfolding item_step step_work unary_on operands_of count_or type_of_unary
   not_step x a l s b = rw (unary_law NOT O.invert refl a, join1 b l a (on_one logical_type a) x.place)
 
-  binary_step_lem : (x : Token) (a c : Option ExprTy) (l m : List ℕ) (s : List ℕ) (b : ℕ) → OperatorKind x.kind
+  binary_step_lem : (x : Token) (a c : Option ExprTy) (l m : List ℕ) (s : List ℕ) (b : P.Option ℕ) → OperatorKind x.kind
       → item_step (binary_item x) (work (tag_or c ∷ (tag_or a ∷ s)) (lower (lower b (lowest_of l)) (lowest_of m)))
       ≡ work (tag_or (on_two (result_of (operator_of x.kind)) a c) ∷ s)
       (lower b (lowest_of (l ++ (m ++ wrong2 a c (on_two (result_of (operator_of x.kind)) a c) x.place))))
@@ -100,7 +101,7 @@ module _ (Δ : List Decl) where
   before i k w v r e c = ap (list_work k) e ∙ c
 
   steps : (r : Work) → Steps Fits judged (λ (k : List Item) (w : Work). list_work k w ≡ r)
-  unfolding type_of types_in item_count number lowest
+  unfolding type_of types_in item_count option_of lowest
   steps r =
       record {
         number = λ x w k f c. before (item_of I.NUMBER x) k w (work (tag_of (plain integer) ∷ w.stack) w.lowest) r
@@ -129,6 +130,6 @@ module _ (Δ : List Decl) where
       }
 
   -- the items of an expression, whatever comes after them
-  pub expr_law : (e : Expr) (k : List Item) (s : List ℕ) (b : ℕ) → KindedExpr e → length s + item_count e ≤ ITEMS
+  pub expr_law : (e : Expr) (k : List Item) (s : List ℕ) (b : P.Option ℕ) → KindedExpr e → length s + item_count e ≤ ITEMS
       → list_work (postfix e ++ k) (work s b) ≡ list_work k (work (tag_or (type_of Δ e) ∷ s) (lower b (lowest_of (types_in Δ e))))
   expr_law e k s b w h = postfix_law (steps (list_work k (judged e (work s b)))) e (work s b) k (w, h) refl

@@ -4,6 +4,7 @@ use mathlib.Core.Option.{Option, some}
 use mathlib.Core.List.{List, [], ◌∷◌, ◌++◌, map, append-nil}
 use Prim.Native.Nat.{ℕ, suc, ◌+◌, ◌-◌, ◌≤◌}
 use native.Mathlib.Omega.{arith}
+use Rattle.std.specs.Prelude.{None}
 use native.Mathlib.Decide.{ℕ_discrete}
 use borrow.Author.Tests.{ne_eqb, le-leb}
 use lib.ListN.{length, get_or, length-append, length-map}
@@ -22,7 +23,7 @@ use Rattle.front_layout.specs.Postfix.{Item, item_of, postfix}
 use Rattle.front_layout.specs.Items.{item_at_index}
 use Rattle.front_layout.specs.Entries.{Entry, body_entries, entry_items, stmt_entry}
 use Rattle.front_layout.specs.Rows.{Row, Line, seen, lines_from}
-use Rattle.front_offences.specs.Lowest.{number, lowest_of, lower, lowest_from}
+use Rattle.front_offences.specs.Lowest.{option_of, lowest_of, lower, lowest_from}
 use Rattle.front_layout.specs.Arrays.{placed_from, row_in, rows_from, TokensIn, OwnersIn, ItemsIn, RowsIn}
 use Rattle.front_layout.specs.Headings.{headings, DeclsIn}
 use Rattle.front_offences.specs.Kinded.{KindedExpr, KindedStmt, KindedBody}
@@ -87,10 +88,10 @@ step_other c u v p w f = rw (ne_eqb c I.NAME f)
 
 -- an expression where a type is wanted
 wanted_law : (Δ : List Decl) (a : Option ExprTy) (e : Expr) (p : ℕ) → KindedExpr e → item_count e ≤ 64
-    → judged_as (tag_or a) p (list_work Δ (postfix e) (work [] 0)) ≡ lowest_of (types_in Δ e ++ wants a (type_of Δ e) p)
+    → judged_as (tag_or a) p (list_work Δ (postfix e) (work [] None)) ≡ lowest_of (types_in Δ e ++ wants a (type_of Δ e) p)
 unfolding list_work top_of lower
 wanted_law Δ a e p k h =
-    let whole = rw (append-nil (postfix e)) at (expr_law Δ e [] [] 0 k (omega arith)) in
+    let whole = rw (append-nil (postfix e)) at (expr_law Δ e [] [] None k (omega arith)) in
     ap (judged_as (tag_or a) p) whole ∙ rw (wants_law a (type_of Δ e) p) (sym (lowest_append (types_in Δ e) (wants a (type_of Δ e) p)))
 
 module _ (ts : List Token) (kinds : List ℕ) (t : Text) (A : Sources) (ht : TokensIn ts kinds A.places A.n)
@@ -124,28 +125,28 @@ module _ (ts : List Token) (kinds : List ℕ) (t : Text) (A : Sources) (ht : Tok
   items_rest (i ∷ is) rest m e = let z : m + suc (length is) ≡ m + 1 + length is = omega arith in rw z (items_rest is rest (m + 1) (cons_tail e))
 
   -- a row whose items are these
-  row_law : (r : Row) (is : List Item) (m : ℕ) → r.from ≡ m → r.to ≡ m + length is → m + length is ≤ 16384 → items_work A m (length is) (work [] 0)
-      ≡ list_work (declared t) is (work [] 0)
-      → row_code A r ≡ judged_as (wanted_code r.kind (name_at A r.index)) (token_at ts r.index).place (list_work (declared t) is (work [] 0))
+  row_law : (r : Row) (is : List Item) (m : ℕ) → r.from ≡ m → r.to ≡ m + length is → m + length is ≤ 16384 → items_work A m (length is) (work [] None)
+      ≡ list_work (declared t) is (work [] None)
+      → row_code A r ≡ judged_as (wanted_code r.kind (name_at A r.index)) (token_at ts r.index).place (list_work (declared t) is (work [] None))
   row_law r is m ef et h e =
       let z : m + length is - m ≡ length is = omega arith in
       rw (et, ef, z, le-leb (m + length is) 16384 h, place_is ht r.index, e)
 
   target_law : (x : Token) (e : Expr) (i : ℕ) → x.kind ≡ NAME → KindedExpr e → item_count e ≤ 64 → token_at ts i ≡ x
-      → judged_as (name_at A i) (token_at ts i).place (list_work (declared t) (postfix e) (work [] 0))
+      → judged_as (name_at A i) (token_at ts i).place (list_work (declared t) (postfix e) (work [] None))
       ≡ lowest_of (types_in (declared t) e ++ wants (type_in (find (declared t) x.value)) (type_of (declared t) e) x.place)
   target_law x e i n k h q =
       rw (name_law ts kinds A.places A.owners A.decls A.n A.d i t ht ho hd (ap (λ (y : Token). y.kind) q ∙ n), q)
       (wanted_law (declared t) (type_in (find (declared t) x.value)) e x.place k h)
 
   condition_law : (x : Token) (e : Expr) (i : ℕ) → KindedExpr e → item_count e ≤ 64 → token_at ts i ≡ x
-      → judged_as BOOLEAN (token_at ts i).place (list_work (declared t) (postfix e) (work [] 0))
+      → judged_as BOOLEAN (token_at ts i).place (list_work (declared t) (postfix e) (work [] None))
       ≡ lowest_of (types_in (declared t) e ++ wants (some boolean) (type_of (declared t) e) x.place)
   condition_law x e i k h q = rw q (wanted_law (declared t) (some boolean) e x.place k h)
 
   judged_law : (s : Stmt) (k i : ℕ) → Ok s → k ≡ (stmt_entry s).kind → token_at ts i ≡ (stmt_entry s).token
-      → judged_as (wanted_code k (name_at A i)) (token_at ts i).place (list_work (declared t) (stmt_entry s).items (work [] 0)) ≡ lowest_of (types_of (declared t) s)
-  unfolding stmt_entry types_of list_work top_of lower number lowest unless
+      → judged_as (wanted_code k (name_at A i)) (token_at ts i).place (list_work (declared t) (stmt_entry s).items (work [] None)) ≡ lowest_of (types_of (declared t) s)
+  unfolding stmt_entry types_of list_work top_of lower option_of lowest unless
   judged_law (output x e) k i h ek ei = rw ek (target_law x e i h.0 h.1 h.2 ei)
   judged_law (assign x e) k i h ek ei = rw ek (target_law x e i h.0 h.1 h.2 ei)
   judged_law null k i h ek ei = rw ek
@@ -170,14 +171,14 @@ module _ (ts : List Token) (kinds : List ℕ) (t : Text) (A : Sources) (ht : Tok
       → map (item_at_index ts) (placed_from A.codes A.indices m (length (entry_items (map stmt_entry ss)))) ≡ entry_items (map stmt_entry ss)
       → m + length (entry_items (map stmt_entry ss)) ≤ 16384
       → lowest_from (statement_at A rows) j (length ss) ≡ lowest_of (each (types_of (declared t)) ss)
-  unfolding lowest_from statement_at each rows_from lines_from entry_items number lowest
+  unfolding lowest_from statement_at each rows_from lines_from entry_items option_of lowest
   rows_law rows [] j m h er ei b = refl
   rows_law rows (s ∷ ss) j m h er ei b =
       let is = (stmt_entry s).items in
       let more = entry_items (map stmt_entry ss) in
       let long = length-append is more in
       let line = cons_head er in
-      let work0 = items_law is more m (work [] 0) (ok_named s h.0) ei in
+      let work0 = items_law is more m (work [] None) (ok_named s h.0) ei in
       let first = row_law (row_in rows j) is m (ap (λ (x : Line). x.from) line) (ap (λ (x : Line). x.to) line) (omega (arith, long, b)) work0 ∙
       judged_law s (row_in rows j).kind (row_in rows j).index h.0 (ap (λ (x : Line). x.kind) line) (ap (λ (x : Line). x.token) line) in
       let rest = rows_law rows ss (j + 1) (m + length is) h.1 (cons_tail er) (items_rest is more m ei) (omega (arith, long, b)) in

@@ -3,6 +3,7 @@ use mathlib.Core.Path.{◌≡◌, refl, sym, ◌∙◌}
 use mathlib.Core.List.{List}
 use Prim.Native.Nat.{ℕ, zero, suc, ◌+◌, ◌-◌, ◌≤◌, ◌<◌}
 use native.Mathlib.Omega.{arith}
+use Rattle.std.specs.Prelude.{Option, None}
 use borrow.Author.Tests.{lt-ltb, le-ltb, eq-eqb, ne_eqb}
 use lib.ListN.{get_or, set, length-set}
 use lib.Seq.{get_or-set_same}
@@ -19,7 +20,7 @@ use Rattle.front_typing.specs.Expressions.{Room, Says}
 use Rattle.front_typing.specs.declared.Progress.{Progress}
 
 -- a type pushed
-pub push_room : (a : List ℕ) (n t b : ℕ) → Room a n → n < ITEMS → Says (set a n t) (record { depth = n + 1; lowest = b }) (pushed t (stack_of 0 a n) b)
+pub push_room : (a : List ℕ) (n t : ℕ) (b : Option ℕ) → Room a n → n < ITEMS → Says (set a n t) (record { depth = n + 1; lowest = b }) (pushed t (stack_of 0 a n) b)
 unfolding pushed
 push_room a n t b m h =
     record {
@@ -27,17 +28,17 @@ push_room a n t b m h =
       says = rw (stack_length 0 a n, lt-ltb n ITEMS h, stack_push 0 a n t (omega (arith, m.size)));
     }
 
-pub push_full : (a : List ℕ) (n t b : ℕ) → Room a n → ITEMS ≤ n → Says a (record { depth = n; lowest = b }) (pushed t (stack_of 0 a n) b)
+pub push_full : (a : List ℕ) (n t : ℕ) (b : Option ℕ) → Room a n → ITEMS ≤ n → Says a (record { depth = n; lowest = b }) (pushed t (stack_of 0 a n) b)
 unfolding pushed
 push_full a n t b m h = record { room = m; says = rw (stack_length 0 a n, le-ltb n ITEMS h) }
 
 -- an operator on one operand
-pub unary_none : (a : List ℕ) (n c p b : ℕ) → Room a n → n < 1 → Says a (record { depth = n; lowest = b }) (unary_on c p (stack_of 0 a n) b)
+pub unary_none : (a : List ℕ) (n c p : ℕ) (b : Option ℕ) → Room a n → n < 1 → Says a (record { depth = n; lowest = b }) (unary_on c p (stack_of 0 a n) b)
 unfolding stack_of unary_on
 unary_none a zero c p b m h = record { room = m; says = refl }
 unary_none a (suc n) c p b m h = absurd (omega arith)
 
-unary_top : (a : List ℕ) (n c p b r w : ℕ) → Room a (suc n) → r ≡ tag_or (unary_type_for c (get_or a n 0))
+unary_top : (a : List ℕ) (n c p : ℕ) (b : Option ℕ) (r : ℕ) (w : Option ℕ) → Room a (suc n) → r ≡ tag_or (unary_type_for c (get_or a n 0))
     → w ≡ lower b (lowest_of (unless (right_one (get_or a n 0) r) p))
     → Says (set a n r) (record { depth = suc n; lowest = w }) (unary_on c p (stack_of 0 a (suc n)) b)
 unfolding unary_on stack_of
@@ -47,20 +48,20 @@ unary_top a n c p b r w m e q =
       says = rw (stack_above 0 a n r n (omega arith), get_or-set_same a n r 0 (omega (arith, m.size, m.depth)), q, e);
     }
 
-pub unary_some : (a : List ℕ) (n c p b r w : ℕ) → Room a n → 1 ≤ n → r ≡ tag_or (unary_type_for c (get_or a (n - 1) 0))
+pub unary_some : (a : List ℕ) (n c p : ℕ) (b : Option ℕ) (r : ℕ) (w : Option ℕ) → Room a n → 1 ≤ n → r ≡ tag_or (unary_type_for c (get_or a (n - 1) 0))
     → w ≡ lower b (lowest_of (unless (right_one (get_or a (n - 1) 0) r) p))
     → Says (set a (n - 1) r) (record { depth = n; lowest = w }) (unary_on c p (stack_of 0 a n) b)
 unary_some a zero c p b r w m h e q = absurd (omega arith)
 unary_some a (suc n) c p b r w m h e q = let z : suc n - 1 ≡ n = omega arith in rw z (unary_top a n c p b r w m (rw z at e) (rw z at q))
 
 -- an operator on two operands
-pub binary_none : (a : List ℕ) (n c p b : ℕ) → Room a n → n ≤ 1 → Says a (record { depth = n; lowest = b }) (binary_on c p (stack_of 0 a n) b)
+pub binary_none : (a : List ℕ) (n c p : ℕ) (b : Option ℕ) → Room a n → n ≤ 1 → Says a (record { depth = n; lowest = b }) (binary_on c p (stack_of 0 a n) b)
 unfolding stack_of binary_on
 binary_none a zero c p b m h = record { room = m; says = refl }
 binary_none a (suc zero) c p b m h = record { room = m; says = refl }
 binary_none a (suc (suc n)) c p b m h = absurd (omega arith)
 
-binary_top : (a : List ℕ) (n c p b r w : ℕ) → Room a (suc (suc n)) → r ≡ binary_code c (get_or a n 0) (get_or a (suc n) 0)
+binary_top : (a : List ℕ) (n c p : ℕ) (b : Option ℕ) (r : ℕ) (w : Option ℕ) → Room a (suc (suc n)) → r ≡ binary_code c (get_or a n 0) (get_or a (suc n) 0)
     → w ≡ lower b (lowest_of (unless (right_two (get_or a n 0) (get_or a (suc n) 0) r) p))
     → Says (set a n r) (record { depth = suc n; lowest = w }) (binary_on c p (stack_of 0 a (suc (suc n))) b)
 unfolding binary_on stack_of
@@ -70,7 +71,7 @@ binary_top a n c p b r w m e q =
       says = rw (stack_above 0 a n r n (omega arith), get_or-set_same a n r 0 (omega (arith, m.size, m.depth)), q, e);
     }
 
-pub binary_some : (a : List ℕ) (n c p b r w : ℕ) → Room a n → 1 < n → r ≡ binary_code c (get_or a (n - 1 - 1) 0) (get_or a (n - 1) 0)
+pub binary_some : (a : List ℕ) (n c p : ℕ) (b : Option ℕ) (r : ℕ) (w : Option ℕ) → Room a n → 1 < n → r ≡ binary_code c (get_or a (n - 1 - 1) 0) (get_or a (n - 1) 0)
     → w ≡ lower b (lowest_of (unless (right_two (get_or a (n - 1 - 1) 0) (get_or a (n - 1) 0) r) p))
     → Says (set a (n - 1 - 1) r) (record { depth = n - 1; lowest = w }) (binary_on c p (stack_of 0 a n) b)
 binary_some a zero c p b r w m h e q = absurd (omega arith)
@@ -93,17 +94,17 @@ top_some a (suc n) h = let z : suc n - 1 ≡ n = omega arith in rw z
 
 -- An item by its code, which has n operands.
 
-pub step_operand : {a : List ℕ} {r : Progress} (c t p u n : ℕ) (s : List ℕ) (b : ℕ) → n ≡ operands_of c → n ≡ 0 → u ≡ operand_code c t → Says a r (pushed u s b)
+pub step_operand : {a : List ℕ} {r : Progress} (c t p u n : ℕ) (s : List ℕ) (b : Option ℕ) → n ≡ operands_of c → n ≡ 0 → u ≡ operand_code c t → Says a r (pushed u s b)
     → Says a r (step_work c t p (work s b))
 unfolding step_work
 step_operand c t p u n s b o h e q = rw (← o, eq-eqb n 0 h, sym e) q
 
-pub step_unary : {a : List ℕ} {r : Progress} (c t p q n : ℕ) (s : List ℕ) (b : ℕ) → n ≡ operands_of c → (n ≡ 0 → ⊥) → n ≡ 1 → q ≡ p → Says a r (unary_on c q s b)
+pub step_unary : {a : List ℕ} {r : Progress} (c t p q n : ℕ) (s : List ℕ) (b : Option ℕ) → n ≡ operands_of c → (n ≡ 0 → ⊥) → n ≡ 1 → q ≡ p → Says a r (unary_on c q s b)
     → Says a r (step_work c t p (work s b))
 unfolding step_work
 step_unary c t p q n s b o h k e w = rw (← o, ne_eqb n 0 h, eq-eqb n 1 k, sym e) w
 
-pub step_binary : {a : List ℕ} {r : Progress} (c t p q n : ℕ) (s : List ℕ) (b : ℕ) → n ≡ operands_of c → (n ≡ 0 → ⊥) → (n ≡ 1 → ⊥) → q ≡ p
+pub step_binary : {a : List ℕ} {r : Progress} (c t p q n : ℕ) (s : List ℕ) (b : Option ℕ) → n ≡ operands_of c → (n ≡ 0 → ⊥) → (n ≡ 1 → ⊥) → q ≡ p
     → Says a r (binary_on c q s b)
     → Says a r (step_work c t p (work s b))
 unfolding step_work
@@ -112,11 +113,11 @@ step_binary c t p q n s b o h k e w = rw (← o, ne_eqb n 0 h, ne_eqb n 1 k, sym
 -- The loop over items: the rest from item m makes what the whole makes.
 
 module _ (A : Sources) (from to : ℕ) where
-  pub record Left (a : List ℕ) (n b m : ℕ) : Type 0 where
+  pub record Left (a : List ℕ) (n : ℕ) (b : Option ℕ) (m : ℕ) : Type 0 where
     pub room : Room a n
     pub same : items_work A m (to - m) (work (stack_of 0 a n) b) ≡ expr_work A from to
 
-  pub left_first : (a : List ℕ) → Room a 0 → Left a 0 0 from
+  pub left_first : (a : List ℕ) → Room a 0 → Left a 0 None from
   unfolding stack_of
   left_first a h = record { room = h; same = refl }
 
@@ -124,7 +125,7 @@ module _ (A : Sources) (from to : ℕ) where
   unfolding items_work
   next m c w = refl
 
-  pub left_again : (a a' : List ℕ) (n b m : ℕ) (r : Progress) → Left a n b m → m < to → Says a' r (item_work A m (work (stack_of 0 a n) b))
+  pub left_again : (a a' : List ℕ) (n : ℕ) (b : Option ℕ) (m : ℕ) (r : Progress) → Left a n b m → m < to → Says a' r (item_work A m (work (stack_of 0 a n) b))
       → Left a' r.depth r.lowest (m + 1)
   left_again a a' n b m r h l q =
       let z : to - m ≡ suc (to - (m + 1)) = omega arith in

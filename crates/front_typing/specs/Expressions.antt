@@ -1,5 +1,5 @@
 -- The types of an expression by position: its items one after the other, with a stack of types and the lowest offence so far. Assumes nothing.
-use Rattle.std.specs.Prelude.{◌≡◌, List, [], ◌∷◌, ℕ, zero, suc, ◌+◌, ◌*◌, ◌-◌, ◌≤◌, eqb, ltb, length, get_or}
+use Rattle.std.specs.Prelude.{◌≡◌, List, [], ◌∷◌, Option, None, ℕ, zero, suc, ◌+◌, ◌*◌, ◌-◌, ◌≤◌, eqb, ltb, length, get_or}
 use Rattle.base_codes.specs.Stack.{stack_of}
 use Rattle.spec_design.specs.Types.{std_logic, integer, plain}
 use Rattle.base_codes.specs.Item.{NAME, NUMBER}
@@ -9,6 +9,7 @@ use Rattle.base_codes.specs.Types.{NONE, tag_of, tag_or, declared_type, unary_ty
 use Rattle.base_codes.specs.Limit.{TEXT, ITEMS, NAMES}
 use Rattle.spec_grammar.specs.Reader.{choose}
 use Rattle.spec_language.specs.Lists.{unless}
+use Rattle.front_offences.specs.declared.tree.Tree.{Tree}
 use Rattle.front_offences.specs.Lowest.{lowest_of, lower}
 use Rattle.front_layout.specs.Arrays.{number_in}
 use Rattle.front_typing.specs.Operators.{binary_code, right_one, right_two}
@@ -28,6 +29,10 @@ pub record Sources : Type 0 where
 abbrev pub sources : List ℕ → List ℕ → List ℕ → List ℕ → List ℕ → ℕ → ℕ → Sources
 sources cs is ps os ds n d = record { codes = cs; indices = is; places = ps; owners = os; decls = ds; n = n; d = d }
 
+-- those of a text
+abbrev pub sources_of : Tree → Sources
+sources_of tree = sources tree.codes.now tree.indices.now tree.starts.now tree.owners.now tree.decls.now tree.shape.tokens tree.shape.names
+
 -- the type of declared name j; untyped where there is none
 abbrev pub declared_code : List ℕ → ℕ → ℕ → ℕ
 declared_code decls d j = choose (ltb j d) (choose (ltb j NAMES) (tag_or (declared_type (get_or decls (ROW * j + TYPE) 0))) NONE) NONE
@@ -46,9 +51,9 @@ place_at A i = number_in A.places A.n i
 -- the stack of types, the last one first, and the lowest offence
 pub record Work : Type 0 where
   pub stack : List ℕ
-  pub lowest : ℕ
+  pub lowest : Option ℕ
 
-abbrev pub work : List ℕ → ℕ → Work
+abbrev pub work : List ℕ → Option ℕ → Work
 work s b = record { stack = s; lowest = b }
 
 -- an operand, by its item code: a name, whose type is t; a number; '0' or '1'
@@ -56,15 +61,15 @@ abbrev pub operand_code : ℕ → ℕ → ℕ
 operand_code c t = choose (eqb c NAME) t (choose (eqb c NUMBER) (tag_of (plain integer)) (tag_of (plain std_logic)))
 
 -- one type more, where there is room
-unfoldable pub pushed : ℕ → List ℕ → ℕ → Work
+unfoldable pub pushed : ℕ → List ℕ → Option ℕ → Work
 pushed t s b = choose (ltb (length s) ITEMS) (work (t ∷ s) b) (work s b)
 
 -- an operator at the place p, on one operand and on two
-unfoldable pub unary_on : ℕ → ℕ → List ℕ → ℕ → Work
+unfoldable pub unary_on : ℕ → ℕ → List ℕ → Option ℕ → Work
 unary_on c p [] b = work [] b
 unary_on c p (t ∷ s) b = work (tag_or (unary_type_for c t) ∷ s) (lower b (lowest_of (unless (right_one t (tag_or (unary_type_for c t))) p)))
 
-unfoldable pub binary_on : ℕ → ℕ → List ℕ → ℕ → Work
+unfoldable pub binary_on : ℕ → ℕ → List ℕ → Option ℕ → Work
 binary_on c p [] b = work [] b
 binary_on c p (u ∷ []) b = work (u ∷ []) b
 binary_on c p (u ∷ (t ∷ s)) b = work (binary_code c t u ∷ s) (lower b (lowest_of (unless (right_two t u (binary_code c t u)) p)))
@@ -86,7 +91,7 @@ items_work A m (suc c) w = items_work A (m + 1) c (item_work A m w)
 
 -- the items of an expression
 abbrev pub expr_work : Sources → ℕ → ℕ → Work
-expr_work A from to = items_work A from (to - from) (work [] 0)
+expr_work A from to = items_work A from (to - from) (work [] None)
 
 -- the type of the whole; untyped where there is none
 unfoldable pub top_of : List ℕ → ℕ

@@ -2,75 +2,47 @@
 ghost use Rattle.std.specs.Prelude.{◌≡◌, ◌≤◌};
 ghost use Rattle.base_codes.specs.Limit.{TEXT, ITEMS};
 ghost use Rattle.base_codes.specs.Stack.{stack_of};
-ghost use Rattle.front_layout.specs.Arrays.{number_in};
-ghost use Rattle.front_typing.specs.Expressions.{declared_code, name_code, operand_code, sources, work, pushed, unary_on, binary_on, step_work, expr_work, top_of, Room, Says, JudgedBy};
+ghost use Rattle.front_typing.specs.Expressions.{declared_code, name_at, place_at, operand_code, sources_of, work, pushed, unary_on, binary_on, step_work, expr_work, top_of, Room, Says, JudgedBy};
 
 use crate::{Judged, Progress, Span, operators};
 use base_codes::{declaration, item, limit, operation, types};
-use front_offences::cell;
-
-// A number in a wider type.
-fn wide_owner(x: u8) -> usize
-    ensures { result ≡ x }
-{
-    x as usize
-}
-
-fn wide_index(x: u16) -> usize
-    ensures { result ≡ x }
-{
-    x as usize
-}
+use front_offences::Tree;
 
 // The type of declared name j.
-fn declared_type(decls: &[u16; declaration::ROWS], d: usize, j: usize) -> u8
-    ensures { result ≡ declared_code decls.now d j }
+fn declared_type(tree: &Tree, j: usize) -> u8
+    ensures { result ≡ declared_code tree.now.decls.now tree.now.shape.names j }
 {
-    if j < d {
-        if j < limit::NAMES {
-            return types::declared(cell(decls, j, declaration::TYPE));
-        }
-        return types::NONE;
+    if j < tree.shape.names && j < limit::NAMES {
+        types::declared(tree.declared(j, declaration::TYPE))
+    } else {
+        types::NONE
     }
-    types::NONE
 }
 
 // The type of the name at a token's index.
-pub(crate) fn name_type(
-    owners: &[u8; limit::TEXT],
-    decls: &[u16; declaration::ROWS],
-    d: usize,
-    i: usize,
-) -> u8
-    ensures { result ≡ name_code owners.now decls.now d i }
+pub(crate) fn name_type(tree: &Tree, i: usize) -> u8
+    ensures { result ≡ name_at (sources_of tree.now) i }
 {
     if i < limit::TEXT {
-        return declared_type(decls, d, wide_owner(owners[i]));
+        declared_type(tree, usize::from(tree.owners[i]))
+    } else {
+        types::NONE
     }
-    types::NONE
 }
 
 // The type of an operand.
-fn operand_type(
-    owners: &[u8; limit::TEXT],
-    decls: &[u16; declaration::ROWS],
-    d: usize,
-    c: u8,
-    i: usize,
-) -> u8
-    ensures { result ≡ operand_code c (name_code owners.now decls.now d i) }
+fn operand_type(tree: &Tree, c: u8, i: usize) -> u8
+    ensures { result ≡ operand_code c (name_at (sources_of tree.now) i) }
 {
-    if c == item::NAME {
-        return name_type(owners, decls, d, i);
+    match c {
+        item::NAME => name_type(tree, i),
+        item::NUMBER => types::INTEGER,
+        _ => types::STD_LOGIC,
     }
-    if c == item::NUMBER {
-        return types::INTEGER;
-    }
-    types::STD_LOGIC
 }
 
 // Pushes an operand's type.
-fn push(stack: &mut [u8; limit::ITEMS], t: u8, depth: usize, lowest: usize) -> Progress
+fn push(stack: &mut [u8; limit::ITEMS], t: u8, depth: usize, lowest: Option<usize>) -> Progress
     requires { Room stack.old depth }
     ensures { Says stack.new result (pushed t (stack_of 0 stack.old depth) lowest) }
 {
@@ -85,7 +57,13 @@ fn push(stack: &mut [u8; limit::ITEMS], t: u8, depth: usize, lowest: usize) -> P
 }
 
 // Judges an operator of one operand.
-fn unary(stack: &mut [u8; limit::ITEMS], c: u8, place: u16, depth: usize, lowest: usize) -> Progress
+fn unary(
+    stack: &mut [u8; limit::ITEMS],
+    c: u8,
+    place: u16,
+    depth: usize,
+    lowest: Option<usize>,
+) -> Progress
     requires { Room stack.old depth }
     ensures { Says stack.new result (unary_on c place (stack_of 0 stack.old depth) lowest) }
 {
@@ -109,7 +87,7 @@ fn binary(
     c: u8,
     place: u16,
     depth: usize,
-    lowest: usize,
+    lowest: Option<usize>,
 ) -> Progress
     requires { Room stack.old depth }
     ensures { Says stack.new result (binary_on c place (stack_of 0 stack.old depth) lowest) }
@@ -131,27 +109,17 @@ fn binary(
 }
 
 // Judges an item by its code and the index of its token.
-fn item(
-    places: &[u16; limit::TEXT],
-    owners: &[u8; limit::TEXT],
-    decls: &[u16; declaration::ROWS],
-    n: usize,
-    d: usize,
-    c: u8,
-    i: usize,
-    stack: &mut [u8; limit::ITEMS],
-    p: Progress,
-) -> Progress
+fn item(tree: &Tree, c: u8, i: usize, stack: &mut [u8; limit::ITEMS], p: Progress) -> Progress
     requires { Room stack.old p.depth }
     ensures { Says stack.new result
-        (step_work c (name_code owners.now decls.now d i) (number_in places.now n i) (work (stack_of 0 stack.old p.depth) p.lowest)) }
+        (step_work c (name_at (sources_of tree.now) i) (place_at (sources_of tree.now) i) (work (stack_of 0 stack.old p.depth) p.lowest)) }
 {
     let operands = operation::operands(c);
     if operands == 0 {
-        let t = operand_type(owners, decls, d, c, i);
+        let t = operand_type(tree, c, i);
         return push(stack, t, p.depth, p.lowest);
     }
-    let place = front_offences::place_at(places, n, i);
+    let place = tree.place(i);
     if operands == 1 {
         return unary(stack, c, place, p.depth, p.lowest);
     }
@@ -170,54 +138,28 @@ fn top(stack: &[u8; limit::ITEMS], depth: usize) -> u8
 }
 
 // Judges the items of an expression, over a lent stack.
-fn run(
-    codes: &[u8; limit::TEXT],
-    indices: &[u16; limit::TEXT],
-    places: &[u16; limit::TEXT],
-    owners: &[u8; limit::TEXT],
-    decls: &[u16; declaration::ROWS],
-    n: usize,
-    d: usize,
-    span: Span,
-    stack: &mut [u8; limit::ITEMS],
-) -> Progress
+fn run(tree: &Tree, span: Span, stack: &mut [u8; limit::ITEMS]) -> Progress
     requires { Room stack.old 0 × (span.to ≤ TEXT) }
-    ensures { Says stack.new result
-        (expr_work (sources codes.now indices.now places.now owners.now decls.now n d) span.from span.to) }
+    ensures { Says stack.new result (expr_work (sources_of tree.now) span.from span.to) }
 {
-    let to = span.to;
-    let mut m = span.from;
     let mut p = Progress {
         depth: 0,
-        lowest: 0,
+        lowest: None,
     };
-    while m < to {
-        let c = codes[m];
-        let i = wide_index(indices[m]);
-        p = item(places, owners, decls, n, d, c, i, stack, p);
-        m += 1;
+    for m in span.from..span.to {
+        let i = usize::from(tree.indices[m]);
+        p = item(tree, tree.codes[m], i, stack, p);
     }
     p
 }
 
 // Judges an expression.
-pub(crate) fn expression(
-    codes: &[u8; limit::TEXT],
-    indices: &[u16; limit::TEXT],
-    places: &[u16; limit::TEXT],
-    owners: &[u8; limit::TEXT],
-    decls: &[u16; declaration::ROWS],
-    n: usize,
-    d: usize,
-    span: Span,
-) -> Judged
+pub(crate) fn expression(tree: &Tree, span: Span) -> Judged
     requires { span.to ≤ TEXT }
-    ensures { JudgedBy result (expr_work (sources codes.now indices.now places.now owners.now decls.now n d) span.from span.to) }
+    ensures { JudgedBy result (expr_work (sources_of tree.now) span.from span.to) }
 {
     let mut stack = [0u8; limit::ITEMS];
-    let p = run(
-        codes, indices, places, owners, decls, n, d, span, &mut stack,
-    );
+    let p = run(tree, span, &mut stack);
     Judged {
         code: top(&stack, p.depth),
         lowest: p.lowest,

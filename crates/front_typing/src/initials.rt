@@ -4,58 +4,38 @@ ghost use Rattle.base_codes.specs.Limit.{NAMES};
 ghost use Rattle.front_typing.specs.Positions.{initial_fits, initial_at, initials_in};
 
 use base_codes::{declaration, limit};
-use front_offences::cell;
+use front_offences::Tree;
 
 // Whether an initial value is of its name's type; an input's is ignored.
 fn initial_fits(mode: u16, t: u16, init: u16) -> bool
     ensures { result ≡ initial_fits mode t init }
 {
-    if mode == declaration::IN {
-        return true;
-    }
-    if init == declaration::NONE {
-        return true;
-    }
-    if init == declaration::BIT {
-        return t == declaration::STD_LOGIC;
-    }
-    t == declaration::INTEGER
+    mode == declaration::IN
+        || match init {
+            declaration::NONE => true,
+            declaration::BIT => t == declaration::STD_LOGIC,
+            _ => t == declaration::INTEGER,
+        }
 }
 
 // The offence of one declared name's initial value.
-fn initial_at(
-    decls: &[u16; declaration::ROWS],
-    places: &[u16; limit::TEXT],
-    n: usize,
-    j: usize,
-) -> usize
+fn initial_at(tree: &Tree, j: usize) -> Option<usize>
     requires { j < NAMES }
-    ensures { result ≡ initial_at decls.now places.now n j }
+    ensures { result ≡ initial_at tree.now.decls.now tree.now.starts.now tree.now.shape.tokens j }
 {
     let fits = initial_fits(
-        cell(decls, j, declaration::MODE),
-        cell(decls, j, declaration::TYPE),
-        cell(decls, j, declaration::INIT),
+        tree.declared(j, declaration::MODE),
+        tree.declared(j, declaration::TYPE),
+        tree.declared(j, declaration::INIT),
     );
-    let first = cell(decls, j, declaration::VALUE) as usize;
-    front_offences::offence(fits, front_offences::place_at(places, n, first))
+    let first = usize::from(tree.declared(j, declaration::VALUE));
+    front_offences::offence(fits, tree.place(first))
 }
 
 // The lowest of those.
-pub(crate) fn initials(
-    decls: &[u16; declaration::ROWS],
-    d: usize,
-    places: &[u16; limit::TEXT],
-    n: usize,
-) -> usize
-    ensures { result ≡ initials_in decls.now d places.now n }
+pub(crate) fn initials(tree: &Tree) -> Option<usize>
+    ensures { result ≡ initials_in tree.now.decls.now tree.now.shape.names tree.now.starts.now tree.now.shape.tokens }
 {
-    let end = front_offences::at_most(d, limit::NAMES);
-    let mut low = 0;
-    let mut j = 0;
-    while j < end {
-        low = front_offences::lower(low, initial_at(decls, places, n, j));
-        j += 1;
-    }
-    low
+    let end = tree.shape.names.min(limit::NAMES);
+    front_offences::lowest_below(end, |j| initial_at(tree, j))
 }

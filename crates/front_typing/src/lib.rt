@@ -1,17 +1,13 @@
 #![tactic(auto)]
 // Refusal 6: types of operators, targets, conditions and initial values.
-// Inner functions answer 0, or the lowest place plus 1.
 mod initials; // initial values, by the rows of declared names
 mod operators; // types of operators
 mod expression; // items of an expression, on a stack of types
 mod statements; // targets and conditions, by the rows of statements
 
-ghost use Rattle.std.specs.Prelude.{◌≡◌};
-ghost use Rattle.front_typing.specs.Positions.{lowest_in};
 ghost use Rattle.front_typing.specs.Judges.{Judges};
 
-use base_codes::{declaration, limit, statement};
-use front_offences::{Finding, Shape};
+use front_offences::Tree;
 
 // The items of an expression: from one to before another.
 #[derive(Clone, Copy)]
@@ -24,47 +20,21 @@ struct Span {
 #[derive(Clone, Copy)]
 struct Progress {
     depth: usize,
-    lowest: usize,
+    lowest: Option<usize>,
 }
 
 // Of a whole expression: its type and its lowest offence.
 #[derive(Clone, Copy)]
 struct Judged {
     code: u8,
-    lowest: usize,
-}
-
-// The lowest place of refusal 6 plus 1, or 0.
-fn lowest_place(
-    starts: &[u16; limit::TEXT],
-    shape: Shape,
-    codes: &[u8; limit::TEXT],
-    indices: &[u16; limit::TEXT],
-    rows: &[u16; statement::ROWS],
-    decls: &[u16; declaration::ROWS],
-    owners: &[u8; limit::TEXT],
-) -> usize
-    ensures { result ≡ lowest_in starts.now shape codes.now indices.now rows.now decls.now owners.now }
-{
-    let n = shape.tokens;
-    let d = shape.names;
-    let s = shape.statements;
-    let initial = initials::initials(decls, d, starts, n);
-    let stated = statements::statements(codes, indices, starts, owners, decls, n, d, rows, s);
-    front_offences::lower(initial, stated)
+    lowest: Option<usize>,
 }
 
 // The lowest offence of refusal 6.
-pub fn judge(
-    starts: &[u16; limit::TEXT],
-    shape: Shape,
-    codes: &[u8; limit::TEXT],
-    indices: &[u16; limit::TEXT],
-    rows: &[u16; statement::ROWS],
-    decls: &[u16; declaration::ROWS],
-    owners: &[u8; limit::TEXT],
-) -> Finding
-    ensures { Judges starts.now shape codes.now indices.now rows.now decls.now owners.now result }
+pub fn judge(tree: &Tree) -> Option<usize>
+    ensures { Judges tree.now result }
 {
-    front_offences::found(lowest_place(starts, shape, codes, indices, rows, decls, owners))
+    let initial = initials::initials(tree);
+    let stated = statements::statements(tree);
+    front_offences::lower(initial, stated)
 }

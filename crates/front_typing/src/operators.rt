@@ -9,44 +9,29 @@ pub(crate) fn binary(c: u8, t: u8, u: u8) -> u8
     ensures { result ≡ binary_code c t u }
 {
     if t == u {
-        return operation::binary_type(c, t);
+        operation::binary_type(c, t)
+    } else {
+        types::NONE
     }
-    types::NONE
 }
 
 // Whether an operator with the type r after it is right: it is judged only where its operand has a type.
 pub(crate) fn right_one(t: u8, r: u8) -> bool
     ensures { result ≡ right_one t r }
 {
-    if t == types::NONE {
-        return true;
-    }
-    if r == types::NONE {
-        return false;
-    }
-    true
+    t == types::NONE || r != types::NONE
 }
 
 // The same with two operands.
 pub(crate) fn right_two(t: u8, u: u8, r: u8) -> bool
     ensures { result ≡ right_two t u r }
 {
-    if t == types::NONE {
-        true
-    } else {
-        right_one(u, r)
-    }
+    t == types::NONE || right_one(u, r)
 }
 
 // Whether the type u fits where t is wanted; untyped is not judged.
 pub(crate) fn fits(t: u8, u: u8) -> bool
     ensures { result ≡ fits_code t u }
 {
-    if t == types::NONE {
-        return true;
-    }
-    if u == types::NONE {
-        return true;
-    }
-    t == u
+    t == types::NONE || u == types::NONE || t == u
 }

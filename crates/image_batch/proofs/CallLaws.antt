@@ -7,10 +7,10 @@ use lib.ListN.{length}
 use lib.IntN.{ℤ}
 use lib.Dec.{eqb}
 use borrow.Author.Tests.{eqb-true}
+use Rattle.std.specs.Prelude.{Err, Ok}
 use Rattle.base_answers.specs.declared.State.{State}
 use Rattle.base_answers.specs.declared.Refusal.{Refusal}
 use Rattle.base_answers.specs.declared.Refusal.TheVariants.{BadLengths}
-use Rattle.base_answers.specs.declared.Batched.TheVariants.{Taken, NotTaken}
 use Rattle.base_answers.specs.declared.Sections.{Sections}
 use Rattle.base_answers.specs.Answers.{Told, done, refusal, refused_by}
 use Rattle.spec_semantics.proofs.Basic.{and_left, and_right}
@@ -29,7 +29,7 @@ use Rattle.image_batch.specs.Batches.{Batches, Due, Runs}
 
 -- a call that is turned back by r
 abbrev pub back : State → Refusal → Outcome
-back s r = record { performed = false; state = s; answer = NotTaken r }
+back s r = record { performed = false; state = s; answer = Err r }
 
 module _ (b : List ℕ) (s : State) (n : ℕ) (is os : List ℤ) (ns : List ℕ) where
   -- what the call comes to, by what the opened image and the lengths come to
@@ -86,8 +86,8 @@ module _ (b : List ℕ) (s : State) (n : ℕ) (is os : List ℤ) (ns : List ℕ)
 
     -- the rows
     pub taken : q ≡ true → (p : Progress) (u : List ℤ) (v : List ℕ) → Runs (calls_of b s (calls_in n w.inputs w.outputs is os)) s p u v
-        → Batches (batch_of b s n is os ns) (record { performed = p.performed; state = p.state; answer = Taken }) u v
+        → Batches (batch_of b s n is os ns) (record { performed = p.performed; state = p.state; answer = Ok tt }) u v
     taken f p u v r =
-        subst (λ (c : Batch). Batches c (record { performed = p.performed; state = p.state; answer = Taken }) u v)
+        subst (λ (c : Batch). Batches c (record { performed = p.performed; state = p.state; answer = Ok tt }) u v)
         (sym (by_rows called (rows_by ∙ ap (λ (y : Bool). cond y called (refusal 17 0)) f)))
         (record { answer = refl; state = r.state; rows = r.rows; answers = r.answers; performed = r.performed })

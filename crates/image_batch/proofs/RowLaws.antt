@@ -1,21 +1,17 @@
 -- The rows of a batch in the code: the widths, one row, all rows, the whole call. Assumes nothing.
 use mathlib.Core.Path.{◌≡◌, refl, sym, ap, ◌∙◌, subst}
-use mathlib.Core.Bool.{Bool, false, ◌||◌}
+use mathlib.Core.Bool.{false}
 use mathlib.Core.Option.{some}
-use mathlib.Core.List.{List, [], ◌∷◌}
+use mathlib.Core.List.{List}
 use Prim.Native.Nat.{ℕ, zero, suc, ◌+◌, ◌-◌, ◌*◌, ◌≤◌, ◌<◌}
 use native.Mathlib.Nat.{zero-add, add-zero, zero-mul, suc-mul}
 use native.Mathlib.Omega.{arith}
-use lib.ListN.{length, take, drop, get_or, set, length-drop}
+use lib.ListN.{length, take, drop, get_or, length-drop}
 use lib.Seq.{length-take-le}
 use lib.IntN.{ℤ}
-use borrow.Rule.Slice.PartMut.{put_mid}
 use Rattle.base_answers.specs.declared.State.{State}
 use Rattle.base_answers.specs.declared.Sections.{Sections}
-use Rattle.base_answers.specs.declared.Advanced.{Advanced}
-use Rattle.base_answers.specs.Answers.{done, is_done, is_performed}
-use Rattle.base_answers.specs.Numbers.{numbers_of, cycled_numbers}
-use Rattle.spec_semantics.specs.Advances.{Advances}
+use Rattle.base_answers.specs.Answers.{done}
 use Rattle.spec_format.specs.Words.{Bytes}
 use Rattle.spec_format.specs.Signature.{Signature, signature_of}
 use Rattle.spec_format.specs.Image.{Table}
@@ -32,17 +28,6 @@ use Rattle.image_batch.specs.declared.Widths.{Widths}
 use Rattle.image_batch.specs.declared.Progress.{Progress}
 use Rattle.image_batch.specs.Batches.{Parts, call_at, Steps, Due, Runs}
 
--- three numbers that are stored one by one
-pub three_set : (l m : List ℕ) → length l ≡ 3 → length m ≡ 3 → set (set (set l 0 (get_or m 0 0)) 1 (get_or m 1 0)) 2 (get_or m 2 0) ≡ m
-three_set l m h g = rw (as_three l h) (sym (as_three m g))
-  where
-    as_three : (l : List ℕ) → length l ≡ 3 → l ≡ get_or l 0 0 ∷ get_or l 1 0 ∷ get_or l 2 0 ∷ []
-    as_three [] h = absurd (omega arith)
-    as_three (x ∷ []) h = absurd (omega arith)
-    as_three (x ∷ y ∷ []) h = absurd (omega arith)
-    as_three (x ∷ y ∷ z ∷ []) h = refl
-    as_three (x ∷ y ∷ z ∷ w ∷ l) h = absurd (omega arith)
-
 -- the counts of a signature section
 pub section_widths : (s : List ℕ) (i o : ℕ) → i ≡ get_or s 0 0 → o ≡ get_or s 1 0 → (σ : Signature) → signature_of s ≡ some σ
     → (i ≡ length σ.inputs) × (o ≡ length σ.outputs)
@@ -58,41 +43,6 @@ module _ (b : List ℕ) (x : Sections) (e : done x ≡ open_answer b (open_of b)
       let y : table b x e ≡ t = cc in
       subst (λ (u : Table). (i ≡ length u.signature.inputs) × (o ≡ length u.signature.outputs)) y
       (h (table b x e).signature (opens_signature _ _ _ (table b x e) (parts_checked b x e bytes).opens))
-
--- One row.
-
--- a part from x to x + k has k elements
-part : (x k : ℕ) → x + k - x ≡ k
-part x k = omega arith
-
--- where the next row's parts begin
-abbrev stepped : Widths → Progress → State → Bool → Progress
-stepped w p s f = record { input = p.input + w.inputs; output = p.output + w.outputs; answer = p.answer + 3; performed = f; state = s }
-
-module _ (b : List ℕ) (is : List ℤ) {w : Widths} {p : Progress} {os : List ℤ} {ns : List ℕ} {a : Advanced} {u : List ℤ} {m : List ℕ} {g : Bool} where
-  step : Advances (call_at b w p is os) a u → m ≡ cycled_numbers a.answer → g ≡ is_performed a.answer → (f : Bool) → f ≡ (p.performed || g)
-      → Steps (call_at b w p is os) w p (stepped w p a.state f) os (put_mid p.output w.outputs os u) ns (put_mid p.answer 3 ns m)
-  step k e q f j =
-      record {
-        input = refl;
-        output = refl;
-        answer = refl;
-        performed = j ∙ ap (λ (x : Bool). p.performed || x) (q ∙ ap is_done k.answer);
-        state = k.state;
-        rows = ap (put_mid p.output w.outputs os) k.row;
-        answers = ap (put_mid p.answer 3 ns) (e ∙ ap numbers_of k.answer);
-      }
-
-  -- the same with parts that are told by their ends
-  pub steps : Advances (cycle_of b p.state (take (p.input + w.inputs - p.input) (drop p.input is))
-      (take (p.output + w.outputs - p.output) (drop p.output os))) a u
-      → m ≡ cycled_numbers a.answer → g ≡ is_performed a.answer → (f : Bool) → f ≡ (p.performed || g)
-      → Steps (call_at b w p is os) w p (stepped w p a.state f) os (put_mid p.output (p.output + w.outputs - p.output) os u) ns
-      (put_mid p.answer (p.answer + 3 - p.answer) ns m)
-  steps h e q f j =
-      let x = part p.input w.inputs in
-      let y = part p.output w.outputs in
-      rw (y, part p.answer 3) (step (rw (x, y) at h) e q f j)
 
 -- All rows.
 
@@ -142,25 +92,23 @@ module _ {b : List ℕ} {w : Widths} {s : State} {n : ℕ} {is os : List ℤ} {n
       }
 
   -- after a row
-  pub rest_again : {m : ℕ} {p q : Progress} {now u : List ℤ} {nums v : List ℕ} → Rest b w s n is os ns m p now nums → 0 < m → Bytes b
+  pub rest_again : {k m : ℕ} {p q : Progress} {now u : List ℤ} {nums v : List ℕ} → Rest b w s n is os ns k p now nums → k ≡ suc m → Bytes b
       → Steps (call_at b w p is now) w p q now u nums v
-      → length u ≡ length now → length v ≡ length nums → Rest b w s n is os ns (m - 1) q u v
-  rest_again {m = zero} r h bytes t e f = absurd (omega arith)
-  rest_again {m = suc m} {p} {q} {now} {u} {nums} {v} r h bytes t e f =
-      let z = rest_room r h in
+      → length u ≡ length now → length v ≡ length nums → Rest b w s n is os ns m q u v
+  rest_again {k} {m} {p} {q} {now} {u} {nums} {v} o h bytes t e f =
+      let r : Rest b w s n is os ns (suc m) p now nums = rw h at o in
+      let z = rest_room r (omega arith) in
       let a =
       after_row b s n w.inputs w.outputs is os m p.input p.output p.answer p.performed p.state now nums z.outputs z.answers
       (row_as_long b bytes p.state (take w.inputs (drop p.input is)) now p.output w.outputs z.outputs) r.after in
-      let less : m ≡ suc m - 1 = omega arith in
-      subst (λ (k : ℕ). Rest b w s n is os ns k q u v) less
-      (record {
+      record {
         inputs = rw t.input (moved m p.input w.inputs (length is) r.inputs);
         outputs = rw t.output (moved m p.output w.outputs (length os) r.outputs);
         numbers = rw t.answer (moved m p.answer 3 (length ns) r.numbers);
         long = e ∙ r.long;
         told = f ∙ r.told;
         after = rw (t.input, t.output, t.answer, t.performed, t.state, t.rows, t.answers) a;
-      })
+      }
 
   -- after the last
   pub rest_end : {m : ℕ} {p : Progress} {now : List ℤ} {nums : List ℕ} → Rest b w s n is os ns m p now nums → m ≡ 0

@@ -2,7 +2,7 @@
 use Rattle.std.specs.Prelude.{◌≡◌, ◌||◌, List, ℕ, ◌+◌, ◌*◌, ◌≤◌, length, take, drop, ℤ}
 use borrow.Rule.Slice.PartMut.{put_mid}
 use Rattle.base_answers.specs.declared.State.{State}
-use Rattle.base_answers.specs.Answers.{batch_told, is_done}
+use Rattle.base_answers.specs.Answers.{told, is_done}
 use Rattle.base_answers.specs.Numbers.{numbers_of}
 use Rattle.spec_semantics.specs.Calls.{Called}
 use Rattle.spec_semantics.specs.Advances.{cycle_answer}
@@ -14,7 +14,7 @@ use Rattle.image_batch.specs.declared.Progress.{Progress}
 
 -- the outcome r, and the outputs u and the answers v as they are left, are those of the call c; it says whether a row was performed
 pub record Batches (c : Batch) (r : Outcome) (u : List ℤ) (v : List ℕ) : Type 0 where
-  pub answer : batch_told r.answer ≡ batch_answer c.answer
+  pub answer : told r.answer ≡ batch_answer c.answer
   pub state : r.state ≡ c.state
   pub rows : u ≡ c.rows
   pub answers : v ≡ c.answers

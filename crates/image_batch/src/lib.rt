@@ -1,10 +1,9 @@
 #![tactic(auto)]
 // Many rows in one call on an image (document 02, slip 1): the image is opened once, the three lengths are held to the count's due, and then each row is a cycle
 // from the state that the one before it left, with its own part of inputs, outputs and answers.
-ghost use Rattle.std.specs.Prelude.{◌≡◌, false, ◌&&◌, ◌||◌, ◌*◌, eqb, length};
+ghost use Rattle.std.specs.Prelude.{◌≡◌, false, ◌&&◌, ◌||◌, ◌*◌, eqb, length, Err};
 ghost use Rattle.std.proofs.Math.Option.{some};
-ghost use Rattle.base_answers.specs.declared.Batched.TheVariants.{NotTaken};
-ghost use Rattle.base_answers.specs.Answers.{done, batch_told};
+ghost use Rattle.base_answers.specs.Answers.{done, told};
 ghost use Rattle.spec_format.specs.Opening.{opened, open_of};
 ghost use Rattle.spec_format.specs.Signature.{Signature, signature_of};
 ghost use Rattle.spec_format.specs.Image.{Table};
@@ -13,7 +12,7 @@ ghost use Rattle.spec_format.specs.Batch.{calls_in, batch_of, batch_answer};
 ghost use Rattle.image_loader.specs.Open.{open_answer};
 ghost use Rattle.image_batch.specs.Batches.{Batches, Parts, call_at, Steps, Due, Runs};
 
-use base_answers::{Batched, Opened, Refusal, Sections, State, is_performed};
+use base_answers::{Refusal, Sections, State};
 use base_codes::{image, record};
 use image_checks::signature::count;
 
@@ -22,7 +21,7 @@ use image_checks::signature::count;
 pub struct Outcome {
     pub performed: bool,
     pub state: State,
-    pub answer: Batched,
+    pub answer: Result<(), Refusal>,
 }
 
 // How many values an input row and an output row of the image have.
@@ -49,32 +48,26 @@ fn due(len: usize, count: usize, width: usize) -> bool
     if width == 0 {
         return len == 0;
     }
-    if len % width != 0 {
-        return false;
-    }
-    len / width == count
+    len % width == 0 && len / width == count
 }
 
 // Whether the lengths of inputs, outputs and answers are all the count's due.
 fn all_due(width: Widths, count: usize, inputs: usize, outputs: usize, answers: usize) -> bool
     ensures { result ≡ (eqb inputs (count * width.inputs) && (eqb outputs (count * width.outputs) && eqb answers (count * 3))) }
 {
-    if !due(inputs, count, width.inputs) {
-        return false;
-    }
-    if !due(outputs, count, width.outputs) {
-        return false;
-    }
-    due(answers, count, record::ANSWER)
+    due(inputs, count, width.inputs)
+        && due(outputs, count, width.outputs)
+        && due(answers, count, record::ANSWER)
 }
 
 // The widths by the counts of a signature section.
 fn widths_in(signature: &[u8]) -> Widths
     ensures { (σ : Signature) → signature_of signature.now ≡ some σ → (result.inputs ≡ length σ.inputs) × (result.outputs ≡ length σ.outputs) }
 {
-    let inputs = count(signature, image::INPUTS);
-    let outputs = count(signature, image::OUTPUTS);
-    Widths { inputs, outputs }
+    Widths {
+        inputs: count(signature, image::INPUTS),
+        outputs: count(signature, image::OUTPUTS),
+    }
 }
 
 // The widths of an image that was opened.
@@ -82,26 +75,7 @@ fn widths_of(image: &[u8], at: Sections) -> Widths
     requires { done at ≡ open_answer image.now (open_of image.now) }
     ensures { (t : Table) → open_of image.now ≡ opened t → (result.inputs ≡ length t.signature.inputs) × (result.outputs ≡ length t.signature.outputs) }
 {
-    let signature = at.signature;
-    let lines = at.lines;
-    widths_in(&image[signature..lines])
-}
-
-// Whether one of two holds.
-fn either(a: bool, b: bool) -> bool
-    ensures { result ≡ (a || b) }
-{
-    if a { true } else { b }
-}
-
-// Three numbers into their place.
-fn put(part: &mut [u32], numbers: [u32; record::ANSWER])
-    requires { length part.old ≡ 3 }
-    ensures { part.new ≡ numbers }
-{
-    part[record::NUMBER] = numbers[record::NUMBER];
-    part[record::AT] = numbers[record::AT];
-    part[record::COUNT] = numbers[record::COUNT];
+    widths_in(&image[at.signature..at.lines])
 }
 
 // One row on an image that was opened before.
@@ -119,7 +93,6 @@ fn row(
     ensures { Steps (call_at image.now width p inputs.now outputs.old)
         width p result outputs.old outputs.new answers.old answers.new }
 {
-    let s = p.state;
     let from = p.input;
     let to = p.output;
     let told = p.answer;
@@ -129,21 +102,17 @@ fn row(
     let a = image_runtime::cycle_opened(
         image,
         at,
-        s,
+        p.state,
         &inputs[from..input],
         &mut outputs[to..output],
     );
-    let cycled = a.answer;
-    let state = a.state;
-    let numbers = base_answers::numbers::cycled(cycled);
-    put(&mut answers[told..answer], numbers);
-    let performed = either(p.performed, is_performed(cycled));
+    answers[told..answer].copy_from_slice(&base_answers::numbers::answered(a.answer));
     Progress {
         input,
         output,
         answer,
-        performed,
-        state,
+        performed: p.performed || a.answer.is_ok(),
+        state: a.state,
     }
 }
 
@@ -169,22 +138,20 @@ fn rows(
         performed: false,
         state: s,
     };
-    let mut left = count;
-    while 0 < left {
+    for _ in 0..count {
         p = row(image, at, width, p, inputs, outputs, answers);
-        left -= 1;
     }
     p
 }
 
 // A refused call: the state as it came.
 fn refused(s: State, r: Refusal) -> Outcome
-    ensures { result ≡ record { performed = false; state = s; answer = NotTaken r } }
+    ensures { result ≡ record { performed = false; state = s; answer = Err r } }
 {
     Outcome {
         performed: false,
         state: s,
-        answer: Batched::NotTaken(r),
+        answer: Err(r),
     }
 }
 
@@ -206,12 +173,10 @@ fn opened_cycles(
         return refused(s, Refusal::BadLengths);
     }
     let p = rows(image, at, width, s, count, inputs, outputs, answers);
-    let performed = p.performed;
-    let state = p.state;
     Outcome {
-        performed: performed,
-        state: state,
-        answer: Batched::Taken,
+        performed: p.performed,
+        state: p.state,
+        answer: Ok(()),
     }
 }
 
@@ -227,10 +192,9 @@ pub fn cycles(
 ) -> Outcome
     ensures { Batches (batch_of image.now s count inputs.now outputs.old answers.old) result outputs.new answers.new }
 {
-    let opened = image_loader::open(image);
-    match opened {
-        Opened::Image(at) => opened_cycles(image, at, s, count, inputs, outputs, answers),
-        Opened::NotOpened(r) => refused(s, r),
+    match image_loader::open(image) {
+        Ok(at) => opened_cycles(image, at, s, count, inputs, outputs, answers),
+        Err(r) => refused(s, r),
     }
 }
 
@@ -242,9 +206,9 @@ pub fn advance_rows(
     inputs: &[i32],
     outputs: &mut [i32],
     answers: &mut [u32],
-) -> Batched
+) -> Result<(), Refusal>
     ensures { let c = batch_of image.now state.old count inputs.now outputs.old answers.old in
-        (batch_told result ≡ batch_answer c.answer)
+        (told result ≡ batch_answer c.answer)
         × (state.new ≡ c.state)
         × (outputs.new ≡ c.rows)
         × (answers.new ≡ c.answers) }

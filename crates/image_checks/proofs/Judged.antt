@@ -16,7 +16,7 @@ use Rattle.spec_format.specs.State.{state_ok, fresh_table}
 use Rattle.spec_semantics.specs.Records.{state_for, pad}
 use Rattle.spec_format.specs.Cycle.{row_place}
 use Rattle.spec_simulation.proofs.InputRows.{row_right}
-use Rattle.image_checks.specs.declared.RowCheck.TheVariants.{Right, WrongAt}
+use Rattle.std.specs.Prelude.{Ok, Err}
 use Rattle.image_checks.specs.Places.{Opens, outputs_at, variables_at, wrong_from, slots_at, initials_at, type_bytes_at, place_at}
 use Rattle.image_checks.specs.Answers.{check_of}
 use Rattle.image_checks.proofs.Positions.{signature_placed, wrong_values, slots_of_cells, initials_of_cells, types_of_cells, type_bytes_length}
@@ -26,11 +26,11 @@ use Rattle.image_checks.proofs.Fields.{opens_place}
 -- Rows.
 
 module _ (s : List ℕ) (i : List ℤ) (n : ℕ) where
-  pub inputs_wrong : (length i ≡ get_or s 0 0 → ⊥) → (σ : Signature) → signature_of s ≡ some σ → WrongAt 0 ≡ check_of (row_place σ i n)
+  pub inputs_wrong : (length i ≡ get_or s 0 0 → ⊥) → (σ : Signature) → signature_of s ≡ some σ → Err 0 ≡ check_of (row_place σ i n)
   unfolding row_place
   inputs_wrong h σ e = rw (ne_eqb (length i) (length σ.inputs) (λ q. h (q ∙ sym (signature_placed s σ e).inputs_count)))
 
-  pub room_wrong : length i ≡ get_or s 0 0 → (n ≡ get_or s 1 0 → ⊥) → (σ : Signature) → signature_of s ≡ some σ → WrongAt 0 ≡ check_of (row_place σ i n)
+  pub room_wrong : length i ≡ get_or s 0 0 → (n ≡ get_or s 1 0 → ⊥) → (σ : Signature) → signature_of s ≡ some σ → Err 0 ≡ check_of (row_place σ i n)
   unfolding row_place
   room_wrong l h σ e =
       let p = signature_placed s σ e in
@@ -44,18 +44,18 @@ module _ (s : List ℕ) (i : List ℤ) (n : ℕ) where
       (ap check_of (wrong_values s 0 σ.inputs i p.inputs (l ∙ p.inputs_count)))
 
 -- rows that do not meet 14: the output row has room for no more than the outputs' 16 slots
-pub room_few : (s : List ℕ) (i : List ℤ) (n : ℕ) (σ : Signature) → signature_of s ≡ some σ → check_of (row_place σ i n) ≡ Right → n ≤ 16
+pub room_few : (s : List ℕ) (i : List ℤ) (n : ℕ) (σ : Signature) → signature_of s ≡ some σ → check_of (row_place σ i n) ≡ Ok tt → n ≤ 16
 room_few s i n σ e h = omega (arith, (row_right σ i n (check_right (row_place σ i n) h)).1, (signature_placed s σ e).few_outputs)
   where
-    check_right : (o : Option ℕ) → check_of o ≡ Right → o ≡ none
+    check_right : (o : Option ℕ) → check_of o ≡ Ok tt → o ≡ none
     check_right none q = refl
-    check_right (some k) q = absurd (let z : ◌≡◌ {A = ℕ} 0 1 = cc in omega arith)
+    check_right (some k) q = cc
 
 -- States.
 
 module _ (s l : List ℕ) (x : State) (o : length x.outputs ≡ 16) (v : length x.variables ≡ 32) where
   -- place, outputs and variables by the bytes
-  state_judged : (t : Table) (c : List ℕ) → Opens s l c t
+  pub state_judged : (t : Table) (c : List ℕ) → Opens s l c t
       → (place_at l x.place && (slots_at s (outputs_at s) (get_or s 1 0) x.outputs && slots_at s (variables_at s) (get_or s 2 0) x.variables)) ≡ state_ok t x
   unfolding state_ok
   state_judged t c e =

@@ -1,22 +1,22 @@
 -- The steps of the loops: what holds of the rest of a row or of slots from an index holds of the rest from the next. Assumes nothing.
-use Prim.Native.Nat.{ℕ, zero, suc, ◌+◌, ◌-◌, ◌*◌, ◌/◌, ◌≤◌, ◌<◌}
+use Prim.Native.Nat.{ℕ, zero, suc, ◌+◌, ◌-◌, ◌*◌, ◌≤◌, ◌<◌}
 use native.Mathlib.Numerals.{add-one}
 use native.Mathlib.Omega.{arith}
 use native.Mathlib.Decide.{dec_lt}
 use mathlib.Core.Path.{◌≡◌, refl, sym, ap, ◌∙◌}
-use mathlib.Core.Logic.{◌⊎◌, inl, inr}
 use mathlib.Core.Bool.{Bool, true, false, cond, ◌&&◌}
 use mathlib.Core.Option.{none, some}
 use mathlib.Core.List.{List, [], ◌∷◌, ◌++◌, append_assoc}
 use lib.ListN.{length, get_or, take, drop, set, drop_of_length-le}
-use lib.Seq.{length-take-le, take-suc, take_all, drop-cons, set_at}
+use lib.Seq.{length-take-le, take-suc, drop-cons, set_at}
 use lib.IntN.{ℤ, pos}
-use lib.Dec.{ltb, eqb}
-use borrow.Author.Tests.{lt-ltb, le-ltb, eq-eqb, ne_eqb}
+use lib.Dec.{ltb}
+use borrow.Author.Tests.{lt-ltb, le-ltb}
+use Rattle.std.specs.List.{list_all}
 use Rattle.spec_semantics.specs.Records.{zeros, pad}
 use Rattle.spec_design.specs.Types.{eq_z}
 use Rattle.base_signed.specs.Signed.{in_type_byte}
-use Rattle.image_checks.specs.Places.{wrong_from, slots_at, initial_at, initials_at, type_bytes_at, place_at}
+use Rattle.image_checks.specs.Places.{wrong_from, slots_at, initial_at, initials_at, type_bytes_at}
 
 -- Input values.
 
@@ -46,31 +46,6 @@ written_more row o k u v h j e f =
     ap (λ l. set l k v) (e ∙ ap (λ l. take k o ++ l) (drop-cons row k (pos 0) h))
     ∙ set_at (take k o) (get_or row k (pos 0)) (drop (suc k) row) v k n
     ∙ rw (add-one k, take-suc o k (pos 0) j, f) (sym (append_assoc (take k o) (get_or o k (pos 0) ∷ []) (drop (suc k) row)))
-
--- all elements written, or all that the row has places for
-pub written_whole : (row o : List ℤ) (k : ℕ) (u : List ℤ) → k ≤ length row → k ≤ length o → (length row ≤ k) ⊎ (length o ≤ k) → u ≡ take k o ++ drop k row
-    → u ≡ take (length row) o ++ drop (length o) row
-written_whole row o k u h j (inl m) e =
-    let p : k ≡ length row = omega arith in
-    e ∙ rw (p, drop_of_length-le row {i = length row} (omega arith), drop_of_length-le row {i = length o} (omega arith))
-written_whole row o k u h j (inr m) e =
-    let p : k ≡ length o = omega arith in
-    e ∙ rw (p, take_all (length o) o (omega arith), take_all (length row) o (omega arith))
-
--- Places.
-
-module _ (l : List ℕ) (p : ℕ) where
-  pub place_beginning : p ≡ 512 → true ≡ place_at l p
-  unfolding place_at
-  place_beginning e = rw (eq-eqb p 512 e)
-
-  pub place_line : (p ≡ 512 → ⊥) → p < length l / 12 → eqb (get_or l (p * 12) 0) 0 ≡ place_at l p
-  unfolding place_at
-  place_line f h = rw (ne_eqb p 512 f, lt-ltb p (length l / 12) h)
-
-  pub place_none : (p ≡ 512 → ⊥) → length l / 12 ≤ p → false ≡ place_at l p
-  unfolding place_at
-  place_none f h = rw (ne_eqb p 512 f, le-ltb p (length l / 12) h)
 
 -- Slots.
 
@@ -109,21 +84,11 @@ slots_short s p zero l h = absurd (omega arith)
 slots_short s p (suc n) [] h = refl
 slots_short s p (suc n) (z ∷ l) h = both_wrong (in_type_byte (get_or s p 0) z) _ (slots_short s (p + 5) n l (omega arith))
 
--- unused slots, from the k-th on
-module _ (l : List ℤ) (k : ℕ) where
-  zeros_step : k < length l → zeros (drop k l) ≡ (eq_z (get_or l k (pos 0)) (pos 0) && zeros (drop (k + 1) l))
-  unfolding zeros
-  zeros_step h = rw (add-one k, drop-cons l k (pos 0) h)
-
-  pub zeros_again : k < length l → eq_z (get_or l k (pos 0)) (pos 0) ≡ true → zeros (drop (k + 1) l) ≡ zeros (drop k l)
-  zeros_again h e = sym (zeros_step h ∙ rw e)
-
-  pub zeros_wrong : k < length l → eq_z (get_or l k (pos 0)) (pos 0) ≡ false → false ≡ zeros (drop k l)
-  zeros_wrong h e = sym (zeros_step h ∙ rw e)
-
-  pub zeros_end : length l ≤ k → true ≡ zeros (drop k l)
-  unfolding zeros
-  zeros_end h = rw (drop_of_length-le l h)
+-- unused slots are all 0
+pub zeros_all : (l : List ℤ) → list_all (λ z. eq_z z (pos 0)) l ≡ zeros l
+unfolding zeros
+zeros_all [] = refl
+zeros_all (z ∷ l) = ap (λ b. eq_z z (pos 0) && b) (zeros_all l)
 
 -- at the first slot the rest is the whole
 pub slots_first : (s : List ℕ) (at n : ℕ) (l : List ℤ) → slots_at s (at + 5 * 0) (n - 0) (drop 0 l) ≡ slots_at s at n l

@@ -6,10 +6,3 @@ pub mod rows; // refusal 14, and the output row
 pub mod states; // refusal 15, and the fresh state
 pub mod lines; // where a cycle begins
 pub mod types; // the type bytes that code is evaluated over
-
-// What refusal 14 says of the rows: they are right, or wrong at a place.
-#[derive(Clone, Copy)]
-pub enum RowCheck {
-    Right,
-    WrongAt(usize),
-}

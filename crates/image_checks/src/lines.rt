@@ -17,5 +17,5 @@ pub fn first_line(lines: &[u8], place: u16) -> usize
     if place == record::BEGINNING {
         return 0;
     }
-    word2(lines, (place as usize) * image::LINE + image::LINE_NEXT) as usize
+    word2(lines, usize::from(place) * image::LINE + image::LINE_NEXT) as usize
 }

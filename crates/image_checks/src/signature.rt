@@ -5,14 +5,14 @@ ghost use Rattle.image_checks.specs.Places.{outputs_at, variables_at, initial_at
 
 use base_codes::image;
 use base_signed::{from_bits, in_type};
-use image_words::{byte, wide, word4};
+use image_words::{byte, word4};
 
 // The count of inputs (0), outputs (1) or variables (2).
 pub fn count(s: &[u8], k: usize) -> usize
     ensures value { result ≡ get_or s.now k 0 }
     ensures upper_bound { result < 256 }
 {
-    wide(byte(s, k)) as usize
+    usize::from(byte(s, k))
 }
 
 // Where the outputs begin.

@@ -10,37 +10,23 @@ ghost use Rattle.image_checks.specs.Places.{Opens, slots_at, initials_at, place_
 use super::signature::{count, initial, outputs_at, value_ok, variables_at};
 use base_answers::State;
 use base_codes::{image, limit, record};
-use base_signed::equal;
 use image_words::byte;
 
 // Whether a place is the beginning or a wait's line.
+#[tactic(auto, unfolding(crate::specs::Places::place_at))]
 pub fn place_ok(lines: &[u8], place: u16) -> bool
     ensures { result ≡ place_at lines.now place }
 {
-    if place == record::BEGINNING {
-        return true;
-    }
-    let p = place as usize;
-    if p < lines.len() / image::LINE {
-        return byte(lines, p * image::LINE) == image::WAIT;
-    }
-    false
+    let p = usize::from(place);
+    place == record::BEGINNING
+        || (p < lines.len() / image::LINE && byte(lines, p * image::LINE) == image::WAIT)
 }
 
-// Whether the slots from the n-th on are unused ones: 0.
-fn unused_ok(slots: &[i32], n: usize) -> bool
-    requires { n ≤ length slots.now }
-    ensures { result ≡ zeros (drop n slots.now) }
+// Whether slots are unused ones: 0.
+fn unused_ok(slots: &[i32]) -> bool
+    ensures { result ≡ zeros slots.now }
 {
-    let mut k = n;
-    while k < slots.len() {
-        let unused = equal(slots[k], 0);
-        if !unused {
-            return false;
-        }
-        k += 1;
-    }
-    true
+    slots.iter().all(|v| *v == 0)
 }
 
 // Whether slots hold values of the n outputs or variables that begin at a position, and 0 after them. Most slots of a state are unused, so those have a loop of
@@ -52,42 +38,32 @@ fn slots_ok(signature: &[u8], at: usize, n: usize, slots: &[i32]) -> bool
     if slots.len() < n {
         return false;
     }
-    let mut k: usize = 0;
-    while k < n {
-        let right = value_ok(signature, at + image::SLOT * k, slots[k]);
-        if !right {
+    let (used, unused) = slots.split_at(n);
+    for (k, v) in used.iter().enumerate() {
+        if !value_ok(signature, at + image::SLOT * k, *v) {
             return false;
         }
-        k += 1;
     }
-    unused_ok(slots, n)
+    unused_ok(unused)
 }
 
 // Refusal 15: whether the state is one of the opened image.
 pub fn state_ok(signature: &[u8], lines: &[u8], s: State) -> bool
     ensures { (t : Table) (code : List ℕ) → Opens signature.now lines.now code t → result ≡ state_ok t s }
 {
-    let placed = place_ok(lines, s.place);
-    if !placed {
-        return false;
-    }
-    let outputs = s.outputs;
-    let right = slots_ok(
-        signature,
-        outputs_at(signature),
-        count(signature, image::OUTPUTS),
-        &outputs,
-    );
-    if !right {
-        return false;
-    }
-    let variables = s.variables;
-    slots_ok(
-        signature,
-        variables_at(signature),
-        count(signature, image::VARIABLES),
-        &variables,
-    )
+    place_ok(lines, s.place)
+        && slots_ok(
+            signature,
+            outputs_at(signature),
+            count(signature, image::OUTPUTS),
+            &s.outputs,
+        )
+        && slots_ok(
+            signature,
+            variables_at(signature),
+            count(signature, image::VARIABLES),
+            &s.variables,
+        )
 }
 
 // Puts the initial values of the n outputs or variables that begin at a position into slots, and 0 after them.
@@ -95,10 +71,8 @@ fn fill(signature: &[u8], at: usize, n: usize, slots: &mut [i32])
     requires { at < 2048 }
     ensures { slots.new ≡ pad (length slots.old) (initials_at signature.now at n) }
 {
-    let mut k: usize = 0;
-    while k < slots.len() {
-        slots[k] = initial(signature, at + image::SLOT * k + 1, k < n);
-        k += 1;
+    for (k, slot) in slots.iter_mut().enumerate() {
+        *slot = initial(signature, at + image::SLOT * k + 1, k < n);
     }
 }
 

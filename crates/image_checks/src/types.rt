@@ -19,15 +19,13 @@ pub fn input_types<'a>(signature: &'a [u8]) -> &'a [u8]
     &signature[image::COUNTS..end]
 }
 
-// Copies the type bytes of the n outputs or variables that begin at a position.
-fn copy_types(signature: &[u8], at: usize, n: usize, kinds: &mut [u8])
-    requires { (at < 2048) × (n < 256) × (n ≤ length kinds.old) }
-    ensures { kinds.new ≡ type_bytes_at signature.now at n ++ drop n kinds.old }
+// Copies the type bytes of outputs or variables that begin at a position, as many as there are places for.
+fn copy_types(signature: &[u8], at: usize, kinds: &mut [u8])
+    requires { (at < 2048) × (length kinds.old < 256) }
+    ensures { kinds.new ≡ type_bytes_at signature.now at (length kinds.old) }
 {
-    let mut k: usize = 0;
-    while k < n {
-        kinds[k] = byte(signature, at + image::SLOT * k);
-        k += 1;
+    for (k, kind) in kinds.iter_mut().enumerate() {
+        *kind = byte(signature, at + image::SLOT * k);
     }
 }
 
@@ -41,6 +39,6 @@ pub fn variable_types(signature: &[u8], kinds: &mut [u8]) -> usize
     if kinds.len() < n {
         return 0;
     }
-    copy_types(signature, variables_at(signature), n, kinds);
+    copy_types(signature, variables_at(signature), &mut kinds[..n]);
     n
 }

@@ -8,9 +8,9 @@ use native.Mathlib.Omega.{arith}
 use lib.Dec.{ltb}
 use lib.ListN.{length, take, length-append}
 use borrow.Author.Tests.{ltb-true}
-use Rattle.base_answers.specs.declared.Compiled as declared
-use Rattle.base_answers.specs.declared.Compiled.TheVariants.{Written}
-use Rattle.base_answers.specs.Answers.{compile_told}
+use Rattle.std.specs.Prelude.{Ok, Result}
+use Rattle.base_answers.specs.declared.Refusal.{Refusal}
+use Rattle.base_answers.specs.Answers.{told}
 use Rattle.spec_design.specs.Statement as D
 use Rattle.spec_design.specs.Process.{Process, WellFormed}
 use Rattle.spec_language.specs.Validity.{Valid}
@@ -98,8 +98,8 @@ written_opens text buffer n e =
     }
 
 -- What `compile` wrote, by its contract: the bytes that it answers open, and start as the text's design does.
-pub compile_opens : (text before after : List ℕ) (r : declared.Compiled) (n : ℕ) → compile_told r ≡ (compile_of text before).answer
+pub compile_opens : (text before after : List ℕ) (r : Result ℕ Refusal) (n : ℕ) → told r ≡ (compile_of text before).answer
     → after ≡ (compile_of text before).buffer
-    → r ≡ Written n → OpensAs text (take n after)
+    → r ≡ Ok n → OpensAs text (take n after)
 compile_opens text before after r n a b w =
-    subst (λ (s : List ℕ). OpensAs text (take n s)) (sym b) (written_opens text before n (sym a ∙ ap compile_told w))
+    subst (λ (s : List ℕ). OpensAs text (take n s)) (sym b) (written_opens text before n (sym a ∙ ap told w))

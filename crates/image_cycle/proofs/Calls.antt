@@ -8,9 +8,11 @@ use mathlib.Core.Option.{Option, none, some}
 use mathlib.Core.List.{List, [], append-nil}
 use lib.ListN.{length, drop_of_length-le}
 use lib.IntN.{ℤ}
+use Rattle.std.specs.Prelude.{Result, Err, Ok}
+use Rattle.base_codes.specs.declared.fault.Fault.{Fault}
+use Rattle.base_codes.specs.Fault.{number_of}
 use Rattle.base_answers.specs.declared.State.{State}
 use Rattle.base_answers.specs.declared.Counts.{Counts}
-use Rattle.base_answers.specs.declared.Cycled.TheVariants.{Performed, NotPerformed}
 use Rattle.base_answers.specs.declared.Refusal.{Refusal}
 use Rattle.base_answers.specs.declared.Refusal.TheVariants.{BadRow, BadState}
 use Rattle.spec_semantics.specs.Equations.{Memory}
@@ -28,10 +30,8 @@ use Rattle.spec_simulation.proofs.States.{state_exactly, memory_back}
 use Rattle.spec_semantics.proofs.Slots.{pad_length, pad_first}
 use Rattle.spec_simulation.proofs.Outcomes.{row_outcome}
 use Rattle.image_walk.specs.declared.Followed.TheVariants.{Reached, Stopped, Spent}
-use Rattle.image_walk.specs.Follow.{Went, went}
+use Rattle.image_walk.specs.Follow.{Went, at_wait, stopped, spent, went}
 use Rattle.image_walk.proofs.Walks.{Shows}
-use Rattle.image_checks.specs.declared.RowCheck.{RowCheck}
-use Rattle.image_checks.specs.declared.RowCheck.TheVariants.{Right, WrongAt}
 use Rattle.image_checks.specs.Answers.{check_of}
 use Rattle.base_answers.specs.declared.Advanced.{Advanced}
 use Rattle.base_answers.specs.Answers.{done, refusal, refused_by, cycle_told, operator_refusal}
@@ -68,27 +68,27 @@ module _ (s l c : List ℕ) (t : Table) (h : Checked s l c t) (x : State) (i o :
 
   -- a wait was reached
   pub reached_moves : (p : ℕ) (n : Counts) (o' v' : List ℤ) → went (Reached p n.lines) o' v' ≡ ran_for t l c x.place i x.outputs x.variables
-      → (p < 65536) × ((a : Advanced) → a ≡ record { state = record { place = p; outputs = o'; variables = v' }; answer = Performed n }
+      → (p < 65536) × ((a : Advanced) → a ≡ record { state = record { place = p; outputs = o'; variables = v' }; answer = Ok n }
       → Moves (row_of t x i o) a)
   unfolding state_for
   reached_moves p n o' v' e = on (row_of t x i o) refl (row_outcome t h.held.good x i o)
     where
       on : (r : Called) → row_of t x i o ≡ r → Outcome t x i o r
-          → (p < 65536) × ((a : Advanced) → a ≡ record { state = record { place = p; outputs = o'; variables = v' }; answer = Performed n }
+          → (p < 65536) × ((a : Advanced) → a ≡ record { state = record { place = p; outputs = o'; variables = v' }; answer = Ok n }
           → Moves (row_of t x i o) a)
       on r q (row_refused k m) = none_some k (sym right ∙ (row_exactly t.signature i (length o) k).1 m)
       on r q (state_refused m g) = absurd (g good)
       on r q (operator_refused number y is m g b z) =
-          let w : (ran_for t l c x.place i x.outputs x.variables).answer ≡ Stopped number y = rw z at state_shows in
-          let f : Reached p n.lines ≡ Stopped number y = ap (λ (u : Went). u.answer) e ∙ w in
+          let w : (ran_for t l c x.place i x.outputs x.variables).answer ≡ stopped number y = rw z at state_shows in
+          let f : at_wait p n.lines ≡ stopped number y = ap (λ (u : Went). u.answer) e ∙ w in
           absurd (let d : ◌≡◌ {A = ℕ} 0 1 = cc in omega arith)
       on r q (performs p' τ m g z w y gs lo) =
           let u : ran_for t l c x.place i x.outputs
-          x.variables ≡ record { answer = Reached p' (length τ.way); outputs = pad 16 τ.memory.outputs; variables = pad 32 τ.memory.variables } =
+          x.variables ≡ record { answer = at_wait p' (length τ.way); outputs = pad 16 τ.memory.outputs; variables = pad 32 τ.memory.variables } =
           rw z at state_shows in
           let a : went (Reached p n.lines) o' v' ≡ record
-          { answer = Reached p' (length τ.way); outputs = pad 16 τ.memory.outputs; variables = pad 32 τ.memory.variables } = e ∙ u in
-          let b : Reached p n.lines ≡ Reached p' (length τ.way) = ap (λ (k : Went). k.answer) a in
+          { answer = at_wait p' (length τ.way); outputs = pad 16 τ.memory.outputs; variables = pad 32 τ.memory.variables } = e ∙ u in
+          let b : at_wait p n.lines ≡ at_wait p' (length τ.way) = ap (λ (k : Went). k.answer) a in
           let pe : p ≡ p' = cc in
           let ne : n.lines ≡ length τ.way = cc in
           let oe : o' ≡ pad 16 τ.memory.outputs = ap (λ (k : Went). k.outputs) a in
@@ -102,17 +102,17 @@ module _ (s l c : List ℕ) (t : Table) (h : Checked s l c t) (x : State) (i o :
           )
 
   -- an operator was refused: by its number, at its line
-  pub stopped_moves : (z y : ℕ) (d : Refusal) (o' v' : List ℤ) → went (Stopped z y) o' v' ≡ ran_for t l c x.place i x.outputs x.variables
-      → d ≡ operator_refusal z y → (a : Advanced) → a ≡ record { state = x; answer = NotPerformed d } → Moves (row_of t x i o) a
+  pub stopped_moves : (z : Fault) (y : ℕ) (d : Refusal) (o' v' : List ℤ) → went (Stopped z y) o' v' ≡ ran_for t l c x.place i x.outputs x.variables
+      → d ≡ operator_refusal (number_of z) y → (a : Advanced) → a ≡ record { state = x; answer = Err d } → Moves (row_of t x i o) a
   stopped_moves z y d o' v' e ed a ea = on (row_of t x i o) refl (row_outcome t h.held.good x i o)
     where
       on : (r : Called) → row_of t x i o ≡ r → Outcome t x i o r → Moves (row_of t x i o) a
       on r q (row_refused k m) = none_some k (sym right ∙ (row_exactly t.signature i (length o) k).1 m)
       on r q (state_refused m g) = absurd (g good)
       on r q (operator_refused number y' is m g b u) =
-          let w : (ran_for t l c x.place i x.outputs x.variables).answer ≡ Stopped number y' = rw u at state_shows in
-          let f : Stopped z y ≡ Stopped number y' = ap (λ (k : Went). k.answer) e ∙ w in
-          let ze : z ≡ number = cc in
+          let w : (ran_for t l c x.place i x.outputs x.variables).answer ≡ stopped number y' = rw u at state_shows in
+          let f : stopped (number_of z) y ≡ stopped number y' = ap (λ (k : Went). k.answer) e ∙ w in
+          let ze : number_of z ≡ number = cc in
           let ye : y ≡ y' = cc in
           let de : d ≡ operator_refusal number y' = rw (← ze, ← ye) ed in
           subst (λ (k : Called). Moves k a) (sym q) (record {
@@ -131,8 +131,8 @@ module _ (s l c : List ℕ) (t : Table) (h : Checked s l c t) (x : State) (i o :
       on r (row_refused k m) = none_some k (sym right ∙ (row_exactly t.signature i (length o) k).1 m)
       on r (state_refused m g) = absurd (g good)
       on r (operator_refused number y is m g b u) =
-          let w : (ran_for t l c x.place i x.outputs x.variables).answer ≡ Stopped number y = rw u at state_shows in
-          let f : Spent ≡ Stopped number y = ap (λ (k : Went). k.answer) e ∙ w in
+          let w : (ran_for t l c x.place i x.outputs x.variables).answer ≡ stopped number y = rw u at state_shows in
+          let f : spent ≡ stopped number y = ap (λ (k : Went). k.answer) e ∙ w in
           absurd (let d : ◌≡◌ {A = ℕ} 0 1 = cc in omega arith)
       on r (performs p τ m g u w d gs lo) =
           let f = ap (λ (k : Went). k.answer) (e ∙ (rw u at state_shows)) in
@@ -141,32 +141,32 @@ module _ (s l c : List ℕ) (t : Table) (h : Checked s l c t) (x : State) (i o :
 -- Rows and states that are refused.
 module _ (t : Table) (x : State) (i o : List ℤ) where
   -- 14
-  pub row_advances : (k : ℕ) (q : RowCheck) → q ≡ check_of (row_place t.signature i (length o)) → q ≡ WrongAt k
-      → (a : Advanced) → a ≡ record { state = x; answer = NotPerformed (BadRow k) } → Advances (row_of t x i o) a o
+  pub row_advances : (k : ℕ) (q : Result (Unit {0}) ℕ) → q ≡ check_of (row_place t.signature i (length o)) → q ≡ Err k
+      → (a : Advanced) → a ≡ record { state = x; answer = Err (BadRow k) } → Advances (row_of t x i o) a o
   unfolding row_of
   row_advances k q e f a ea = on (row_place t.signature i (length o)) refl
     where
       on : (b : Option ℕ) → row_place t.signature i (length o) ≡ b → Advances (row_of t x i o) a o
       on none z =
-          let g : WrongAt k ≡ Right = sym f ∙ e ∙ ap check_of z in
-          absurd (let d : ◌≡◌ {A = ℕ} 0 1 = cc in omega arith)
+          let g : Err k ≡ Ok tt = sym f ∙ e ∙ ap check_of z in
+          cc
       on (some j) z =
-          let g : WrongAt k ≡ WrongAt j = sym f ∙ e ∙ ap check_of z in
+          let g : ◌≡◌ {A = Result (Unit {0}) ℕ} (Err k) (Err j) = sym f ∙ e ∙ ap check_of z in
           let y : k ≡ j = cc in
           rw z (record { answer = ap (λ (u : Advanced). cycle_told u.answer) ea ∙ ap (refusal 14) y; state = ap (λ (u : Advanced). u.state) ea; row = refl })
 
-  pub row_is_right : (q : RowCheck) → q ≡ check_of (row_place t.signature i (length o)) → q ≡ Right → row_place t.signature i (length o) ≡ none
+  pub row_is_right : (q : Result (Unit {0}) ℕ) → q ≡ check_of (row_place t.signature i (length o)) → q ≡ Ok tt → row_place t.signature i (length o) ≡ none
   row_is_right q e f = on (row_place t.signature i (length o)) refl
     where
       on : (b : Option ℕ) → row_place t.signature i (length o) ≡ b → row_place t.signature i (length o) ≡ none
       on none z = z
       on (some j) z =
-          let g : Right ≡ WrongAt j = sym f ∙ e ∙ ap check_of z in
-          absurd (let d : ◌≡◌ {A = ℕ} 0 1 = cc in omega arith)
+          let g : Ok tt ≡ Err j = sym f ∙ e ∙ ap check_of z in
+          cc
 
   -- 15
   pub state_moves : row_place t.signature i (length o) ≡ none → state_ok t x ≡ false → (a : Advanced)
-      → a ≡ record { state = x; answer = NotPerformed BadState }
+      → a ≡ record { state = x; answer = Err BadState }
       → Moves (row_of t x i o) a
   unfolding row_of
   state_moves z f a ea = rw (z, f) (record { answer = ap (λ (u : Advanced). cycle_told u.answer) ea; state = ap (λ (u : Advanced). u.state) ea })

@@ -5,7 +5,7 @@ use mathlib.Core.Path.{◌≡◌, refl, sym, ap, ◌∙◌}
 use mathlib.Core.Bool.{Bool, true, false, cond}
 use mathlib.Core.Option.{Option, some}
 use mathlib.Core.List.{List, [], ◌∷◌, ◌++◌, append_assoc, append-nil}
-use lib.ListN.{length, get_or, set, length-append}
+use lib.ListN.{length, get_or, length-append}
 use lib.Seq.{sets}
 use lib.Dec.{eqb}
 use lib.IntN.{ℤ, pos}
@@ -148,14 +148,3 @@ module _ (is vs : List Ty) (hi : length is ≤ 256) (hv : length vs ≤ 256) whe
   pub code_is : (e : Expr) (t : Option ExprTy) → fits is vs e t ≡ true → flat_bytes (ops e) ≡ code e
   unfolding code
   code_is e t h = let q = fits_type is vs e t h in ops_flat e q.0 q.1
-
--- STORES
-
-pub put_two : (l : List ℕ) (at : ℕ) {m k : List ℕ} {b₀ b₁ v₀ v₁ : ℕ} → b₀ ≡ v₀ → b₁ ≡ v₁ → m ≡ set l at b₀ → k ≡ set m (at + 1) b₁
-    → k ≡ sets l at (v₀ ∷ v₁ ∷ [])
-put_two l at {m} {k} {b₀} {b₁} {v₀} {v₁} e g p q =
-    put_after l at (v₀ ∷ []) (v₁ ∷ []) (p ∙ ap (λ (w : ℕ). set l at w) e) (q ∙ ap (λ (w : ℕ). set m (at + 1) w) g)
-
-pub put_cell : (l : List ℕ) (at kind : ℕ) {m k : List ℕ} {w v : ℕ} → m ≡ set l at kind → k ≡ sets m (at + 1) (Words.bytes4 w) → w ≡ v
-    → k ≡ sets l at (kind ∷ Words.bytes4 v)
-put_cell l at kind {m} {k} {w} {v} p q e = put_after l at (kind ∷ []) (Words.bytes4 v) p (q ∙ ap (λ (i : ℕ). sets m (at + 1) (Words.bytes4 i)) e)

@@ -21,7 +21,8 @@ use Rattle.base_ir.specs.Operations.{Op, ops}
 use Rattle.base_ir.specs.Entries.{entries, entry_ops}
 use Rattle.base_ir.specs.Arrays.{Row, row_in, At}
 use Rattle.base_ir.proofs.Held.{Own, at_first, at_rest, at_output, at_variable, at_null, at_wait, at_if, at_while, at_else, entry_ops_append}
-use Rattle.image_flow.specs.Followers.{Links, other_of}
+use Rattle.image_flow.specs.declared.followers.Links.{Links}
+use Rattle.image_flow.specs.Followers.{other_of}
 use Rattle.image_encoder.specs.Emitted.{width_from, run_width, kind_byte, line_at, lines_from}
 use Rattle.image_encoder.proofs.EmittedLaws.{flat_bytes, flat_append, code_flat, width_code, code_is}
 use Rattle.spec_semantics.proofs.Typed.{fits_type, named_below}

@@ -1,20 +1,20 @@
 -- The loops that store sections: the rest from here stores what the whole loop stores. Assumes nothing.
-use Prim.Native.Nat.{ℕ, zero, suc, ◌+◌, ◌-◌, ◌*◌, ◌%◌, ◌≤◌, ◌<◌}
+use Prim.Native.Nat.{ℕ, zero, suc, ◌+◌, ◌-◌, ◌*◌, ◌≤◌, ◌<◌}
 use native.Mathlib.Omega.{arith}
 use mathlib.Core.Path.{◌≡◌, refl, sym, ap, ◌∙◌}
 use mathlib.Core.List.{List, [], ◌∷◌, ◌++◌}
-use lib.ListN.{length, get_or, set}
-use lib.Seq.{sets}
+use lib.ListN.{take, drop, length, get_or}
+use lib.Seq.{sets, drop-cons}
 use lib.IntN.{ℤ, pos}
-use Rattle.spec_format.specs.Words.{bytes2, bytes4}
+use Rattle.spec_format.specs.Words.{bytes4}
 use Rattle.spec_semantics.specs.Twos.{unsigned32}
 use Rattle.spec_format.specs.Image.{raw_bytes, raws_bytes}
 use Rattle.base_ir.specs.declared.Declared.{Declared}
-use Rattle.base_ir.specs.Arrays.{Row, row_in}
-use Rattle.image_flow.specs.Followers.{links}
+use Rattle.base_ir.specs.Arrays.{row_in}
+use Rattle.image_flow.specs.declared.followers.Links.{Links}
 use Rattle.base_codes.specs.Operation.{width_of}
-use Rattle.image_encoder.specs.Emitted.{op_bytes, code_from, width_from, run_width, kind_byte, line_at, lines_from, types_from, cells_from, slots_from}
-use Rattle.image_encoder.specs.Emitted.{signature_from, signature_size, lines_size, sections_of, header_of}
+use Rattle.image_encoder.specs.Emitted.{op_bytes, code_from, width_from, run_width, line_at, lines_from, types_from, cells_from, slots_from}
+use Rattle.image_encoder.specs.Emitted.{signature_from}
 use Rattle.image_flow.proofs.Sets.{sets_append}
 use Rattle.image_encoder.proofs.EmittedLaws.{put_after, width_op}
 
@@ -24,69 +24,47 @@ again l m p p' g f e h = ap (λ (k : ℕ). sets m k f) h ∙ ap (λ (w : List �
 
 -- n type bytes
 
-pub types_again : (types l : List ℕ) {m : List ℕ} (at k n : ℕ) {b : ℕ} → k < n → b ≡ get_or types k 0 → m ≡ set l (at + k) b
-    → sets m (at + (k + 1)) (types_from types (k + 1) (n - (k + 1))) ≡ sets l (at + k) (types_from types k (n - k))
+types_taken : (types : List ℕ) (k n : ℕ) → k + n ≤ length types → take n (drop k types) ≡ types_from types k n
 unfolding types_from
-types_again types l {m} at k n {b} h e g =
-    let z : n - k ≡ suc (n - (k + 1)) = omega arith in
-    rw z (again l m (at + k) (at + (k + 1)) (get_or types k 0 ∷ []) (types_from types (k + 1) (n - (k + 1))) (g ∙ ap (λ (w : ℕ). set l (at + k) w) e)
-    (omega arith))
+types_taken types k zero h = refl
+types_taken types k (suc n) h =
+    let l : k < length types = omega arith in
+    let y : k + 1 ≡ suc k = omega arith in
+    rw (drop-cons types k 0) (ap (λ (r : List ℕ). get_or types k 0 ∷ r) ((rw y at (types_taken types (k + 1) n (omega arith))) ∙ ap (λ (i : ℕ). types_from types i n) (sym y)))
 
-pub types_done : (types l l₀ : List ℕ) (at k n : ℕ) → n ≤ k → sets l (at + k) (types_from types k (n - k)) ≡ sets l₀ (at + 0) (types_from types 0 (n - 0))
-    → l ≡ sets l₀ at (types_from types 0 n)
-unfolding types_from
-types_done types l l₀ at k n h e =
-    let z : n - k ≡ 0 = omega arith in
-    let y : n - 0 ≡ n = omega arith in
-    let x : at + 0 ≡ at = omega arith in
-    rw (z, y, x) at e
+pub types_first : (types : List ℕ) (n : ℕ) → n ≤ length types → take n types ≡ types_from types 0 n
+types_first types n h = types_taken types 0 n (omega arith)
 
 -- n types with values
 
-pub cells_again : (types : List ℕ) (values : List ℤ) (l : List ℕ) {m : List ℕ} (at k n : ℕ) {b : ℕ} {v : ℤ} → k < n → b ≡ get_or types k 0
-    → v ≡ get_or values k (pos 0)
-    → m ≡ sets l (at + 5 * k) (b ∷ bytes4 (unsigned32 v))
-    → sets m (at + 5 * (k + 1)) (cells_from types values (k + 1) (n - (k + 1))) ≡ sets l (at + 5 * k) (cells_from types values k (n - k))
+pub cells_again : (types : List ℕ) (values : List ℤ) (l : List ℕ) {m r : List ℕ} (at k n : ℕ) → k < n
+    → m ≡ sets l (at + 5 * k) (get_or types k 0 ∷ bytes4 (unsigned32 (get_or values k (pos 0))))
+    → sets l (at + 5 * k) (cells_from types values k (n - k)) ≡ r → sets m (at + 5 * (k + 1)) (cells_from types values (k + 1) (n - (k + 1))) ≡ r
 unfolding cells_from
-cells_again types values l {m} at k n {b} {v} h e d g =
+cells_again types values l {m} at k n h g e =
     let z : n - k ≡ suc (n - (k + 1)) = omega arith in
-    rw z (again l m (at + 5 * k) (at + 5 * (k + 1)) (get_or types k 0 ∷ bytes4 (unsigned32 (get_or values k (pos 0))))
-    (cells_from types values (k + 1) (n - (k + 1))) (g ∙ same e d) (omega arith))
-  where
-    same : {b b' : ℕ} {v v' : ℤ} → b ≡ b' → v ≡ v' → sets l (at + 5 * k) (b ∷ bytes4 (unsigned32 v)) ≡ sets l (at + 5 * k) (b' ∷ bytes4 (unsigned32 v'))
-    same {b} {b'} {v} {v'} p q = ap (λ (w : ℕ). sets l (at + 5 * k) (w ∷ bytes4 (unsigned32 v))) p
-        ∙ ap (λ (w : ℤ). sets l (at + 5 * k) (b' ∷ bytes4 (unsigned32 w))) q
+    again l m (at + 5 * k) (at + 5 * (k + 1)) (get_or types k 0 ∷ bytes4 (unsigned32 (get_or values k (pos 0))))
+    (cells_from types values (k + 1) (n - (k + 1))) g (omega arith) ∙ (rw z at e)
 
-pub cells_done : (types : List ℕ) (values : List ℤ) (l l₀ : List ℕ) (at k n : ℕ) → n ≤ k
-    → sets l (at + 5 * k) (cells_from types values k (n - k)) ≡ sets l₀ (at + 5 * 0) (cells_from types values 0 (n - 0))
-    → l ≡ sets l₀ at (cells_from types values 0 n)
+pub cells_done : (types : List ℕ) (values : List ℤ) (l : List ℕ) {r : List ℕ} (at k n : ℕ) → n ≤ k
+    → sets l (at + 5 * k) (cells_from types values k (n - k)) ≡ r → l ≡ r
 unfolding cells_from
-cells_done types values l l₀ at k n h e =
-    let z : n - k ≡ 0 = omega arith in
-    let y : n - 0 ≡ n = omega arith in
-    let x : at + 5 * 0 ≡ at = omega arith in
-    rw (z, y, x) at e
+cells_done types values l at k n h e = let z : n - k ≡ 0 = omega arith in rw z at e
 
 -- the code of n operations
 
-pub code_again : (codes : List ℕ) (args : List ℤ) (l : List ℕ) {m : List ℕ} (p i n : ℕ) {c w : ℕ} {z : ℤ} → i < n → c ≡ get_or codes i 0 → z ≡ get_or args i (pos 0)
-    → m ≡ sets l p (op_bytes c z)
-    → w ≡ width_of c → sets m (p + w) (code_from codes args (i + 1) (n - (i + 1))) ≡ sets l p (code_from codes args i (n - i))
+pub code_again : (codes : List ℕ) (args : List ℤ) (l : List ℕ) {m r : List ℕ} (p i n : ℕ) {w : ℕ} → i < n
+    → m ≡ sets l p (op_bytes (get_or codes i 0) (get_or args i (pos 0))) → w ≡ width_of (get_or codes i 0)
+    → sets l p (code_from codes args i (n - i)) ≡ r → sets m (p + w) (code_from codes args (i + 1) (n - (i + 1))) ≡ r
 unfolding code_from
-code_again codes args l {m} p i n {c} {w} {z} h e d g f =
+code_again codes args l {m} p i n {w} h g f e =
     let y : n - i ≡ suc (n - (i + 1)) = omega arith in
-    rw y (again l m p (p + w) (op_bytes (get_or codes i 0) (get_or args i (pos 0))) (code_from codes args (i + 1) (n - (i + 1)))
-    (g ∙ ap (λ (q : ℕ). sets l p (op_bytes q z)) e ∙ ap (λ (q : ℤ). sets l p (op_bytes (get_or codes i 0) q)) d)
-    (ap (λ (q : ℕ). p + q) (f ∙ ap (λ (q : ℕ). width_of q) e ∙ width_op (get_or codes i 0) (get_or args i (pos 0)))))
+    again l m p (p + w) (op_bytes (get_or codes i 0) (get_or args i (pos 0))) (code_from codes args (i + 1) (n - (i + 1))) g
+    (ap (λ (q : ℕ). p + q) (f ∙ width_op (get_or codes i 0) (get_or args i (pos 0)))) ∙ (rw y at e)
 
-pub code_done : (codes : List ℕ) (args : List ℤ) (l l₀ : List ℕ) (p p₀ i n : ℕ) → n ≤ i
-    → sets l p (code_from codes args i (n - i)) ≡ sets l₀ p₀ (code_from codes args 0 (n - 0))
-    → l ≡ sets l₀ p₀ (code_from codes args 0 n)
+pub code_done : (codes : List ℕ) (args : List ℤ) (l : List ℕ) {r : List ℕ} (p i n : ℕ) → n ≤ i → sets l p (code_from codes args i (n - i)) ≡ r → l ≡ r
 unfolding code_from
-code_done codes args l l₀ p p₀ i n h e =
-    let z : n - i ≡ 0 = omega arith in
-    let y : n - 0 ≡ n = omega arith in
-    rw (z, y) at e
+code_done codes args l p i n h e = let z : n - i ≡ 0 = omega arith in rw z at e
 
 -- the bytes of a run of operations counted
 
@@ -98,61 +76,30 @@ width_again codes i n a v w h e g =
     let g' : a + (width_of (get_or codes i 0) + width_from codes (i + 1) (n - (i + 1))) ≡ w = rw z at g in
     omega arith
 
-pub width_done : (codes : List ℕ) (i n f a : ℕ) → n ≤ i → a + width_from codes i (n - i) ≡ 0 + width_from codes f (n - f) → a ≡ width_from codes f (n - f)
+pub width_done : (codes : List ℕ) (i n a : ℕ) (w : ℕ) → n ≤ i → a + width_from codes i (n - i) ≡ w → a ≡ w
 unfolding width_from
-width_done codes i n f a h e =
+width_done codes i n a w h e =
     let z : n - i ≡ 0 = omega arith in
-    let e' : a + 0 ≡ 0 + width_from codes f (n - f) = rw z at e in
+    let e' : a + 0 ≡ w = rw z at e in
     omega arith
 
 -- n lines
 
--- the bytes of a statement's code
-pub run_held : (codes : List ℕ) {a b i j w : ℕ} → a ≡ i → b ≡ j → w ≡ run_width codes a b → w ≡ run_width codes i j
-run_held codes p q e = rw (← p, ← q) e
-
-pub lines_again : (codes rows next other r l : List ℕ) {m : List ℕ} (at j n p : ℕ) {w f g q : ℕ} → j < n
+pub lines_again : (codes rows : List ℕ) (x : Links) (q l : List ℕ) {m r : List ℕ} (at j n p : ℕ) {w : ℕ} → j < n
     → w ≡ run_width codes (row_in rows j).from (row_in rows j).to
-    → f ≡ get_or next j 0 → g ≡ get_or other j 0 → q ≡ get_or r j 0 → m ≡ sets l (at + 12 * j) (raw_bytes (line_at (row_in rows j) p w f g q))
-    → sets m (at + 12 * (j + 1)) (raws_bytes (lines_from codes rows (links next other) r (j + 1) (n - (j + 1)) (p + w))) ≡ sets l (at + 12 * j)
-    (raws_bytes (lines_from codes rows (links next other) r j (n - j) p))
+    → m ≡ sets l (at + 12 * j) (raw_bytes (line_at (row_in rows j) p w (get_or x.next j 0) (get_or x.other j 0) (get_or q j 0)))
+    → sets l (at + 12 * j) (raws_bytes (lines_from codes rows x q j (n - j) p)) ≡ r
+    → sets m (at + 12 * (j + 1)) (raws_bytes (lines_from codes rows x q (j + 1) (n - (j + 1)) (p + w))) ≡ r
 unfolding lines_from raws_bytes
-lines_again codes rows next other r l {m} at j n p {w} {f} {g} {q} h ew ef eg eq e =
+lines_again codes rows x q l {m} {r} at j n p {w} h ew g e =
     let z : n - j ≡ suc (n - (j + 1)) = omega arith in
-    rw (z, ← ew, ← ef, ← eg, ← eq) (again l m (at + 12 * j) (at + 12 * (j + 1)) (raw_bytes (line_at (row_in rows j) p w f g q))
-    (raws_bytes (lines_from codes rows (links next other) r (j + 1) (n - (j + 1)) (p + w))) e (omega arith))
+    again l m (at + 12 * j) (at + 12 * (j + 1)) (raw_bytes (line_at (row_in rows j) p w (get_or x.next j 0) (get_or x.other j 0) (get_or q j 0)))
+    (raws_bytes (lines_from codes rows x q (j + 1) (n - (j + 1)) (p + w))) g (omega arith) ∙ rw ew (rw z at e)
 
-pub lines_done : (codes rows next other r l l₀ : List ℕ) (at j n p : ℕ) → n ≤ j
-    → sets l (at + 12 * j) (raws_bytes (lines_from codes rows (links next other) r j (n - j) p)) ≡ sets l₀ (at + 12 * 0)
-    (raws_bytes (lines_from codes rows (links next other) r 0 (n - 0) 0))
-    → l ≡ sets l₀ at (raws_bytes (lines_from codes rows (links next other) r 0 n 0))
+pub lines_done : (codes rows : List ℕ) (x : Links) (q l : List ℕ) {r : List ℕ} (at j n p : ℕ) → n ≤ j
+    → sets l (at + 12 * j) (raws_bytes (lines_from codes rows x q j (n - j) p)) ≡ r → l ≡ r
 unfolding lines_from raws_bytes
-lines_done codes rows next other r l l₀ at j n p h e =
-    let z : n - j ≡ 0 = omega arith in
-    let y : n - 0 ≡ n = omega arith in
-    let x : at + 12 * 0 ≡ at = omega arith in
-    rw (z, y, x) at e
-
--- the places of the sections
-
-pub sections_made : (l : List ℕ) (s k c : ℕ) {m₁ m₂ m₃ : List ℕ} → m₁ ≡ sets l 4 (bytes4 28 ++ bytes4 s) → m₂ ≡ sets m₁ 12 (bytes4 (28 + s) ++ bytes4 k)
-    → m₃ ≡ sets m₂ 20 (bytes4 (28 + s + k) ++ bytes4 c) → m₃ ≡ sets l 4 (sections_of s k c)
-sections_made l s k c e₁ e₂ e₃ =
-    put_after l 4 (bytes4 28 ++ (bytes4 s ++ (bytes4 (28 + s) ++ bytes4 k))) (bytes4 (28 + s + k) ++ bytes4 c)
-    (put_after l 4 (bytes4 28 ++ bytes4 s) (bytes4 (28 + s) ++ bytes4 k) e₁ e₂) e₃
-
--- a line's followers and its reach
-pub followers_made : (l : List ℕ) (at f g q : ℕ) {m₁ m₂ : List ℕ} → m₁ ≡ sets l (at + 6) (bytes2 f ++ bytes2 g) → m₂ ≡ sets m₁ (at + 10) (bytes2 q)
-    → m₂ ≡ sets l (at + 6) (bytes2 f ++ (bytes2 g ++ bytes2 q))
-followers_made l at f g q {m₁} e₁ e₂ = e₂ ∙ again l m₁ (at + 6) (at + 10) (bytes2 f ++ bytes2 g) (bytes2 q) e₁ (omega arith)
-
--- the line of a statement, from its parts
-pub row_made : (l : List ℕ) (r : Row) (at p s f g q : ℕ) {m₁ m₂ m₃ : List ℕ} → m₁ ≡ sets l at (kind_byte r.kind ∷ r.target % 256 ∷ [])
-    → m₂ ≡ sets m₁ (at + 2) (bytes2 p ++ bytes2 s) → m₃ ≡ sets m₂ (at + 6) (bytes2 f ++ (bytes2 g ++ bytes2 q))
-    → m₃ ≡ sets l at (raw_bytes (line_at r p s f g q))
-row_made l r at p s f g q e₁ e₂ e₃ =
-    put_after l at (kind_byte r.kind ∷ r.target % 256 ∷ (bytes2 p ++ bytes2 s)) (bytes2 f ++ (bytes2 g ++ bytes2 q))
-    (put_after l at (kind_byte r.kind ∷ r.target % 256 ∷ []) (bytes2 p ++ bytes2 s) e₁ e₂) e₃
+lines_done codes rows x q l at j n p h e = let z : n - j ≡ 0 = omega arith in rw z at e
 
 -- the signature's parts
 
@@ -183,9 +130,3 @@ module _ (l : List ℕ) (d : Declared) {m₁ m₂ : List ℕ} where
       put_after l 28 (d.inputs.count ∷ d.outputs.count ∷ d.variables.count ∷ []) (types_from d.inputs.types 0 d.inputs.count ++ slots_from d) e₁
       (e₃ ∙ again m₁ m₂ 31 (31 + d.inputs.count) (types_from d.inputs.types 0 d.inputs.count) (slots_from d) e₂
       (ap (λ (k : ℕ). 31 + k) (sym (types_length d.inputs.types 0 d.inputs.count))))
-
-  -- the signature behind the header
-  pub front_made : (c : ℕ) {s : ℕ} → s ≡ signature_size d → m₁ ≡ sets l 0 (header_of s (lines_size d) c) → m₂ ≡ sets m₁ 28 (signature_from d)
-      → m₂ ≡ sets l 0 (header_of (signature_size d) (lines_size d) c ++ signature_from d)
-  front_made c e e₁ e₂ =
-      put_after l 0 (header_of (signature_size d) (lines_size d) c) (signature_from d) (e₁ ∙ ap (λ (k : ℕ). sets l 0 (header_of k (lines_size d) c)) e) e₂

@@ -7,7 +7,7 @@ use lib.ListN.{length, get_or, take, drop, length-append, length-map}
 use lib.Seq.{sets, sets-eq}
 use lib.IntN.{ℤ, pos}
 use Rattle.base_answers.specs.Answers.{done, refusal}
-use Rattle.spec_design.specs.Types.{Ty, std_logic, integer, type_byte}
+use Rattle.spec_design.specs.Types.{Ty, type_byte}
 use Rattle.spec_design.specs.Statement.{size}
 use Rattle.spec_design.specs.Process.{Source, Slot, Process, WellFormed, source_types, slot_types, initials}
 use Rattle.spec_format.specs.Words.{bytes4}
@@ -24,8 +24,9 @@ use Rattle.spec_simulation.proofs.Reaches.{reaches_of_length}
 use Rattle.base_ir.specs.declared.Declared.{Declared}
 use Rattle.base_ir.specs.Arrays.{BodyIn, NamesIn, Holds}
 use Rattle.base_ir.proofs.Held.{entries_size, at_whole}
-use Rattle.image_encoder.specs.declared.Encoded.TheVariants.{Written, TooShort}
-use Rattle.image_flow.specs.Followers.{Links, stored, Followed}
+use Rattle.std.specs.Prelude.{Ok, Err}
+use Rattle.image_flow.specs.declared.followers.Links.{Links}
+use Rattle.image_flow.specs.Followers.{stored, Followed}
 use Rattle.image_flow.specs.Reaches.{Reached}
 use Rattle.image_encoder.specs.Emitted.{code_from, width_from, run_width, lines_from, types_from, cells_from, slots_from, signature_from, signature_size}
 use Rattle.image_encoder.specs.Emitted.{lines_size, header_of}
@@ -54,10 +55,6 @@ take_cons [] (suc k) n d y ys e = nil_cons e
 take_cons (x ∷ l) zero n d y ys e = (cons_head e, cons_tail e)
 take_cons (x ∷ l) (suc k) n d y ys e = let z : suc k + 1 ≡ suc (k + 1) = omega arith in rw z (take_cons l k n d y ys e)
 
-type_same : (t : Ty) → type_byte t ≡ type_byte t
-type_same std_logic = refl
-type_same integer = refl
-
 cons_both : {x y : ℕ} {xs ys : List ℕ} → x ≡ y → xs ≡ ys → x ∷ xs ≡ y ∷ ys
 cons_both e g = cc
 
@@ -65,7 +62,7 @@ types_held : (ts : List Ty) (l : List ℕ) (k : ℕ) → take (length ts) (drop 
 unfolding types_from type_bytes
 types_held [] l k e = refl
 types_held (t ∷ ts) l k e =
-    let p = take_cons l k (length ts) 0 (type_byte t) (map type_byte ts) e in cons_both (p.0 ∙ type_same t) (types_held ts l (k + 1) p.1)
+    let p = take_cons l k (length ts) 0 (type_byte t) (map type_byte ts) e in cons_both p.0 (types_held ts l (k + 1) p.1)
 
 cells_held : (ss : List Slot) (l : List ℕ) (z : List ℤ) (k : ℕ) → take (length ss) (drop k l) ≡ map type_byte (slot_types ss)
     → take (length ss) (drop k z) ≡ initials ss
@@ -75,7 +72,7 @@ cells_held [] l z k e g = refl
 cells_held (s ∷ ss) l z k e g =
     let p = take_cons l k (length ss) 0 (type_byte s.type) (map type_byte (slot_types ss)) e in
     let q = take_cons z k (length ss) (pos 0) s.initial (initials ss) g in
-    cons_both (p.0 ∙ type_same s.type)
+    cons_both p.0
     (ap (λ (w : ℤ). bytes4 (unsigned32 w) ++ cells_from l z (k + 1) (length ss)) q.0
     ∙ ap (λ (w : List ℕ). bytes4 (unsigned32 s.initial) ++ w) (cells_held ss l z (k + 1) p.1 q.1))
 
@@ -233,25 +230,25 @@ image_length {p} {codes} {args} {rows} {d} {c} h w e =
 
 -- the answer, where there is room and where there is not
 written : (i b a : List ℕ) (n : ℕ) → length i ≡ n → n ≤ length b → a ≡ sets b 0 i
-    → (encoded_told (Written n) ≡ (written_into i b).answer) × (a ≡ (written_into i b).buffer)
+    → (encoded_told (Ok n) ≡ (written_into i b).answer) × (a ≡ (written_into i b).buffer)
 written i b a n e h g =
     let z : 0 + length i ≡ length i = omega arith in
     rw (fits_written i b (omega arith)) (ap done (sym e), g ∙ sets-eq i b 0 (omega arith) ∙ ap (λ (k : ℕ). i ++ drop k b) z)
 
-short : (i b : List ℕ) (n : ℕ) → length i ≡ n → length b < n → (encoded_told (TooShort n) ≡ (written_into i b).answer) × (b ≡ (written_into i b).buffer)
+short : (i b : List ℕ) (n : ℕ) → length i ≡ n → length b < n → (encoded_told (Err (record { needed = n })) ≡ (written_into i b).answer) × (b ≡ (written_into i b).buffer)
 short i b n e h = rw (short_written i b (omega arith)) (ap (refusal 10) (sym e), refl)
 
 module _ (codes : List ℕ) (args : List ℤ) (rows : List ℕ) (d : Declared) where
   -- The buffer is too short.
   pub write_short : (b : List ℕ) {s c : ℕ} → s ≡ signature_size d → c ≡ run_width codes 0 d.operations → length b < 28 + s + lines_size d + c
-      → Encodes codes args rows d b b (TooShort (28 + s + lines_size d + c))
+      → Encodes codes args rows d b b (Err (record { needed = 28 + s + lines_size d + c }))
   write_short b {s} {c} q e h p held w =
       short (encode p) b (28 + s + lines_size d + c) (image_length held w e ∙ ap (λ (k : ℕ). 28 + k + lines_size d + c) (sym q)) h
 
   -- The image is stored.
   pub write_done : (b : List ℕ) {m₁ m₂ : List ℕ} {s c : ℕ} → s ≡ signature_size d → c ≡ run_width codes 0 d.operations
       → 28 + s + lines_size d + c ≤ length b → m₁ ≡ sets b 0 (header_of (signature_size d) (lines_size d) c ++ signature_from d)
-      → BodyStored codes args rows d.operations d.statements (28 + s) m₁ m₂ → Encodes codes args rows d b m₂ (Written (28 + s + lines_size d + c))
+      → BodyStored codes args rows d.operations d.statements (28 + s) m₁ m₂ → Encodes codes args rows d b m₂ (Ok (28 + s + lines_size d + c))
   write_done b {m₁} {m₂} {s} {c} q e h e₁ e₂ p held w =
       let f = signature_length_lem d in
       let z : 28 + s ≡ 0 + length (front d c) = omega arith in

@@ -9,7 +9,7 @@ use Rattle.base_ir.specs.Arrays.{Row, row_in}
 use Rattle.spec_format.specs.Words.{bytes2, bytes4}
 use Rattle.spec_semantics.specs.Twos.{unsigned32}
 use Rattle.spec_format.specs.Image.{RawLine, raw}
-use Rattle.image_flow.specs.Followers.{Links}
+use Rattle.image_flow.specs.declared.followers.Links.{Links}
 
 -- the bytes of an operation: "1 integer (4 bytes), 2 std_logic (1 byte), 3 input, 4 variable (1-byte index)", and the operators
 unfoldable pub op_bytes : ℕ → ℤ → List ℕ

@@ -1,5 +1,5 @@
 -- What encoding into a lent buffer answers and leaves there: refusal 10 with the bytes needed, or the image's own bytes and no other. Assumes nothing.
-use Rattle.std.specs.Prelude.{◌≡◌, Bool, ◌&&◌, List, ◌++◌, ℕ, ℤ, leb}
+use Rattle.std.specs.Prelude.{◌≡◌, Bool, ◌&&◌, List, ◌++◌, ℕ, ℤ, leb, Result, Ok, Err}
 use Rattle.std.proofs.lemmas.List.Edits.{sets}
 use Rattle.base_answers.specs.Answers.{Told, done, refusal}
 use Rattle.base_codes.specs.Limit as L
@@ -10,13 +10,12 @@ use Rattle.spec_format.specs.Lines.{lines_of, reaches_of}
 use Rattle.spec_format.specs.Image.{raws_of, raws_bytes, code_of_lines}
 use Rattle.spec_format.specs.Encode.{encode}
 use Rattle.spec_format.specs.Writing.{written_into}
-use Rattle.image_encoder.specs.declared.Encoded.{Encoded}
-use Rattle.image_encoder.specs.declared.Encoded.TheVariants.{Written, TooShort}
+use Rattle.image_encoder.specs.declared.TooShort.{TooShort}
 
 -- what is told of it: the bytes written; or 10, "image buffer too short", at "bytes needed"
-abbrev pub encoded_told : Encoded → Told ℕ
-encoded_told (Written n) = done n
-encoded_told (TooShort n) = refusal 10 n
+abbrev pub encoded_told : Result ℕ TooShort → Told ℕ
+encoded_told (Ok n) = done n
+encoded_told (Err e) = refusal 10 e.needed
 
 -- the lines section of a process
 abbrev pub lines_bytes : Process → List ℕ
@@ -33,7 +32,7 @@ BodyStored codes args rows k n at before after =
     (p : Process) → BodyIn p codes args rows k n → WellFormed p → after ≡ sets before at (lines_bytes p ++ code_of_lines (lines_of p.body))
 
 -- of every process that is held: the answer, and the buffer as it is left
-abbrev pub Encodes : List ℕ → List ℤ → List ℕ → Declared → List ℕ → List ℕ → Encoded → Type 0
+abbrev pub Encodes : List ℕ → List ℤ → List ℕ → Declared → List ℕ → List ℕ → Result ℕ TooShort → Type 0
 Encodes codes args rows d before after answer =
     (p : Process) → Holds p d codes args rows → WellFormed p
     → (encoded_told answer ≡ (written_into (encode p) before).answer) × (after ≡ (written_into (encode p) before).buffer)

@@ -2,20 +2,19 @@
 // The image of a design that stands in arrays: followers, reaches, code, and the image's bytes in the caller's buffer.
 ghost use Rattle.std.specs.Prelude.{◌≡◌, false, ◌<◌, ◌≤◌};
 ghost use Rattle.base_ir.specs.Arrays.{Bounded};
-ghost use Rattle.image_encoder.specs.declared.Encoded.TheVariants.{TooShort};
 ghost use Rattle.image_encoder.specs.Outcome.{LinesStored, BodyStored, Encodes, counts_ok};
 
 use base_codes::{image, limit, statement};
 use base_ir::Declared;
+use image_flow::Links;
 
 mod bytes;
 mod sections;
 
-// The bytes written, or the bytes needed of a buffer that is too short.
-#[derive(Clone, Copy)]
-pub enum Encoded {
-    Written(usize),
-    TooShort(usize),
+// A buffer is too short for the image, which has this many bytes.
+#[derive(Clone, Copy, PartialEq, Eq)]
+pub struct TooShort {
+    pub needed: usize,
 }
 
 // The lines section of n statements.
@@ -29,11 +28,13 @@ fn put_body(
     requires { (at < 1000) × (n ≤ 512) }
     ensures { LinesStored codes.now rows.now n at image.old image.new }
 {
-    let mut next = [0u16; limit::STATEMENTS];
-    let mut other = [0u16; limit::STATEMENTS];
-    let mut reach = [0u16; limit::STATEMENTS];
-    image_flow::find(rows, n, &mut next, &mut other, &mut reach);
-    sections::put_lines(image, at, codes, rows, n, &next, &other, &reach);
+    let mut links = Links {
+        next: [0; limit::STATEMENTS],
+        other: [0; limit::STATEMENTS],
+    };
+    let mut reach = [0; limit::STATEMENTS];
+    image_flow::find(rows, n, &mut links, &mut reach);
+    sections::put_lines(image, at, codes, rows, n, &links, &reach);
 }
 
 // The lines section of n statements and, behind it, the code section of their k operations.
@@ -60,7 +61,7 @@ fn write_counted(
     rows: &[u16; statement::ROWS],
     d: Declared,
     image: &mut [u8],
-) -> Encoded
+) -> Result<usize, TooShort>
     requires { Bounded d }
     ensures { Encodes codes.now args.now rows.now d image.old image.new result }
 {
@@ -68,7 +69,7 @@ fn write_counted(
     let c = sections::run_width(codes, 0, d.operations);
     let size = image::HEADER + s + image::LINE * d.statements + c;
     if image.len() < size {
-        return Encoded::TooShort(size);
+        return Err(TooShort { needed: size });
     }
     sections::put_front(image, d, c);
     put_statements(
@@ -80,26 +81,18 @@ fn write_counted(
         d.operations,
         d.statements,
     );
-    Encoded::Written(size)
+    Ok(size)
 }
 
 // Whether its counts are within the limits.
 fn within(d: Declared) -> bool
     ensures { result ≡ counts_ok d }
 {
-    if limit::TEXT < d.operations {
-        return false;
-    }
-    if limit::STATEMENTS < d.statements {
-        return false;
-    }
-    if limit::INPUTS < d.inputs.count {
-        return false;
-    }
-    if limit::OUTPUTS < d.outputs.count {
-        return false;
-    }
-    d.variables.count <= limit::VARIABLES
+    d.operations <= limit::TEXT
+        && d.statements <= limit::STATEMENTS
+        && d.inputs.count <= limit::INPUTS
+        && d.outputs.count <= limit::OUTPUTS
+        && d.variables.count <= limit::VARIABLES
 }
 
 // Encodes a design; counts past the limits are those of no design, and nothing is written for them.
@@ -109,12 +102,12 @@ pub fn write(
     rows: &[u16; statement::ROWS],
     d: Declared,
     image: &mut [u8],
-) -> Encoded
+) -> Result<usize, TooShort>
     ensures { Encodes codes.now args.now rows.now d image.old image.new result
-        × (counts_ok d ≡ false → (result ≡ TooShort 0) × (image.new ≡ image.old)) }
+        × (counts_ok d ≡ false → (result ≡ Err (record { needed = 0 })) × (image.new ≡ image.old)) }
 {
-    if within(d) {
-        return write_counted(codes, args, rows, d, image);
+    if !within(d) {
+        return Err(TooShort { needed: 0 });
     }
-    Encoded::TooShort(0)
+    write_counted(codes, args, rows, d, image)
 }

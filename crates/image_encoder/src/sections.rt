@@ -1,25 +1,17 @@
 // The sections of an image stored into a buffer, each at its place: header, signature, lines, code.
-ghost use Rattle.std.specs.Prelude.{◌≡◌, [], ◌∷◌, ◌++◌, ◌+◌, ◌%◌, ◌<◌, ◌≤◌, min, pos, get_or};
+ghost use Rattle.std.specs.Prelude.{◌≡◌, [], ◌∷◌, ◌++◌, ◌+◌, ◌%◌, ◌<◌, ◌≤◌};
 ghost use Rattle.std.proofs.lemmas.List.Edits.{sets};
 ghost use Rattle.base_codes.specs.Image.{HEADER, SIGNATURE, LINE_NEXT};
 ghost use Rattle.base_ir.specs.Arrays.{row_in, Bounded};
 ghost use Rattle.spec_format.specs.Words.{bytes2, bytes4};
 ghost use Rattle.spec_format.specs.Image.{raw_bytes, raws_bytes};
-ghost use Rattle.image_flow.specs.Followers.{links};
 ghost use Rattle.image_encoder.specs.Emitted.{code_from, run_width, kind_byte, line_at, lines_from, types_from, cells_from, slots_from, signature_from, signature_size, lines_size, sections_of, header_of};
 
-use crate::bytes::{put, put_cell, put_op, put_words, put2, put4};
+use crate::bytes::{put_all, put_cell, put_op, put_words, put2, put4};
 use base_codes::operation::width;
 use base_codes::{image, limit, statement};
 use base_ir::{Declared, Names};
-use image_flow::number;
-
-// The value at an index, or 0 past the end.
-fn value(s: &[i32], i: usize) -> i32
-    ensures { result ≡ get_or s.now i (pos 0) }
-{
-    if i < s.len() { s[i] } else { 0 }
-}
+use image_flow::Links;
 
 // How many bytes of the header a section's start has; its length stands behind it.
 const START_SIZE: usize = image::SIGNATURE_SIZE - image::SIGNATURE;
@@ -52,52 +44,23 @@ fn put_header(image: &mut [u8], s: usize, l: usize, c: usize)
     put_sections(image, s, l, c);
 }
 
-// n type bytes.
-fn put_types(image: &mut [u8], at: usize, types: &[u8], n: usize)
-    requires { (at < 1000) × (n ≤ 32) }
-    ensures { image.new ≡ sets image.old at (types_from types.now 0 n) }
-{
-    let mut k = 0;
-    while k < n {
-        put(image, at + k, image_words::byte(types, k));
-        k += 1;
-    }
-}
-
-// n types with their initial values.
-fn put_cells(image: &mut [u8], at: usize, types: &[u8], values: &[i32], n: usize)
-    requires { (at < 1000) × (n ≤ 32) }
-    ensures { image.new ≡ sets image.old at (cells_from types.now values.now 0 n) }
-{
-    let mut k = 0;
-    while k < n {
-        put_cell(
-            image,
-            at + image::SLOT * k,
-            image_words::byte(types, k),
-            value(values, k),
-        );
-        k += 1;
-    }
-}
-
 // The types of declared names.
-fn put_typed(image: &mut [u8], at: usize, names: Names)
-    requires { (at < 1000) × (names.count ≤ 32) }
-    ensures { image.new ≡ sets image.old at (types_from names.types 0 names.count) }
+#[tactic(auto, using(crate::proofs::SectionsLaws::types_first))]
+fn put_types(image: &mut [u8], at: usize, names: &Names)
+    requires { (at < 1000) × (names.now.count ≤ 32) }
+    ensures { image.new ≡ sets image.old at (types_from names.now.types 0 names.now.count) }
 {
-    let types = names.types;
-    put_types(image, at, &types, names.count);
+    put_all(image, at, &names.types[..names.count]);
 }
 
 // Their types and initial values.
-fn put_valued(image: &mut [u8], at: usize, names: Names)
-    requires { (at < 1000) × (names.count ≤ 32) }
-    ensures { image.new ≡ sets image.old at (cells_from names.types names.values 0 names.count) }
+fn put_cells(image: &mut [u8], at: usize, names: &Names)
+    requires { (at < 1000) × (names.now.count ≤ 32) }
+    ensures { image.new ≡ sets image.old at (cells_from names.now.types names.now.values 0 names.now.count) }
 {
-    let types = names.types;
-    let values = names.values;
-    put_cells(image, at, &types, &values, names.count);
+    for k in 0..names.count {
+        put_cell(image, at + image::SLOT * k, names.types[k], names.values[k]);
+    }
 }
 
 // How many bytes the signature section has.
@@ -113,31 +76,29 @@ fn put_counts(image: &mut [u8], inputs: usize, outputs: usize, variables: usize)
     requires { (inputs ≤ 16) × (outputs ≤ 16) × (variables ≤ 32) }
     ensures { image.new ≡ sets image.old HEADER (inputs ∷ outputs ∷ variables ∷ []) }
 {
-    put(image, image::INPUT_COUNT, inputs as u8);
-    put(image, image::OUTPUT_COUNT, outputs as u8);
-    put(image, image::VARIABLE_COUNT, variables as u8);
+    let counts = [inputs as u8, outputs as u8, variables as u8];
+    put_all(image, image::INPUT_COUNT, &counts);
 }
 
 // The outputs and, behind them, the variables.
+#[tactic(auto, using(crate::proofs::SectionsLaws::slots_made))]
 fn put_slots(image: &mut [u8], at: usize, d: Declared)
     requires { (at < 100) × Bounded d }
     ensures { image.new ≡ sets image.old at (slots_from d) }
 {
-    let outputs = d.outputs;
-    let variables = d.variables;
-    put_valued(image, at, outputs);
-    put_valued(image, at + image::SLOT * outputs.count, variables);
+    put_cells(image, at, &d.outputs);
+    put_cells(image, at + image::SLOT * d.outputs.count, &d.variables);
 }
 
 // The signature section.
+#[tactic(auto, using(crate::proofs::SectionsLaws::signature_made))]
 fn put_signature(image: &mut [u8], d: Declared)
     requires { Bounded d }
     ensures { image.new ≡ sets image.old HEADER (signature_from d) }
 {
-    let inputs = d.inputs;
-    put_counts(image, inputs.count, d.outputs.count, d.variables.count);
-    put_typed(image, image::INPUT_TYPES, inputs);
-    put_slots(image, image::INPUT_TYPES + inputs.count, d);
+    put_counts(image, d.inputs.count, d.outputs.count, d.variables.count);
+    put_types(image, image::INPUT_TYPES, &d.inputs);
+    put_slots(image, image::INPUT_TYPES + d.inputs.count, d);
 }
 
 // Header and signature section of a design whose code has c bytes.
@@ -149,24 +110,15 @@ pub(crate) fn put_front(image: &mut [u8], d: Declared, c: usize)
     put_signature(image, d);
 }
 
-// The lower of a number and 16384.
-fn bounded(n: usize) -> usize
-    ensures { result ≡ min n 16384 }
-{
-    if n < limit::TEXT { n } else { limit::TEXT }
-}
-
 // How many bytes the operations from an index up to another have.
 pub(crate) fn run_width(codes: &[u8; limit::TEXT], from: usize, to: usize) -> usize
     ensures value { result ≡ run_width codes.now from to }
     ensures upper_bound { result ≤ 81920 }
 {
-    let stop = bounded(to);
-    let mut i = from;
+    let stop = to.min(limit::TEXT);
     let mut w = 0;
-    while i < stop {
+    for i in from..stop {
         w += width(codes[i]);
-        i += 1;
     }
     w
 }
@@ -178,10 +130,10 @@ const BYTES: u16 = u8::MAX as u16 + 1;
 fn kind_byte(kind: u16) -> u8
     ensures { result ≡ kind_byte kind }
 {
-    if kind == statement::WHILE {
-        return image::BRANCH;
+    match kind {
+        statement::WHILE => image::BRANCH,
+        _ => (kind % BYTES) as u8,
     }
-    (kind % BYTES) as u8
 }
 
 // Kind and target of statement j.
@@ -189,10 +141,9 @@ fn put_act(image: &mut [u8], at: usize, rows: &[u16; statement::ROWS], j: usize)
     requires { (at < 900000) × (j < 512) }
     ensures { image.new ≡ sets image.old at (kind_byte (row_in rows.now j).kind ∷ (row_in rows.now j).target % 256 ∷ []) }
 {
-    let kind = kind_byte(number(rows, statement::ROW * j));
-    let target = number(rows, statement::ROW * j + statement::TARGET);
-    put(image, at, kind);
-    put(image, at + image::LINE_TARGET, (target % BYTES) as u8);
+    let row = statement::ROW * j;
+    let target = rows[row + statement::TARGET];
+    put_all(image, at, &[kind_byte(rows[row]), (target % BYTES) as u8]);
 }
 
 // The followers and the reach of the line at a place.
@@ -200,8 +151,13 @@ fn put_followers(image: &mut [u8], at: usize, next: u16, other: u16, reach: u16)
     requires { at < 900000 }
     ensures { image.new ≡ sets image.old (at + LINE_NEXT) (bytes2 next ++ (bytes2 other ++ bytes2 reach)) }
 {
-    put_words(image, at + image::LINE_NEXT, next as u32, other as u32);
-    put2(image, at + image::LINE_REACH, reach as u32);
+    put_words(
+        image,
+        at + image::LINE_NEXT,
+        u32::from(next),
+        u32::from(other),
+    );
+    put2(image, at + image::LINE_REACH, u32::from(reach));
 }
 
 // The line of statement j.
@@ -230,9 +186,9 @@ fn code_size(codes: &[u8; limit::TEXT], rows: &[u16; statement::ROWS], j: usize)
     ensures value { result ≡ run_width codes.now (row_in rows.now j).from (row_in rows.now j).to }
     ensures upper_bound { result ≤ 81920 }
 {
-    let from = number(rows, statement::ROW * j + statement::FROM);
-    let to = number(rows, statement::ROW * j + statement::TO);
-    run_width(codes, from as usize, to as usize)
+    let from = rows[statement::ROW * j + statement::FROM];
+    let to = rows[statement::ROW * j + statement::TO];
+    run_width(codes, usize::from(from), usize::from(to))
 }
 
 // The lines of n statements with these followers and reaches.
@@ -242,16 +198,14 @@ pub(crate) fn put_lines(
     codes: &[u8; limit::TEXT],
     rows: &[u16; statement::ROWS],
     n: usize,
-    next: &[u16; limit::STATEMENTS],
-    other: &[u16; limit::STATEMENTS],
+    links: &Links,
     reaches: &[u16; limit::STATEMENTS],
 )
     requires { (at < 1000) × (n ≤ 512) }
-    ensures { image.new ≡ sets image.old at (raws_bytes (lines_from codes.now rows.now (links next.now other.now) reaches.now 0 n 0)) }
+    ensures { image.new ≡ sets image.old at (raws_bytes (lines_from codes.now rows.now links.now reaches.now 0 n 0)) }
 {
-    let mut j = 0;
     let mut p = 0;
-    while j < n {
+    for j in 0..n {
         let size = code_size(codes, rows, j);
         put_row(
             image,
@@ -260,12 +214,11 @@ pub(crate) fn put_lines(
             j,
             p,
             size,
-            number(next, j),
-            number(other, j),
-            number(reaches, j),
+            links.next[j],
+            links.other[j],
+            reaches[j],
         );
         p += size;
-        j += 1;
     }
 }
 
@@ -280,10 +233,8 @@ pub(crate) fn put_code(
     requires { (at < 100000) × (k ≤ 16384) }
     ensures { image.new ≡ sets image.old at (code_from codes.now args.now 0 k) }
 {
-    let mut i = 0;
     let mut p = at;
-    while i < k {
+    for i in 0..k {
         p += put_op(image, p, codes[i], args[i]);
-        i += 1;
     }
 }

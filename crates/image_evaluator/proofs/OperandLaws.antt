@@ -21,7 +21,6 @@ use Rattle.base_signed.proofs.Range.{range_fits}
 use Rattle.image_evaluator.specs.Position.{integer_at, bit_at, name_at, pushing, Next, stop, pushed_within, next_of, fetch_at}
 use Rattle.image_evaluator.specs.Value.{Cell, type_for, types_for, machine_for, found, evaluated_of}
 use Rattle.image_evaluator.specs.Operators.{operators, leaf_of, named_at}
-use Rattle.image_evaluator.specs.declared.Evaluated.TheVariants.{Fault}
 
 -- an integer literal: every 32-bit number is an integer
 int_value : (z : ℤ) → SFits w32 z → found 1 z ≡ evaluated_of (operators.of_leaf (int z))
@@ -32,10 +31,10 @@ module _ (s : List ℕ) (k : ℕ) where
   pub int_found : (z : ℤ) → k + 5 ≤ length s → SFits w32 z → z ≡ signed32 (word4_at s (k + 1)) → found 1 z ≡ evaluated_of (leaf_of operators (integer_at s k))
   int_found z h f e = rw (le-leb _ _ h) (int_value z f ∙ ap (λ (y : ℤ). evaluated_of (operators.of_leaf (int y))) e)
 
-  pub int_short : length s < k + 5 → Fault 13 ≡ evaluated_of (leaf_of operators (integer_at s k))
+  pub int_short : length s < k + 5 → fault 13 ≡ evaluated_of (leaf_of operators (integer_at s k))
   int_short h = rw (lt-leb _ _ h)
 
-  pub bit_short : length s < k + 2 → Fault 13 ≡ evaluated_of (leaf_of operators (bit_at s k))
+  pub bit_short : length s < k + 2 → fault 13 ≡ evaluated_of (leaf_of operators (bit_at s k))
   bit_short h = rw (lt-leb _ _ h)
 
   pub bit_zero : k + 2 ≤ length s → get_or s (k + 1) 0 ≡ 0 → found 0 (pos 0) ≡ evaluated_of (leaf_of operators (bit_at s k))
@@ -46,7 +45,7 @@ module _ (s : List ℕ) (k : ℕ) where
   unfolding leaf_type leaf_value with_type bind
   bit_one h e = rw (le-leb _ _ h, e)
 
-  pub bit_other : k + 2 ≤ length s → (get_or s (k + 1) 0 ≡ 0 → ⊥) → (get_or s (k + 1) 0 ≡ 1 → ⊥) → Fault 13 ≡ evaluated_of (leaf_of operators (bit_at s k))
+  pub bit_other : k + 2 ≤ length s → (get_or s (k + 1) 0 ≡ 0 → ⊥) → (get_or s (k + 1) 0 ≡ 1 → ⊥) → fault 13 ≡ evaluated_of (leaf_of operators (bit_at s k))
   bit_other h a b = rw (le-leb _ _ h, ne_eqb _ 0 a, ne_eqb _ 1 b)
 
 -- the k-th of the types that type bytes stand for
@@ -63,10 +62,10 @@ types_short (b ∷ l) zero h = absurd (omega arith)
 types_short (b ∷ l) (suc k) h = types_short l k (omega arith)
 
 module _ (s : List ℕ) (k : ℕ) (l : List ℕ) (row : List ℤ) where
-  pub name_short : length s < k + 2 → Fault 13 ≡ evaluated_of (named_at s k (types_for l) row)
+  pub name_short : length s < k + 2 → fault 13 ≡ evaluated_of (named_at s k (types_for l) row)
   name_short h = rw (lt-leb _ _ h)
 
-  pub name_unknown : k + 2 ≤ length s → length l ≤ get_or s (k + 1) 0 → Fault 13 ≡ evaluated_of (named_at s k (types_for l) row)
+  pub name_unknown : k + 2 ≤ length s → length l ≤ get_or s (k + 1) 0 → fault 13 ≡ evaluated_of (named_at s k (types_for l) row)
   unfolding plainly with_type
   name_unknown h e = rw (le-leb _ _ h, types_short l (get_or s (k + 1) 0) e)
 

@@ -17,16 +17,16 @@ use Rattle.spec_design.specs.Types.{ExprTy}
 use Rattle.spec_design.specs.Expression.{Unary, Binary, Out, fine, fault}
 use Rattle.base_codes.specs.Types.{tag_of}
 use Rattle.base_codes.proofs.TypeLaws.{tag_type}
+use Rattle.std.specs.Prelude.{Result, Ok, Err, IsOk}
+use Rattle.base_codes.specs.declared.fault.Fault.{Fault}
+use Rattle.base_codes.specs.Fault.{number_of}
+use Rattle.image_evaluator.specs.declared.Progress.{Progress}
 use Rattle.base_operators.specs.Operators.{Applied}
 use Rattle.image_evaluator.specs.Position.{ROOM, Next, go, stop, pushed, pushed_within, finish}
 use Rattle.image_evaluator.specs.Value.{Cell, found, evaluated_of}
 use Rattle.image_evaluator.specs.Operators.{unary_of, binary_of, unary_next, binary_next}
 use Rattle.image_evaluator.specs.Stack.{type_or, type_on, cells_of, Room, Says}
 use Rattle.image_evaluator.specs.declared.Found.{Found}
-use Rattle.image_evaluator.specs.declared.Evaluated.{Evaluated}
-use Rattle.image_evaluator.specs.declared.Evaluated.TheVariants.{Fault}
-use Rattle.image_evaluator.specs.declared.Transition.{Transition}
-use Rattle.image_evaluator.specs.declared.Transition.TheVariants.{Go, Stop}
 
 pub cells_length : (a : List ℤ) (t : List ℕ) (n : ℕ) → length (cells_of a t n) ≡ n
 unfolding cells_of
@@ -46,7 +46,7 @@ unfolding cells_of
 cells_push a t n v u h k = rw (add-one, cells_above a t n v u n (omega arith), get_or-set_same a n v (pos 0) h, get_or-set_same t n u 0 k)
 
 -- a transition that says one thing says what equals it
-pub saying : {a : List ℤ} {t : List ℕ} {r : Transition} {m n : Next Cell} → n ≡ m → Says a t r m → Says a t r n
+pub saying : {a : List ℤ} {t : List ℕ} {r : Result Progress Fault} {m n : Next Cell} → n ≡ m → Says a t r m → Says a t r n
 saying e s = rw e s
 
 -- a tag and its type
@@ -64,7 +64,7 @@ kinds_push t i u h e f k l = go (dec_lt k i)
 
 -- a value put at element i
 put_value : (a : List ℤ) (t : List ℕ) (i : ℕ) (v : ℤ) (u at : ℕ) (w : ExprTy) (z : ℤ) → u ≡ tag_of w → v ≡ z → Room a t i → i < ROOM
-    → Says (set a i v) (set t i u) (Go (i + 1) at) (go at ((w, z) ∷ cells_of a t i))
+    → Says (set a i v) (set t i u) (Ok (record { depth = i + 1; at = at })) (go at ((w, z) ∷ cells_of a t i))
 put_value a t i v u at w z p q m l =
     let y : type_on u ≡ w = ap type_on p ∙ tag_on w in
     record {
@@ -80,7 +80,7 @@ put_value a t i v u at w z p q m l =
 
 -- an answer for an outcome, put on the stack
 put : (a : List ℤ) (t : List ℕ) (i : ℕ) (v : ℤ) (u at : ℕ) (o : Out Cell) → found u v ≡ evaluated_of o → Room a t i → i < ROOM
-    → Says (set a i v) (set t i u) (Go (i + 1) at) (pushed o at (cells_of a t i))
+    → Says (set a i v) (set t i u) (Ok (record { depth = i + 1; at = at })) (pushed o at (cells_of a t i))
 put a t i v u at (fine (w, z)) q m l =
     let e : ◌≡◌ {A = Found} (record { kind = u; value = v }) (record { kind = tag_of w; value = z }) = cc in
     put_value a t i v u at w z (ap (λ (r : Found). r.kind) e) (ap (λ (r : Found). r.value) e) m l
@@ -88,32 +88,32 @@ put a t i v u at (fault p) q m l = absurd (let z : ◌≡◌ {A = ℕ} 0 1 = cc 
 
 -- the number through a local
 pub kept : (a : List ℤ) (t : List ℕ) (i : ℕ) (v : ℤ) (u at : ℕ) (o : Out Cell) → found u v ≡ evaluated_of o → SFits w32 v → Room a t i → i < ROOM
-    → Says (set a i (to_z w32 (of_z w32 v))) (set t i u) (Go (i + 1) at) (pushed o at (cells_of a t i))
+    → Says (set a i (to_z w32 (of_z w32 v))) (set t i u) (Ok (record { depth = i + 1; at = at })) (pushed o at (cells_of a t i))
 kept a t i v u at o q f m l = rw (to_z-of_z f) (put a t i v u at o q m l)
 
 -- a stop changes nothing
-pub stopped : (a : List ℤ) (t : List ℕ) (n q : ℕ) {o : Next Cell} → Room a t n → stop q ≡ o → Says a t (Stop q) o
+pub stopped : (a : List ℤ) (t : List ℕ) (n : ℕ) (q : Fault) {o : Next Cell} → Room a t n → stop (number_of q) ≡ o → Says a t (Err q) o
 stopped a t n q m e = record { room = record { numbers = m.numbers; tags = m.tags; depth = omega arith; kinds = λ k l. absurd (omega arith) }; says = e }
 
-pub fault_pushed : (q at : ℕ) (o : Out Cell) (st : List Cell) → Fault q ≡ evaluated_of o → stop q ≡ pushed o at st
+pub fault_pushed : (q at : ℕ) (o : Out Cell) (st : List Cell) → fault q ≡ evaluated_of o → stop q ≡ pushed o at st
 fault_pushed q at (fine x) st e = absurd (let z : ◌≡◌ {A = ℕ} 0 1 = cc in omega arith)
 fault_pushed q at (fault p) st e = let z : q ≡ p = cc in rw z
 
 -- what an operator gives, as a value of the type with the number t
-abbrev pub valued_of : ℕ → Out ℤ → Evaluated
+abbrev pub valued_of : ℕ → Out ℤ → Out Found
 valued_of t (fine z) = found t z
-valued_of t (fault q) = Fault q
+valued_of t (fault q) = fault q
 
 -- an operator that gives w, applied at element i; with its type's number u that is the outcome o
-pub went : {b : List ℤ} {r : ℕ} {n : Next Cell} (w : Out ℤ) (a : List ℤ) (t : List ℕ) (i u at : ℕ) (o : Out Cell) → n ≡ pushed o at (cells_of a t i)
-    → valued_of u w ≡ evaluated_of o → Applied w a i b r → r ≡ 0 → Room a t i → i < ROOM → Says b (set t i u) (Go (i + 1) at) n
+pub went : {b : List ℤ} {r : Result Unit Fault} {n : Next Cell} (w : Out ℤ) (a : List ℤ) (t : List ℕ) (i u at : ℕ) (o : Out Cell) → n ≡ pushed o at (cells_of a t i)
+    → valued_of u w ≡ evaluated_of o → Applied w a i b r → IsOk r → Room a t i → i < ROOM → Says b (set t i u) (Ok (record { depth = i + 1; at = at })) n
 went w a t i u at o h q p e m l = let v = p.value e in saying h (rw v.2 (put a t i v.0 u at o (rw v.1 at q) m l))
 
-pub halted : {b : List ℤ} {r : ℕ} {n : Next Cell} (w : Out ℤ) (a : List ℤ) (t : List ℕ) (i u at : ℕ) (o : Out Cell) → n ≡ pushed o at (cells_of a t i)
-    → valued_of u w ≡ evaluated_of o → Applied w a i b r → (r ≡ 0 → ⊥) → Room a t i → Says b t (Stop r) n
-halted {r = r} w a t i u at o h q p e m =
-    let v = p.refused e in
-    saying h (rw v.1 (stopped a t i r m (fault_pushed r at o (cells_of a t i) (rw v.0 at q))))
+pub halted : {b : List ℤ} {r : Result Unit Fault} {n : Next Cell} (f : Fault) (w : Out ℤ) (a : List ℤ) (t : List ℕ) (i u at : ℕ) (o : Out Cell) → n ≡ pushed o at (cells_of a t i)
+    → valued_of u w ≡ evaluated_of o → Applied w a i b r → r ≡ Err f → Room a t i → Says b t (Err f) n
+halted f w a t i u at o h q p e m =
+    let v = p.refused f e in
+    saying h (rw v.1 (stopped a t i f m (fault_pushed (number_of f) at o (cells_of a t i) (rw v.0 at q))))
 
 -- arrays of which nothing is in use, whatever they hold
 pub room_empty : {a : List ℤ} {t : List ℕ} → length a ≡ ROOM → length t ≡ ROOM → Room a t 0

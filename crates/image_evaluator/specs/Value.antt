@@ -6,8 +6,7 @@ use Rattle.spec_semantics.specs.Evaluation.{values}
 use Rattle.base_codes.specs.Types.{tag_of}
 use Rattle.spec_format.specs.Code.{Machine, typed}
 use Rattle.image_evaluator.specs.Position.{ROOM, run_at}
-use Rattle.image_evaluator.specs.declared.Evaluated.{Evaluated}
-use Rattle.image_evaluator.specs.declared.Evaluated.TheVariants.{Value, Fault}
+use Rattle.image_evaluator.specs.declared.Found.{Found}
 
 -- a value on the stack, with its type
 abbrev pub Cell : Type 0
@@ -34,10 +33,10 @@ unfoldable pub part_value : Machine Cell → List ℕ → ℕ → ℕ → Out Ce
 part_value M s k n = cond (leb (k + n) (length s)) (code_value M (take n (drop k s))) (fault 13)
 
 -- a value, with the number of its type
-abbrev pub found : ℕ → ℤ → Evaluated
-found k z = Value (record { kind = k; value = z })
+abbrev pub found : ℕ → ℤ → Out Found
+found k z = fine (record { kind = k; value = z })
 
--- the answer for an outcome: the value with the number of its type, or the refusal's number
-abbrev pub evaluated_of : Out Cell → Evaluated
+-- the answer for an outcome: the value with the number of its type, or the refusal
+abbrev pub evaluated_of : Out Cell → Out Found
 evaluated_of (fine x) = found (tag_of x.0) x.1
-evaluated_of (fault q) = Fault q
+evaluated_of (fault q) = fault q

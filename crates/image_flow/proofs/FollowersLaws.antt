@@ -1,12 +1,13 @@
 -- The pass over the statements stores the followers of the design's lines: by induction on blocks. Assumes nothing.
-use Prim.Native.Nat.{ℕ, zero, suc, ◌+◌, ◌-◌, ◌≤◌, ◌<◌}
+use Prim.Native.Nat.{ℕ, zero, suc, ◌+◌, ◌≤◌, ◌<◌}
 use native.Mathlib.Omega.{arith}
 use mathlib.Core.Path.{◌≡◌, refl, sym, ap, ◌∙◌}
-use mathlib.Core.Bool.{false, cond}
-use mathlib.Core.List.{List, [], ◌∷◌, ◌++◌, map}
+use mathlib.Core.Bool.{false}
+use mathlib.Core.List.{List, ◌∷◌, ◌++◌, map}
 use lib.ListN.{length, get_or, set, length-map, length-set}
 use lib.Seq.{sets, length-sets, get_or-set_same, get_or-set_other}
 use lib.Dec.{eqb}
+use Rattle.std.proofs.lemmas.List.{map-append}
 use lib.IntN.{ℤ}
 use borrow.Author.Tests.{eq-eqb, ne_eqb}
 use Rattle.spec_design.specs.Expression.{Expr}
@@ -18,13 +19,10 @@ use Rattle.base_ir.specs.Operations.{Op, ops}
 use Rattle.base_ir.specs.Entries.{Single, single_act, single_wait, single_if, single_else, single_while, Block, only, and_then}
 use Rattle.base_ir.specs.Arrays.{Row, row_in, At}
 use Rattle.base_ir.proofs.Held.{Own, at_first, at_rest, at_output, at_variable, at_null, at_wait, at_if, at_while, at_else}
-use Rattle.image_flow.specs.Followers.{Links, links, link, follower_of, rested, Announced, branched, if_links, opened, step_at, followed, other_of, stored}
+use Rattle.image_flow.specs.declared.followers.Links.{Links}
+use Rattle.image_flow.specs.Followers.{links, link, follower_of, rested, branched, opened, step_at, followed, other_of, stored}
 use Rattle.image_flow.specs.Followers.{Followed}
 use Rattle.image_flow.proofs.Sets.{get_d_sets_behind, sets_set_first, sets_rest, sets_inside, sets_two}
-
-map-append : {A B : Type 0} (g : A → B) (xs ys : List A) → map g (xs ++ ys) ≡ map g xs ++ map g ys
-map-append g [] ys = refl
-map-append g (x ∷ xs) ys = ap (λ (l : List _). g x ∷ l) (map-append g xs ys)
 
 -- What one statement's row makes of the arrays.
 
@@ -343,44 +341,10 @@ module _ (codes : List ℕ) (args : List ℤ) (rows : List ℕ) where
       ∙ links_equal (sets_set_first x.next 0 (size s) (map next (lines s 0 0)) (let q = next_length s 0 0 in omega arith))
       (sets_set_first x.other 0 0 (map other_of (lines s 0 0)) (let q = other_length s 0 0 in omega arith))
 
--- what is announced behind the last statement of a block, and behind another, from what the code reads
-module _ (rows : List ℕ) (j : ℕ) (x : Links) {end block after : ℕ} (e : end ≡ (row_in rows j).end) (b : block ≡ get_or x.next j 0)
-    (a : after ≡ get_or x.other j 0) where
-  pub announced_last : end ≡ block → Announced (row_in rows j) j x x after
-  unfolding rested
-  announced_last h = let t = eq-eqb (row_in rows j).end (get_or x.next j 0) (sym e ∙ h ∙ b) in (rw t, rw t a)
-
-  pub announced_more : {y : Links} → (end ≡ block → ⊥) → y ≡ link x end block after → Announced (row_in rows j) j x y end
-  unfolding rested
-  announced_more {y} h g =
-      let t = ne_eqb (row_in rows j).end (get_or x.next j 0) (λ q. h (e ∙ q ∙ sym b)) in
-      (rw (t, ← e, ← b, ← a) g, rw t e)
-
--- its followers
-pub linked : (rows : List ℕ) (j f : ℕ) (x z : Links) {kind end : ℕ} (second : ℕ) → kind ≡ (row_in rows j).kind → second ≡ (row_in rows j).other
-    → end ≡ (row_in rows j).end
-    → z ≡ cond (eqb kind 3) (if_links second end j f x) (cond (eqb kind 5) (branched j end j f x) (link x j f 0)) → z ≡ opened (row_in rows j) j f x
-unfolding opened
-linked rows j f x z second k s e h = cc
-
--- one statement
-pub step_made : (rows : List ℕ) (j : ℕ) (x : Links) {y z : Links} {f : ℕ} → Announced (row_in rows j) j x y f → z ≡ opened (row_in rows j) j f y
-    → z ≡ step_at rows j x
-unfolding step_at
-step_made rows j x a e = rw (← a.0, ← a.1) e
-
 -- the pass, one statement on
-pub followed_again : (rows : List ℕ) (j n : ℕ) (x : Links) → j < n → followed rows j (n - j) x ≡ followed rows (j + 1) (n - (j + 1)) (step_at rows j x)
+pub followed_next : (rows : List ℕ) (j : ℕ) (x : Links) → followed rows 0 (j + 1) x ≡ step_at rows j (followed rows 0 j x)
 unfolding followed
-followed_again rows j n x h = let z : n - j ≡ suc (n - (j + 1)) = omega arith in rw z
-
--- the pass at its end
-pub followed_end : (rows : List ℕ) (j n : ℕ) (x y : Links) → n ≤ j → followed rows j (n - j) x ≡ followed rows 0 (n - 0) y → x ≡ followed rows 0 n y
-unfolding followed
-followed_end rows j n x y h e =
-    let z : n - j ≡ 0 = omega arith in
-    let d : n - 0 ≡ n = omega arith in
-    rw (z, d) at e
+followed_next rows j x = let z : 0 + j ≡ j = omega arith in followed_add rows 0 j 1 x ∙ ap (λ (k : ℕ). step_at rows k (followed rows 0 j x)) z
 
 -- the whole pass
 pub followed_done : (rows : List ℕ) (n : ℕ) (x : Links) {y z : Links} → y ≡ link x 0 n 0 → z ≡ followed rows 0 n y → Followed rows n x z

@@ -2,7 +2,7 @@
 use Prim.Native.Nat.{ℕ, zero, suc, ◌+◌, ◌-◌, ◌*◌, ◌≤◌, ◌<◌, max}
 use native.Mathlib.Omega.{arith}
 use mathlib.Core.Path.{◌≡◌, refl, sym, ap, ◌∙◌}
-use mathlib.Core.Bool.{Bool, true, false, not, cond, ◌||◌}
+use mathlib.Core.Bool.{Bool, true, false, not, ◌||◌}
 use mathlib.Core.Logic.{⊎_elim}
 use mathlib.Core.List.{List, map}
 use lib.ListN.{length, get_or, set, length-map, length-set, get_or-map}
@@ -19,7 +19,8 @@ use Rattle.spec_simulation.proofs.Reaches.{lines_of_ranked}
 use Rattle.spec_simulation.proofs.Below.{reaches_of_below}
 use Rattle.base_ir.specs.Arrays.{Row, At}
 use Rattle.base_ir.proofs.Held.{at_first, at_rest, at_output, at_variable, at_null, at_wait, at_if, at_while, at_else}
-use Rattle.image_flow.specs.Followers.{Links, links, other_of, stored}
+use Rattle.image_flow.specs.declared.followers.Links.{Links}
+use Rattle.image_flow.specs.Followers.{other_of, stored}
 use Rattle.image_flow.specs.Reaches.{up_one, is_branch, reach_by, reach_at, sweep, sweeps, Reached, Swept}
 use Rattle.image_flow.proofs.Sets.{get_d_sets_behind, get_d_sets_in}
 
@@ -115,14 +116,6 @@ sweeps_still : (rows : List ℕ) (x : Links) (n k : ℕ) (r : List ℕ) → swee
 unfolding sweeps
 sweeps_still rows x n zero r e = refl
 sweeps_still rows x n (suc k) r e = ap (λ (q : List ℕ). sweeps rows x n k q) e ∙ sweeps_still rows x n k r e
-
--- one sweep more, or none left
-sweeps_again : (rows : List ℕ) (x : Links) (n k : ℕ) (r q : List ℕ) (moved : Bool) → 0 < k → q ≡ sweep rows x n r → (moved ≡ false → q ≡ r)
-    → sweeps rows x n (cond moved (k - 1) 0) q ≡ sweeps rows x n k r
-unfolding sweeps
-sweeps_again rows x n zero r q moved h e s = absurd (omega arith)
-sweeps_again rows x n (suc k) r q true h e s = let z : suc k - 1 ≡ k = omega arith in rw z (ap (λ (w : List ℕ). sweeps rows x n k w) e)
-sweeps_again rows x n (suc k) r q false h e s = s refl ∙ sym (sweeps_still rows x n (suc k) r (sym e ∙ s refl))
 
 module _ (rows : List ℕ) (x : Links) (t : List Line) (r : List ℕ) (w : Ranked t r) (small : (j : ℕ) → j < length t → reach r j ≤ 65535)
     (made : (j : ℕ) → j < length t → (q : List ℕ) (v : ℕ) → reach_of q (line t j) ≡ v → v ≤ 65535 → reach_at rows x j q ≡ v) where
@@ -221,21 +214,18 @@ no_change true false e = (e, sym e)
 no_change false true e = (refl, refl)
 no_change false false e = (refl, sym e)
 
-pub sweeping_again : (rows : List ℕ) (x : Links) (n j : ℕ) (before now after : List ℕ) (changed c : Bool) (v u : ℕ) → 0 < j
-    → Sweeping rows x n j before now changed
-    → v ≡ reach_at rows x (j - 1) now → u ≡ get_or now (j - 1) 0 → c ≡ (changed || not (eqb u v)) → after ≡ set now (j - 1) v
-    → Sweeping rows x n (j - 1) before after c
+-- one reach on
+pub sweeping_next : (rows : List ℕ) (x : Links) (n j : ℕ) (before now : List ℕ) (changed : Bool) (v : ℕ) → 0 < j → Sweeping rows x n j before now changed
+    → v ≡ reach_at rows x (j - 1) now → Sweeping rows x n (j - 1) before (set now (j - 1) v) (changed || not (eqb (get_or now (j - 1) 0) v))
 unfolding sweep
-sweeping_again rows x n zero before now after changed c v u h s e f g a = absurd (omega arith)
-sweeping_again rows x n (suc j) before now after changed c v u h s e f g a =
+sweeping_next rows x n zero before now changed v h s e = absurd (omega arith)
+sweeping_next rows x n (suc j) before now changed v h s e =
     let z : suc j - 1 ≡ j = omega arith in
     let e' : v ≡ reach_at rows x j now = rw z at e in
-    let f' : u ≡ get_or now j 0 = rw z at f in
-    let a' : after ≡ set now j v = rw z at a in
     rw z (record {
-      rest = ap (λ (q : List ℕ). sweep rows x j q) (a' ∙ ap (λ (w : ℕ). set now j w) e') ∙ s.rest;
-      same = λ d. let p = no_change changed (eqb u v) (sym g ∙ d) in
-          a' ∙ ap (λ (w : ℕ). set now j w) (sym (eqb-true u v p.1) ∙ f') ∙ set-get_or now j 0 ∙ s.same p.0;
+      rest = ap (λ (w : ℕ). sweep rows x j (set now j w)) e' ∙ s.rest;
+      same = λ d. let p = no_change changed (eqb (get_or now j 0) v) d in
+          ap (λ (w : ℕ). set now j w) (sym (eqb-true (get_or now j 0) v p.1)) ∙ set-get_or now j 0 ∙ s.same p.0;
     })
 
 -- the sweep at its end
@@ -245,22 +235,19 @@ unfolding sweep
 sweeping_end rows x n zero before now changed h s = record { are = s.rest; still = s.same }
 sweeping_end rows x n (suc j) before now changed h s = absurd (omega arith)
 
--- one reach, from what the code reads
-pub reach_made : (rows nexts others r : List ℕ) (j : ℕ) {v k f g a b : ℕ} → v ≡ reach_by k a b → k ≡ get_or rows (6 * j) 0 → f ≡ get_or nexts j 0 → a ≡ get_or r f 0
-    → g ≡ get_or others j 0 → b ≡ get_or r g 0 → v ≡ reach_at rows (links nexts others) j r
-reach_made rows nexts others r j p q s t u w = cc
-
--- the sweeps at their end
-pub sweeps_end : (rows : List ℕ) (x : Links) (n k : ℕ) (r q : List ℕ) → n ≤ 512 → k ≤ 0 → sweeps rows x n k r ≡ sweeps rows x n n q → Reached rows n x q r
+-- one sweep on
+pub sweeps_next : (rows : List ℕ) (x : Links) (n k : ℕ) (r : List ℕ) → k < n → sweeps rows x n (n - (k + 1)) (sweep rows x n r) ≡ sweeps rows x n (n - k) r
 unfolding sweeps
-sweeps_end rows x n zero r q few h e = λ codes args s x₀ a g c l p p' d b. e ∙ sweeps_whole rows n x q few codes args s x₀ a g c l p p' d b
-sweeps_end rows x n (suc k) r q few h e = absurd (omega arith)
+sweeps_next rows x n k r h = let z : n - k ≡ suc (n - (k + 1)) = omega arith in rw z
 
-pub left_falls : (k l : ℕ) (changed : Bool) → 0 < k → l ≡ cond changed (k - 1) 0 → l < k
-left_falls k l true h e = omega arith
-left_falls k l false h e = omega arith
+-- the sweeps at their end: none is left, or one changed nothing
+pub sweeps_end : (rows : List ℕ) (x : Links) (n k : ℕ) (r q : List ℕ) → n ≤ 512 → n ≤ k → sweeps rows x n (n - k) r ≡ sweeps rows x n n q → Reached rows n x q r
+unfolding sweeps
+sweeps_end rows x n k r q few h e =
+    let z : n - k ≡ 0 = omega arith in
+    λ codes args s x₀ a g c l p p' d b. (rw z at e) ∙ sweeps_whole rows n x q few codes args s x₀ a g c l p p' d b
 
-pub sweeps_next : (rows : List ℕ) (x : Links) (n k l : ℕ) (r q : List ℕ) (moved : Bool) → 0 < k → l ≡ cond moved (k - 1) 0 → q ≡ sweep rows x n r
-    → (moved ≡ false → q ≡ r)
-    → sweeps rows x n l q ≡ sweeps rows x n k r
-sweeps_next rows x n k l r q moved h g e s = ap (λ (i : ℕ). sweeps rows x n i q) g ∙ sweeps_again rows x n k r q moved h e s
+pub sweeps_cut : (rows : List ℕ) (x : Links) (n k : ℕ) (r r' q : List ℕ) → n ≤ 512 → r' ≡ sweep rows x n r → r' ≡ r → sweeps rows x n k r ≡ sweeps rows x n n q
+    → Reached rows n x q r'
+sweeps_cut rows x n k r r' q few i same e =
+    λ codes args s x₀ a g c l p p' d b. same ∙ sym (sweeps_still rows x n k r (sym i ∙ same)) ∙ e ∙ sweeps_whole rows n x q few codes args s x₀ a g c l p p' d b

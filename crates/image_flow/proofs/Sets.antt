@@ -3,7 +3,7 @@ use Prim.Native.Nat.{ℕ, zero, suc, ◌+◌, ◌≤◌, ◌<◌}
 use native.Mathlib.Omega.{arith}
 use mathlib.Core.Path.{◌≡◌, refl, sym, ap, ◌∙◌}
 use mathlib.Core.List.{List, [], ◌∷◌, ◌++◌}
-use lib.ListN.{length, get_or, set}
+use lib.ListN.{length, get_or, set, length-set}
 use lib.Seq.{sets, get_or-set_other, get_or-set_same, set-set, set_comm}
 
 module _ {A : Type 0} where
@@ -24,13 +24,8 @@ module _ {A : Type 0} where
       rw z (get_d_sets_before (set l j v) (suc j) vs j d (omega arith) ∙ get_or-set_same l j v d (omega arith))
   get_d_sets_in l j (v ∷ vs) (suc k) d h b =
       let z : j + suc k ≡ suc j + k = omega arith in
-      let n = set_length l j v in
+      let n = length-set l j v in
       rw z (get_d_sets_in (set l j v) (suc j) vs k d (omega arith) (omega arith))
-    where
-      set_length : (m : List A) (i : ℕ) (a : A) → length (set m i a) ≡ length m
-      set_length [] i a = refl
-      set_length (x ∷ m) zero a = refl
-      set_length (x ∷ m) (suc i) a = ap suc (set_length m i a)
 
   -- two runs, one behind the other
   pub sets_append : (l : List A) (j : ℕ) (us vs : List A) → sets l j (us ++ vs) ≡ sets (sets l j us) (j + length us) vs

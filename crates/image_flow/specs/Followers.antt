@@ -5,14 +5,10 @@ use Rattle.base_codes.specs.Statement as S
 use Rattle.spec_design.specs.Statement.{Stmt, size}
 use Rattle.base_ir.specs.Entries.{Block}
 use Rattle.base_ir.specs.Arrays.{Row, row_in, At}
+use Rattle.image_flow.specs.declared.followers.Links.{Links}
 use Rattle.spec_format.specs.Lines.{Line, waits, acts, branches, lines_of, next}
 
--- two arrays, a number of each for every statement. Of a statement that the pass has come to they have next and other;
--- of the first of a block that it has not come to, the end of the block and the line that follows the block.
-pub record Links : Type 0 where
-  pub next : List ℕ
-  pub other : List ℕ
-
+-- two arrays, a number of each for every statement
 abbrev pub links : List ℕ → List ℕ → Links
 links a b = record { next = a; other = b }
 

@@ -6,7 +6,8 @@ use Rattle.base_codes.specs.Limit as L
 use Rattle.spec_design.specs.Statement.{Stmt, size, C, class_of, LoopsC}
 use Rattle.base_ir.specs.Arrays.{At}
 use Rattle.spec_format.specs.Lines.{lines_of, reaches_of}
-use Rattle.image_flow.specs.Followers.{Links, stored, Followed}
+use Rattle.image_flow.specs.declared.followers.Links.{Links}
+use Rattle.image_flow.specs.Followers.{stored, Followed}
 
 -- one more, where a 16-bit number holds it
 abbrev pub up_one : ℕ → ℕ

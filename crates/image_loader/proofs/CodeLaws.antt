@@ -16,10 +16,11 @@ use Rattle.spec_design.specs.Types.{Ty, integer, ExprTy, plain, same_type}
 use Rattle.spec_design.specs.Expression.{Leaf, int, bit, input, variable, Unary, Binary, Expr, leaf, unary, binary, items, Out, fine, fault, bind, nth, plainly}
 use Rattle.spec_design.specs.Expression.{leaf_type, type_of_unary, type_of_binary}
 use Rattle.base_codes.specs.Operation.{INTEGER, STD_LOGIC, INPUT, VARIABLE, unary_for, binary_for, count_or, operands_of, width_of}
-use Rattle.base_codes.specs.Types.{NONE, tag_of, tag_or, type_after}
+use Rattle.std.specs.Prelude.{None, Some}
+use Rattle.base_codes.specs.Types.{tag_of, type_after}
 use Rattle.base_codes.specs.Limit.{ITEMS}
 use Rattle.base_codes.proofs.OperationLaws.{one_operand, two_operands, no_operands}
-use Rattle.base_codes.proofs.TypeLaws.{tag_type, tag_there, same_tag, unary_type_is, binary_type_is}
+use Rattle.base_codes.proofs.TypeLaws.{tag_type, same_tag, unary_type_is, binary_type_is}
 use Rattle.spec_semantics.proofs.Basic.{none_some, fault_fine, some_injective, fine_injective, cond_case}
 use Rattle.spec_format.specs.Words.{Bytes, word4_at, only_if}
 use Rattle.spec_semantics.specs.Twos.{signed32}
@@ -28,7 +29,7 @@ use Rattle.spec_format.specs.Code.{Machine, onto, run, run_operations, run_code,
 use Rattle.spec_format.proofs.Words.{word4_small, signed_range, byte_at}
 use Rattle.spec_format.proofs.Basic.{and_then_some, map_some}
 use Rattle.spec_format.proofs.Coding.{operations_any}
-use Rattle.image_loader.specs.Code.{tag_at, code_type, leaf_tag, pushed, unary_step, binary_step, step_at}
+use Rattle.image_loader.specs.Code.{Tag, tagged, tag_at, code_type, leaf_tag, pushed, unary_step, binary_step, step_at}
 use Rattle.image_loader.proofs.SectionLaws.{word_drop}
 
 -- Reading.
@@ -166,21 +167,21 @@ module _ (is vs : List Ty) where
       let q = pushed_fine (type_of_binary o x.0) (binary o x.0 x.1 y.1) st _ p (two_fine (same_type x.0 y.0) _ st _ p h) in
       run_items ops ((q.0, binary o x.0 x.1 y.1) ∷ st) p q.1 ∙ omega arith
 
--- the tag that a run leaves; that of no type where it leaves none
-abbrev pub leaves : Out ℕ → ℕ
-leaves (fine t) = t
-leaves (fault q) = NONE
+-- the tag that a run leaves, where it leaves one
+abbrev pub leaves : Out ℕ → Tag
+leaves (fine t) = Some t
+leaves (fault q) = None
 
 -- the operations that were read, run on tags
-abbrev pub run_rest : List Ty → List Ty → Option (List Operation) → List ℕ → ℕ
-run_rest is vs none st = NONE
+abbrev pub run_rest : List Ty → List Ty → Option (List Operation) → List ℕ → Tag
+run_rest is vs none st = None
 run_rest is vs (some ops) st = leaves (run (tags is vs) ops st)
 
-abbrev limited : Option (ExprTy × Expr) → ℕ
-limited d = tag_or (and_then d (λ p. only_if (leb (items p.1) ITEMS) (some p.0)))
+abbrev limited : Option (ExprTy × Expr) → Tag
+limited d = tagged (and_then d (λ p. only_if (leb (items p.1) ITEMS) (some p.0)))
 
 -- What code is judged by: at most 64 operations, run on tags.
-pub code_tags : (is vs : List Ty) (s : List ℕ) → tag_or (code_type is vs s) ≡ run_rest is vs (operations 64 s) []
+pub code_tags : (is vs : List Ty) (s : List ℕ) → tagged (code_type is vs s) ≡ run_rest is vs (operations 64 s) []
 unfolding code_type decode run_code run_operations value_of and_then total
 code_tags is vs s = go (operations (length s) s) refl (operations 64 s) refl
   where
@@ -190,7 +191,7 @@ code_tags is vs s = go (operations (length s) s) refl (operations 64 s) refl
         rw (le-leb (items p.1) 64 (omega arith))
     few ops (fault q) e h = refl
 
-    many : (ops : List Operation) (r : Out (ExprTy × Expr)) → run (typed is vs trees) ops [] ≡ r → 64 < length ops → limited (value_of r) ≡ NONE
+    many : (ops : List Operation) (r : Out (ExprTy × Expr)) → run (typed is vs trees) ops [] ≡ r → 64 < length ops → limited (value_of r) ≡ None
     many ops (fine p) e h =
         let z : items p.1 ≡ length ops + 0 = run_items is vs ops [] p e in
         rw (lt-leb (items p.1) 64 (omega arith))
@@ -202,7 +203,7 @@ code_tags is vs s = go (operations (length s) s) refl (operations 64 s) refl
     go none e (some ops) m = none_some ops (sym e ∙ operations_any 64 (length s) s ops m (operations_few 64 s ops m).1)
     go (some ops) e none m = judged (dec_lt 64 (length ops))
       where
-        judged : Dec (64 < length ops) → limited (value_of (run (typed is vs trees) ops [])) ≡ NONE
+        judged : Dec (64 < length ops) → limited (value_of (run (typed is vs trees) ops [])) ≡ None
         judged (yes h) = many ops (run (typed is vs trees) ops []) refl h
         judged (no h) = none_some ops (sym m ∙ operations_any (length s) 64 s ops e (omega arith))
     go (some ops) e (some pos) m =
@@ -226,13 +227,13 @@ abbrev stacked : Option ExprTy → List ℕ → Option (List ℕ)
 stacked none st = none
 stacked (some t) st = some (tag_of t ∷ st)
 
-stacked_pushed : (o : Option ExprTy) (st : List ℕ) → stacked o st ≡ pushed (tag_or o) st
+stacked_pushed : (o : Option ExprTy) (st : List ℕ) → stacked o st ≡ pushed (tagged o) st
 stacked_pushed none st = refl
-stacked_pushed (some t) st = rw (tag_there t)
+stacked_pushed (some t) st = refl
 
 -- what an operation makes of a stack of tags
-abbrev pub on_step : Option (List ℕ) → (List ℕ → ℕ) → ℕ
-on_step none k = NONE
+abbrev pub on_step : Option (List ℕ) → (List ℕ → Tag) → Tag
+on_step none k = None
 on_step (some u) k = k u
 
 module _ (is vs : List Ty) where
@@ -265,7 +266,7 @@ module _ (is vs : List Ty) where
   run_step (apply2 o) ops (y ∷ []) = refl
   run_step (apply2 o) ops (y ∷ x ∷ st) = two_step (eqb x y) (type_after (type_of_binary o) x) st _
 
-  step_none : (o : Option (List ℕ)) → NONE ≡ on_step o (λ u. NONE)
+  step_none : (o : Option (List ℕ)) → None ≡ on_step o (λ u. None)
   step_none none = refl
   step_none (some u) = refl
 
@@ -277,14 +278,14 @@ module _ (is vs : List Ty) where
   unary_step_lem : (k : ℕ) (o : Unary) → unary_for k ≡ some o → (st : List ℕ) → applied (apply1 o) st ≡ unary_step k st
   unfolding unary_step
   unary_step_lem k o e [] = refl
-  unary_step_lem k o e (x ∷ st) = stacked_pushed (type_after (type_of_unary o) x) st ∙ ap (λ z. pushed (tag_or z) st) (sym (unary_type_is k o e x))
+  unary_step_lem k o e (x ∷ st) = stacked_pushed (type_after (type_of_unary o) x) st ∙ ap (λ z. pushed (tagged z) st) (sym (unary_type_is k o e x))
 
   binary_step_lem : (k : ℕ) (o : Binary) → binary_for k ≡ some o → (st : List ℕ) → applied (apply2 o) st ≡ binary_step k st
   unfolding binary_step
   binary_step_lem k o e [] = refl
   binary_step_lem k o e (y ∷ []) = refl
   binary_step_lem k o e (y ∷ x ∷ st) =
-      ap (λ z. cond (eqb x y) z none) (stacked_pushed (type_after (type_of_binary o) x) st ∙ ap (λ z. pushed (tag_or z) st) (sym (binary_type_is k o e x)))
+      ap (λ z. cond (eqb x y) z none) (stacked_pushed (type_after (type_of_binary o) x) st ∙ ap (λ z. pushed (tagged z) st) (sym (binary_type_is k o e x)))
 
   -- One operation by place, in the code s whose elements are bytes.
   module _ (s : List ℕ) (b : Bytes s) (f at : ℕ) (st : List ℕ) where
@@ -416,11 +417,11 @@ module _ (is vs : List Ty) where
       operator_read : read_operation k (drop (suc at) s) ≡ Option.map (λ i. (i, drop (suc at) s)) (operator k)
       operator_read = rw (ne_eqb k INTEGER n1, ne_eqb k STD_LOGIC n2, ne_eqb k INPUT n3, ne_eqb k VARIABLE n4)
 
-      no_leaf : NONE ≡ leaf_tag is vs s at k
+      no_leaf : None ≡ leaf_tag is vs s at k
       unfolding leaf_tag
       no_leaf = rw (ne_eqb k INTEGER n1, ne_eqb k STD_LOGIC n2, ne_eqb k INPUT n3, ne_eqb k VARIABLE n4) (either (ltb (length s) (at + width_of k)))
         where
-          either : (b : Bool) → NONE ≡ cond b NONE NONE
+          either : (b : Bool) → ◌≡◌ {A = Tag} None (cond b None None)
           either true = refl
           either false = refl
 
@@ -446,7 +447,7 @@ module _ (is vs : List Ty) where
         (λ n4. step_operator k n1 n2 n3 n4 (unary_for k) refl (binary_for k) refl))))
 
   -- What the loop over the operations keeps: the rest of the code, with f operations left.
-  abbrev pub rest_of : List ℕ → ℕ → ℕ → List ℕ → ℕ
+  abbrev pub rest_of : List ℕ → ℕ → ℕ → List ℕ → Tag
   rest_of s f at st = run_rest is vs (operations f (drop at s)) st
 
   pub rest_turn : (s : List ℕ) → Bytes s → (f at : ℕ) (st : List ℕ) → at < length s
@@ -454,7 +455,7 @@ module _ (is vs : List Ty) where
   unfolding operations
   rest_turn s b f at st h = ap (λ z. run_rest is vs (operations (suc f) z) st) (drop-cons s at 0 h) ∙ step_any s b f at st (get_or s at 0)
 
-  pub rest_out : (s : List ℕ) (at : ℕ) (st : List ℕ) → at < length s → rest_of s 0 at st ≡ NONE
+  pub rest_out : (s : List ℕ) (at : ℕ) (st : List ℕ) → at < length s → rest_of s 0 at st ≡ None
   unfolding operations
   rest_out s at st h = ap (λ z. run_rest is vs (operations 0 z) st) (drop-cons s at 0 h)
 

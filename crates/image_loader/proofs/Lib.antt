@@ -1,6 +1,5 @@
 pub mod Bools
 pub mod SectionLaws
-pub mod PairTests
 pub mod SignatureLaws
 pub mod Stack
 pub mod NameTypes

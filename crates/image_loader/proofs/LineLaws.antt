@@ -24,10 +24,11 @@ use Rattle.spec_format.specs.Good.{good_line}
 use Rattle.spec_format.specs.Opening.{raw_line_at, raws, is_empty, line_of, open_line}
 use Rattle.spec_format.proofs.Words.{bytes_take, bytes_drop}
 use Rattle.spec_format.proofs.Decoding.{decode_back}
-use Rattle.base_codes.specs.Types.{BOOLEAN, tag_or}
-use Rattle.base_codes.proofs.TypeLaws.{tag_there, same_tag}
+use Rattle.std.specs.Prelude.{Some}
+use Rattle.base_codes.specs.Types.{BOOLEAN}
+use Rattle.base_codes.proofs.TypeLaws.{same_tag}
 use Rattle.image_loader.specs.Sections.{is_some}
-use Rattle.image_loader.specs.Code.{tag_at, signature_at, input_types, output_types, variable_types, code_type}
+use Rattle.image_loader.specs.Code.{tagged, tag_at, signature_at, input_types, output_types, variable_types, code_type}
 use Rattle.image_loader.specs.Lines.{tags_same, leaves_type, code_fits, followers_fit, stored_reaches}
 use Rattle.image_loader.proofs.Bools.{and_true}
 use Rattle.image_loader.proofs.SignatureLaws.{is_some_only_if}
@@ -37,17 +38,17 @@ use Rattle.image_loader.proofs.CodeLaws.{byte_case}
 
 -- a type that fits is a tag that is the same
 type_tag : (l : Bool) (t : ExprTy) (u : Option ExprTy)
-    → (l && is_type (some t) u) ≡ tags_same (tag_or (only_if l (some t))) (tag_or u)
+    → (l && is_type (some t) u) ≡ tags_same (tagged (only_if l (some t))) (tagged u)
 unfolding is_type same_type same_ty
 type_tag false t u = refl
-type_tag true t none = rw (tag_there t)
-type_tag true t (some u) = rw (tag_there t, same_tag t u)
+type_tag true t none = refl
+type_tag true t (some u) = rw (same_tag t u)
 
 -- a line with code: the code leaves the type u, and the tests a, m and q hold
 coded : (is vs : List Ty) (c : List ℕ) (u : Option ExprTy) (F : Expr → Line) (good : Line → Bool) (a m q : Bool) → Bytes c
     → ((e : Expr) → good (F e) ≡ (m && (q && fits is vs e u)))
     → is_some (bind (only_if a (map (λ e. F e.1) (decode is vs c))) (λ l. only_if (good l) (some l)))
-    ≡ (tags_same (tag_or (code_type is vs c)) (tag_or u) && (a && (m && q)))
+    ≡ (tags_same (tagged (code_type is vs c)) (tagged u) && (a && (m && q)))
 unfolding code_type bind fits
 coded is vs c u F good a m q b h = go (decode is vs c) refl a
   where
@@ -68,14 +69,14 @@ coded is vs c u F good a m q b h = go (decode is vs c) refl a
 
     go : (d : Option (ExprTy × Expr)) → decode is vs c ≡ d → (a : Bool)
         → is_some (bind (only_if a (map (λ e. F e.1) d)) (λ l. only_if (good l) (some l)))
-        ≡ (tags_same (tag_or (bind d (λ p. only_if (leb (items p.1) 64) (some p.0)))) (tag_or u) && (a && (m && q)))
+        ≡ (tags_same (tagged (bind d (λ p. only_if (leb (items p.1) 64) (some p.0)))) (tagged u) && (a && (m && q)))
     go none e true = refl
     go none e false = refl
     go (some p) e true =
         let t = (decode_back is vs c p.0 p.1 b e).1 in
         tested (F p.1) (m && (q && (leb (items p.1) 64 && is_type (some p.0) u))) (h p.1 ∙ rw t refl)
         ∙ order m q (leb (items p.1) 64 && is_type (some p.0) u) ∙ ap (λ z. z && (m && q)) (type_tag (leb (items p.1) 64) p.0 u)
-    go (some p) e false = sym (last (tags_same (tag_or (only_if (leb (items p.1) 64) (some p.0))) (tag_or u)))
+    go (some p) e false = sym (last (tags_same (tagged (only_if (leb (items p.1) 64) (some p.0))) (tagged u)))
 
 empty_test : (c : List ℕ) → is_empty c ≡ eqb (length c) 0
 empty_test [] = refl
@@ -145,7 +146,7 @@ module _ (sig : List ℕ) (n : ℕ) (rs : List ℕ) (q t f g : ℕ) (c : List �
   kind_3 =
       coded (input_types sig) (variable_types sig) c (some boolean) (λ e. branches e f g) (good_line (signature_at sig) n rs q)
       (eqb t 0) (ltb f n && ltb g n) (eqb q (suc (max (reach rs f) (reach rs g)))) b (λ e. refl)
-      ∙ rw add-one (branch_order (leaves_type sig c BOOLEAN) (eqb t 0) (ltb f n) (ltb g n) (eqb q (suc (max (reach rs f) (reach rs g)))))
+      ∙ rw add-one (branch_order (leaves_type sig c (Some BOOLEAN)) (eqb t 0) (ltb f n) (ltb g n) (eqb q (suc (max (reach rs f) (reach rs g)))))
 
   kind_4 : Judged 4
   unfolding line_of good_line typed_act code_fits followers_fit

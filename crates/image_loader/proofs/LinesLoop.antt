@@ -19,8 +19,7 @@ use Rattle.spec_format.specs.Opening.{raw_line_at, raws, open_line, Lined, lined
 use Rattle.image_loader.specs.Sections.{is_some}
 use Rattle.image_loader.specs.Code.{signature_at}
 use Rattle.image_loader.specs.Lines.{stored_reaches, judged, lines_from}
-use Rattle.image_loader.specs.declared.lines.Judgement.{Judgement}
-use Rattle.image_loader.specs.declared.lines.Judgement.TheVariants.{Good, BadAt}
+use Rattle.std.specs.Prelude.{Result, Ok, Err}
 use Rattle.image_loader.proofs.SignatureLaws.{is_some_only_if}
 use Rattle.image_loader.proofs.LineLaws.{raw_at}
 
@@ -28,11 +27,11 @@ judged_with : (l : Line) (r : Lined) → judged (with l r) ≡ judged r
 judged_with l (lined ls) = refl
 judged_with l (bad_at k) = refl
 
-judged_some : (o : Option Line) (x : ℕ) (k : Line → Lined) (r : Judgement) → is_some o ≡ true → ((l : Line) → judged (k l) ≡ r) → judged (go_on o x k) ≡ r
+judged_some : (o : Option Line) (x : ℕ) (k : Line → Lined) (r : Result (Unit {0}) ℕ) → is_some o ≡ true → ((l : Line) → judged (k l) ≡ r) → judged (go_on o x k) ≡ r
 judged_some none x k r e h = false_true e
 judged_some (some l) x k r e h = h l
 
-judged_none : (o : Option Line) (x : ℕ) (k : Line → Lined) → is_some o ≡ false → judged (go_on o x k) ≡ BadAt x
+judged_none : (o : Option Line) (x : ℕ) (k : Line → Lined) → is_some o ≡ false → judged (go_on o x k) ≡ Err x
 judged_none none x k e = refl
 judged_none (some l) x k e = false_true (sym e)
 
@@ -74,7 +73,7 @@ module _ (sig lines code : List ℕ) (n : ℕ) where
 
   line_bad : (x p : ℕ) → x < n
       → is_some (open_line (signature_at sig) n (stored_reaches n lines) p (drop p code) (raw_line_at (drop (12 * x) lines))) ≡ false
-      → lines_from sig lines code n x p ≡ BadAt x
+      → lines_from sig lines code n x p ≡ Err x
   line_bad x p h o =
       line_first x p h (raw_line_at (drop (12 * x) lines)) refl
       ∙ ap judged (opened_line (signature_at sig) (stored_reaches n lines) x p (drop p code) (raw_line_at (drop (12 * x) lines)) (raws (n - suc x) (drop (12 *
@@ -128,17 +127,17 @@ module _ (sig lines code : List ℕ) (n : ℕ) where
 
   pub left_bad : {x p : ℕ} → Left x p → x < n
       → is_some (open_line (signature_at sig) n (stored_reaches n lines) p (drop p code) (raw_line_at (drop (12 * x) lines))) ≡ false
-      → BadAt x ≡ lines_from sig lines code n 0 0
+      → Err x ≡ lines_from sig lines code n 0 0
   left_bad {x} {p} l h o = sym (line_bad x p h o) ∙ l.same
 
-  pub left_filled : {x p : ℕ} → Left x p → n ≤ x → length code ≤ p → Good ≡ lines_from sig lines code n 0 0
+  pub left_filled : {x p : ℕ} → Left x p → n ≤ x → length code ≤ p → Ok tt ≡ lines_from sig lines code n 0 0
   unfolding open_lines
   left_filled {x} {p} l h e =
       sym (lines_over x p h ∙ ap (λ z. judged (open_lines (signature_at sig) n (stored_reaches n lines) x p z [])) (drop_of_length-le code e)) ∙ l.same
 
-  pub left_over : {x p : ℕ} → Left x p → n ≤ x → p < length code → BadAt n ≡ lines_from sig lines code n 0 0
+  pub left_over : {x p : ℕ} → Left x p → n ≤ x → p < length code → Err n ≡ lines_from sig lines code n 0 0
   unfolding open_lines
   left_over {x} {p} l h e =
       let w = l.within in
       let z : n ≡ x = omega arith in
-      ap BadAt z ∙ sym (lines_over x p h ∙ ap (λ z. judged (open_lines (signature_at sig) n (stored_reaches n lines) x p z [])) (drop-cons code p 0 e)) ∙ l.same
+      ap Err z ∙ sym (lines_over x p h ∙ ap (λ z. judged (open_lines (signature_at sig) n (stored_reaches n lines) x p z [])) (drop-cons code p 0 e)) ∙ l.same

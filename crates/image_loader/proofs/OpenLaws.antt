@@ -22,8 +22,7 @@ use Rattle.image_loader.specs.Sections.{is_some, signature_length, lines_length,
 use Rattle.image_loader.specs.Code.{or_empty, signature_at}
 use Rattle.image_loader.specs.Lines.{stored_reaches, judged, lines_from}
 use Rattle.image_loader.specs.Open.{places_of, open_answer}
-use Rattle.image_loader.specs.declared.lines.Judgement.{Judgement}
-use Rattle.image_loader.specs.declared.lines.Judgement.TheVariants.{Good, BadAt}
+use Rattle.std.specs.Prelude.{Result, Ok, Err, MatchResult}
 use Rattle.image_loader.proofs.SectionLaws.{Lengths, paired_lengths, sections_read, sections_test}
 use Rattle.image_loader.proofs.LineLaws.{raws_length, run_same}
 
@@ -68,9 +67,9 @@ module _ (b : List ℕ) (h : is_some (sections_of b) ≡ true) where
       go (some σ) m r = false_true (sym r)
 
   -- .. and the others by 13, or not at all
-  abbrev answered : Judgement → Told declared_sections.Sections
-  answered Good = done (places_of b)
-  answered (BadAt x) = refused_by (BadLine x)
+  abbrev answered : Result (Unit {0}) ℕ → Told declared_sections.Sections
+  answered (Ok u) = done (places_of b)
+  answered (Err x) = refused_by (BadLine x)
 
   tabled_answer : (σ : Signature) (rs : List ℕ) (l : Lined) → answered (judged l) ≡ open_answer b (tabled σ rs l)
   tabled_answer σ rs (lined ls) = refl
@@ -90,7 +89,7 @@ module _ (b : List ℕ) (h : is_some (sections_of b) ≡ true) where
   from_first sig lines code n = let d : n - 0 ≡ n = omega arith in rw d
 
   pub open_13 : (s l c : List ℕ) → s ≡ (parts b).signature → l ≡ (parts b).lines → c ≡ (parts b).code → is_some (signature_of s) ≡ true
-      → (j : Judgement) → j ≡ lines_from s l c (length l / 12) 0 0 → answered j ≡ open_answer b (open_of b)
+      → (j : Result (Unit {0}) ℕ) → j ≡ lines_from s l c (length l / 12) 0 0 → answered j ≡ open_answer b (open_of b)
   unfolding open_sections signature_at
   open_13 s l c es el ec q j ej = go (signature_of s) refl q
     where
@@ -120,12 +119,17 @@ module _ (b : List ℕ) (h : is_some (sections_of b) ≡ true) where
   pub lines_few : (l : List ℕ) → l ≡ (parts b).lines → length l / 12 ≤ 512
   lines_few l e = let z : length l ≡ lines_length b = ap length e ∙ lengths.lines in let f = few in rw z f
 
-  pub open_good : {j : Judgement} {l c e : ℕ} → l ≡ lines_start b → c ≡ code_start b → e ≡ length b → j ≡ Good → answered j ≡ open_answer b (open_of b)
-      → done (record { signature = 28; lines = l; code = c; end = e }) ≡ open_answer b (open_of b)
-  open_good {j} {l} {c} {e} el ec ee ej h = rw (el, ec, ee) (ap answered (sym ej) ∙ h)
+  -- what the lines come to, as the code tells it
+  pub open_good : (j : Result (Unit {0}) ℕ) (m : Result (Unit {0}) Refusal) {u : Unit {0}} {l c : ℕ} → MatchResult j (λ x. m ≡ Ok x) (λ x. m ≡ Err (BadLine x)) → m ≡ Ok u
+      → l ≡ lines_start b → c ≡ code_start b → answered j ≡ open_answer b (open_of b)
+      → done (record { signature = 28; lines = l; code = c; end = length b }) ≡ open_answer b (open_of b)
+  open_good (Ok x) m h e el ec a = rw (el, ec) a
+  open_good (Err x) m h e el ec a = cc
 
-  pub open_bad : {j : Judgement} {x : ℕ} → j ≡ BadAt x → answered j ≡ open_answer b (open_of b) → refused_by (BadLine x) ≡ open_answer b (open_of b)
-  open_bad ej h = ap answered (sym ej) ∙ h
+  pub open_bad : (j : Result (Unit {0}) ℕ) (m : Result (Unit {0}) Refusal) {r : Refusal} → MatchResult j (λ x. m ≡ Ok x) (λ x. m ≡ Err (BadLine x)) → m ≡ Err r
+      → answered j ≡ open_answer b (open_of b) → refused_by r ≡ open_answer b (open_of b)
+  open_bad (Ok x) m h e a = cc
+  open_bad (Err x) m {r} h e a = let q : r ≡ BadLine x = cc in rw q a
 
 -- What a caller learns of an image that opened: its table, and where its sections start.
 pub image_opened : (b : List ℕ) (s : declared_sections.Sections) → done s ≡ open_answer b (open_of b) → (t : Table) × (open_of b ≡ opened t) × (s ≡ places_of b)

@@ -1,5 +1,5 @@
 -- Reading a signature is a chain of tests by places: the bytes after n types or cells are those n or 5 * n bytes further. Assumes nothing.
-use Prim.Native.Nat.{ℕ, zero, suc, ◌+◌, ◌-◌, ◌*◌, ◌≤◌, ◌<◌}
+use Prim.Native.Nat.{ℕ, zero, suc, ◌+◌, ◌*◌, ◌≤◌, ◌<◌}
 use native.Mathlib.Omega.{arith}
 use mathlib.Core.Path.{◌≡◌, refl, sym, ap, ◌∙◌}
 use mathlib.Core.Bool.{Bool, true, false, ◌&&◌}
@@ -8,6 +8,7 @@ use mathlib.Core.List.{List, [], ◌∷◌}
 use lib.ListN.{length, get_or, drop, length-drop, drop_of_length-le}
 use lib.Seq.{get_or-drop, drop-drop, drop-cons}
 use lib.IntN.{ℤ}
+use Rattle.std.specs.List.{list_all, range_with_len}
 use lib.Dec.{ltb, leb}
 use mir.Syntax.{w32}
 use mir.Val.{SFits, to_z, of_z}
@@ -149,25 +150,7 @@ cells_rest (suc n) s p e =
     ap (λ (q : List Cell × List ℕ). q.1) (sym (some_injective _ p q.2)) ∙ cells_rest n t.0.1 q.0 q.1
     ∙ ap (drop (5 * n)) (cell_rest s t.0 t.1) ∙ drop-drop (5 * n) 5 s ∙ ap (λ z. drop z s) k
 
--- What a loop over types or cells keeps: what is left answers what the whole answers.
-
-module _ (w : ℕ) (test one : ℕ → List ℕ → Bool) (steps : (n at : ℕ) (s : List ℕ) → test (suc n) (drop at s) ≡ (one at s && test n (drop (at + w) s))) where
-  left_step : (s : List ℕ) (place left : ℕ) → 0 < left → test left (drop place s) ≡ (one place s && test (left - 1) (drop (place + w) s))
-  left_step s place zero h = absurd (omega arith)
-  left_step s place (suc left) h = let e : suc left - 1 ≡ left = omega arith in rw e (steps left place s)
-
-  pub left_again : (s : List ℕ) (place left : ℕ) {t : Bool} → test left (drop place s) ≡ t → 0 < left → one place s ≡ true
-      → test (left - 1) (drop (place + w) s) ≡ t
-  left_again s place left p h q = sym (left_step s place left h ∙ rw q) ∙ p
-
-  pub left_stop : (s : List ℕ) (place left : ℕ) {t : Bool} → test left (drop place s) ≡ t → 0 < left → one place s ≡ false → false ≡ t
-  left_stop s place left p h q = sym (left_step s place left h ∙ rw q) ∙ p
-
-  pub left_end : (s : List ℕ) (place left : ℕ) {t : Bool} → ((r : List ℕ) → test 0 r ≡ true) → test left (drop place s) ≡ t → left ≤ 0 → true ≡ t
-  left_end s place zero z p h = sym (z (drop place s)) ∙ p
-  left_end s place (suc left) z p h = absurd (omega arith)
-
--- the tests of the two loops
+-- The tests of all types and of all cells.
 abbrev pub types_test : ℕ → List ℕ → Bool
 types_test n s = is_some (read_types n s)
 
@@ -187,6 +170,17 @@ cell_here at s = is_some (read_cell (drop at s))
 pub cells_none : (r : List ℕ) → cells_test 0 r ≡ true
 unfolding read_cells
 cells_none r = refl
+
+-- n types or cells are there where each is by its place: the types one byte apart, ..
+pub types_all : (n at : ℕ) (s : List ℕ) → list_all (λ k. type_here k s) (range_with_len at n) ≡ types_test n (drop at s)
+types_all zero at s = sym (types_none (drop at s))
+types_all (suc n) at s = sym (types_step n at s ∙ ap (λ z. type_here at s && z) (sym (types_all n (at + 1) s)))
+
+-- .. and the cells five
+pub cells_all : (n j at p : ℕ) (s : List ℕ) → p ≡ at + 5 * j → list_all (λ k. cell_here (at + 5 * k) s) (range_with_len j n) ≡ cells_test n (drop p s)
+cells_all zero j at p s e = sym (cells_none (drop p s))
+cells_all (suc n) j at p s e =
+    sym (cells_step n p s ∙ ap (λ z. cell_here p s && z) (sym (cells_all n (j + 1) at (p + 5) s (omega arith))) ∙ ap (λ z. cell_here z s && list_all (λ k. cell_here (at + 5 * k) s) (range_with_len (j + 1) n)) e)
 
 -- The whole signature.
 

@@ -1,9 +1,10 @@
 // Refusal 13: the lines one after the other, each with its run of code, in one pass.
-ghost use Rattle.std.specs.Prelude.{◌≡◌, true, ◌+◌, ◌*◌, ◌/◌, ◌<◌, ◌≤◌, max, length, get_or, drop};
+ghost use Rattle.std.specs.Prelude.{◌≡◌, true, ◌+◌, ◌*◌, ◌/◌, ◌<◌, ◌≤◌, length, get_or, drop};
 ghost use Rattle.spec_format.specs.Words.{word2_at};
 ghost use Rattle.spec_format.specs.Signature.{signature_of};
 ghost use Rattle.spec_format.specs.Opening.{raw_line_at, open_line};
 ghost use Rattle.base_codes.specs.Image.{LINE, LINE_NEXT, LINE_OTHER, LINE_REACH};
+ghost use Rattle.base_codes.specs.Statement.{OUTPUT, VARIABLE};
 ghost use Rattle.base_codes.specs.Limit.{STATEMENTS};
 ghost use Rattle.image_loader.specs.Sections.{is_some};
 ghost use Rattle.image_loader.specs.Code.{signature_at};
@@ -11,13 +12,6 @@ ghost use Rattle.image_loader.specs.Lines.{leaves_type, code_fits, followers_fit
 
 use crate::signature::count;
 use base_codes::{image, types};
-
-// All lines are good, or the lowest bad line, or the line count where only the code section is not filled.
-#[derive(Clone, Copy)]
-pub(crate) enum Judgement {
-    Good,
-    BadAt(usize),
-}
 
 // A two-byte number as a place.
 fn short(s: &[u8], at: usize) -> usize
@@ -27,54 +21,47 @@ fn short(s: &[u8], at: usize) -> usize
     image_words::word2(s, at) as usize
 }
 
-// The larger of two numbers.
-fn larger(a: usize, b: usize) -> usize
-    ensures { result ≡ max a b }
-{
-    if a < b { b } else { a }
-}
-
 // A run of code leaves a value of the type that is needed.
-fn leaves(signature: &[u8], run: &[u8], needed: u8) -> bool
+#[tactic(auto, unfolding(crate::specs::Lines::leaves_type))]
+fn leaves(signature: &[u8], run: &[u8], needed: Option<u8>) -> bool
     requires { is_some (signature_of signature.now) ≡ true }
     ensures { result ≡ leaves_type signature.now run.now needed }
 {
-    let t = crate::code::code_type(signature, run);
-    if t == types::NONE {
-        return false;
+    match (crate::code::code_type(signature, run), needed) {
+        (Some(t), Some(u)) => t == u,
+        _ => false,
     }
-    t == needed
+}
+
+// Kind and code of a line without a target are right.
+#[tactic(auto, unfolding(crate::specs::Lines::code_fits))]
+fn code_fits_alone(signature: &[u8], kind: u8, run: &[u8]) -> bool
+    requires { is_some (signature_of signature.now) ≡ true }
+    ensures { (kind ≡ OUTPUT → ⊥) → (kind ≡ VARIABLE → ⊥) → result ≡ code_fits signature.now kind 0 run.now }
+{
+    match kind {
+        image::BRANCH => leaves(signature, run, Some(types::BOOLEAN)),
+        image::WAIT | image::NULL => run.is_empty(),
+        _ => false,
+    }
 }
 
 // Kind, target and code of a line are right.
+#[tactic(auto, unfolding(crate::specs::Lines::code_fits))]
 fn code_fits(signature: &[u8], kind: u8, target: usize, run: &[u8]) -> bool
     requires signature_value { is_some (signature_of signature.now) ≡ true }
     requires target_bound { target < 256 }
     ensures { result ≡ code_fits signature.now kind target run.now }
 {
-    if kind == image::OUTPUT {
-        return leaves(signature, run, crate::code::output_type(signature, target));
-    }
-    if kind == image::VARIABLE {
-        return leaves(
+    match kind {
+        image::OUTPUT => leaves(signature, run, crate::code::output_type(signature, target)),
+        image::VARIABLE => leaves(
             signature,
             run,
             crate::code::variable_type(signature, target),
-        );
+        ),
+        _ => target == 0 && code_fits_alone(signature, kind, run),
     }
-    if target == 0 {
-        if kind == image::BRANCH {
-            return leaves(signature, run, types::BOOLEAN);
-        }
-        if kind == image::WAIT {
-            return run.len() == 0;
-        }
-        if kind == image::NULL {
-            return run.len() == 0;
-        }
-        return false;
-    }
-    false
 }
 
 // The reach of a line.
@@ -88,26 +75,21 @@ fn reach_of(lines: &[u8], n: usize, k: usize) -> usize
 }
 
 // Next, other and reach of a line are right.
+#[tactic(auto, unfolding(crate::specs::Lines::followers_fit))]
 fn followers_fit(lines: &[u8], n: usize, kind: u8, next: usize, other: usize, reach: usize) -> bool
     requires { n ≤ STATEMENTS }
     ensures { result ≡ followers_fit n (stored_reaches n lines.now) kind next other reach }
 {
-    if next < n {
-        if kind == image::BRANCH {
-            if other < n {
-                return reach == larger(reach_of(lines, n, next), reach_of(lines, n, other)) + 1;
-            }
-            return false;
-        }
-        if other == 0 {
-            if kind == image::WAIT {
-                return reach == 0;
-            }
-            return reach == reach_of(lines, n, next) + 1;
-        }
+    if n <= next {
         return false;
     }
-    false
+    match kind {
+        image::BRANCH => {
+            other < n && reach == reach_of(lines, n, next).max(reach_of(lines, n, other)) + 1
+        }
+        image::WAIT => other == 0 && reach == 0,
+        _ => other == 0 && reach == reach_of(lines, n, next) + 1,
+    }
 }
 
 // Next, other and reach of the line of a kind at a place are right.
@@ -132,42 +114,30 @@ fn line_fits(signature: &[u8], lines: &[u8], code: &[u8], n: usize, x: usize, p:
 {
     let at = image::LINE * x;
     let size = short(lines, at + image::LINE_CODE_SIZE);
-    if short(lines, at + image::LINE_CODE) == p {
-        if size <= code.len() - p {
-            let kind = image_words::byte(lines, at);
-            let end = p + size;
-            if code_fits(
-                signature,
-                kind,
-                count(lines, at + image::LINE_TARGET),
-                &code[p..end],
-            ) {
-                return goes_on(lines, n, kind, at);
-            }
-        }
+    if short(lines, at + image::LINE_CODE) != p || code.len() - p < size {
+        return false;
     }
-    false
+    let kind = image_words::byte(lines, at);
+    let target = count(lines, at + image::LINE_TARGET);
+    code_fits(signature, kind, target, &code[p..p + size]) && goes_on(lines, n, kind, at)
 }
 
-// All lines and the code section's end.
-pub(crate) fn judge(signature: &[u8], lines: &[u8], code: &[u8]) -> Judgement
+// All lines and the code section's end: all is good; or the lowest bad line, or the line count where only the code section is not filled.
+pub(crate) fn judge(signature: &[u8], lines: &[u8], code: &[u8]) -> Result<(), usize>
     requires signature_value { is_some (signature_of signature.now) ≡ true }
     requires lines_len_bound { length lines.now / LINE ≤ STATEMENTS }
     ensures { result ≡ lines_from signature.now lines.now code.now (length lines.now / LINE) 0 0 }
 {
     let n = lines.len() / image::LINE;
-    let mut x: usize = 0;
-    let mut p: usize = 0;
-    while x < n {
-        if line_fits(signature, lines, code, n, x, p) {
-            p += short(lines, image::LINE * x + image::LINE_CODE_SIZE);
-            x += 1;
-        } else {
-            return Judgement::BadAt(x);
+    let mut p = 0;
+    for x in 0..n {
+        if !line_fits(signature, lines, code, n, x, p) {
+            return Err(x);
         }
+        p += short(lines, image::LINE * x + image::LINE_CODE_SIZE);
     }
     if p < code.len() {
-        return Judgement::BadAt(n);
+        return Err(n);
     }
-    Judgement::Good
+    Ok(())
 }

@@ -15,58 +15,41 @@ pub(crate) fn long(s: &[u8], at: usize) -> usize
 }
 
 // The image's length, form and count are right.
+#[tactic(auto, unfolding(crate::specs::Sections::headed))]
 fn header(image: &[u8]) -> bool
     ensures { result ≡ headed image.now }
 {
-    if limit::IMAGE < image.len() {
-        return false;
-    }
-    if image.len() < image::HEADER {
-        return false;
-    }
-    if image_words::word2(image, image::FORM) == image::FORM_1 {
-        return image_words::word2(image, image::SECTIONS) == image::THREE;
-    }
-    false
+    image.len() <= limit::IMAGE
+        && image::HEADER <= image.len()
+        && image_words::word2(image, image::FORM) == image::FORM_1
+        && image_words::word2(image, image::SECTIONS) == image::THREE
 }
 
 // The pairs have no gap, and the last section ends the image.
+#[tactic(auto, unfolding(crate::specs::Sections::paired))]
 fn pairs(image: &[u8]) -> bool
     ensures { result ≡ paired image.now }
 {
-    let signature = long(image, image::SIGNATURE_SIZE);
-    let lines = long(image, image::LINES_SIZE);
-    let code = long(image, image::CODE_SIZE);
-    if long(image, image::SIGNATURE) == image::HEADER {
-        if long(image, image::LINES) == image::HEADER + signature {
-            if long(image, image::CODE) == image::HEADER + signature + lines {
-                return image.len() == image::HEADER + signature + lines + code;
-            }
-        }
-    }
-    false
+    let lines = image::HEADER + long(image, image::SIGNATURE_SIZE);
+    let code = lines + long(image, image::LINES_SIZE);
+    long(image, image::SIGNATURE) == image::HEADER
+        && long(image, image::LINES) == lines
+        && long(image, image::CODE) == code
+        && image.len() == code + long(image, image::CODE_SIZE)
 }
 
 // There are 1 to 512 whole lines.
+#[tactic(auto, unfolding(crate::specs::Sections::whole))]
 fn whole_lines(size: usize) -> bool
     ensures { result ≡ whole size }
 {
-    if size % image::LINE == 0 {
-        if 1 <= size / image::LINE {
-            return size / image::LINE <= limit::STATEMENTS;
-        }
-    }
-    false
+    size % image::LINE == 0 && 1 <= size / image::LINE && size / image::LINE <= limit::STATEMENTS
 }
 
 // The image has its three sections; where not, it is refused by 11.
+#[tactic(auto, using(crate::proofs::SectionLaws::sections_test), unfolding(crate::specs::Sections::sectioned))]
 pub(crate) fn has_sections(image: &[u8]) -> bool
     ensures { result ≡ is_some (sections_of image.now) }
 {
-    if header(image) {
-        if pairs(image) {
-            return whole_lines(long(image, image::LINES_SIZE));
-        }
-    }
-    false
+    header(image) && pairs(image) && whole_lines(long(image, image::LINES_SIZE))
 }

@@ -13,17 +13,15 @@ pub(crate) fn count(s: &[u8], at: usize) -> usize
     ensures value { result ≡ get_or s.now at 0 }
     ensures upper_bound { result < 256 }
 {
-    image_words::wide(image_words::byte(s, at)) as usize
+    usize::from(image_words::byte(s, at))
 }
 
 // There is a type byte at a position.
+#[tactic(auto, using(crate::proofs::SignatureLaws::type_there))]
 fn type_byte(s: &[u8], at: usize) -> bool
     ensures { result ≡ (ltb at (length s.now) && is_some (type_of_byte (get_or s.now at 0))) }
 {
-    if at < s.len() {
-        return base_codes::types::is_type_byte(image_words::byte(s, at));
-    }
-    false
+    at < s.len() && base_codes::types::is_type_byte(s[at])
 }
 
 // There are n type bytes from a position on.
@@ -31,17 +29,7 @@ fn types(s: &[u8], at: usize, n: usize) -> bool
     requires { at + n ≤ IMAGE }
     ensures { result ≡ is_some (read_types n (drop at s.now)) }
 {
-    let mut place = at;
-    let mut left = n;
-    while 0 < left {
-        if type_byte(s, place) {
-            place += 1;
-            left -= 1;
-        } else {
-            return false;
-        }
-    }
-    true
+    (at..at + n).all(|place| type_byte(s, place))
 }
 
 // There is a type byte with a value of its type at a position.
@@ -49,13 +37,8 @@ fn cell(s: &[u8], at: usize) -> bool
     requires { at ≤ IMAGE }
     ensures { result ≡ is_some (read_cell (drop at s.now)) }
 {
-    if s.len() < at + image::SLOT {
-        return false;
-    }
-    base_signed::in_type(
-        image_words::byte(s, at),
-        base_signed::from_bits(image_words::word4(s, at + 1)),
-    )
+    at + image::SLOT <= s.len()
+        && base_signed::in_type(s[at], base_signed::from_bits(image_words::word4(s, at + 1)))
 }
 
 // There are n types with their initial values from a position on.
@@ -63,17 +46,7 @@ fn cells(s: &[u8], at: usize, n: usize) -> bool
     requires { at + SLOT * n ≤ IMAGE }
     ensures { result ≡ is_some (read_cells n (drop at s.now)) }
 {
-    let mut place = at;
-    let mut left = n;
-    while 0 < left {
-        if cell(s, place) {
-            place += image::SLOT;
-            left -= 1;
-        } else {
-            return false;
-        }
-    }
-    true
+    (0..n).all(|k| cell(s, at + image::SLOT * k))
 }
 
 // The section is a signature's; where not, the image is refused by 12.
@@ -86,22 +59,11 @@ pub(crate) fn has_signature(s: &[u8]) -> bool
     let inputs = count(s, image::INPUTS);
     let outputs = count(s, image::OUTPUTS);
     let variables = count(s, image::VARIABLES);
-    if limit::INPUTS < inputs {
-        return false;
-    }
-    if limit::OUTPUTS < outputs {
-        return false;
-    }
-    if limit::VARIABLES < variables {
-        return false;
-    }
-    if types(s, image::COUNTS, inputs) {
-        if cells(s, image::COUNTS + inputs, outputs) {
-            if cells(s, image::COUNTS + inputs + image::SLOT * outputs, variables) {
-                return s.len()
-                    <= image::COUNTS + inputs + image::SLOT * outputs + image::SLOT * variables;
-            }
-        }
-    }
-    false
+    inputs <= limit::INPUTS
+        && outputs <= limit::OUTPUTS
+        && variables <= limit::VARIABLES
+        && types(s, image::COUNTS, inputs)
+        && cells(s, image::COUNTS + inputs, outputs)
+        && cells(s, image::COUNTS + inputs + image::SLOT * outputs, variables)
+        && s.len() <= image::COUNTS + inputs + image::SLOT * outputs + image::SLOT * variables
 }

@@ -4,11 +4,11 @@ use mathlib.Core.Path.{◌≡◌, sym, ap, ◌∙◌}
 use mathlib.Core.Option.{some}
 use mathlib.Core.List.{List, []}
 use lib.ListN.{take, drop}
+use Rattle.std.specs.Prelude.{Err, Ok}
 use Rattle.base_answers.specs.declared.State.{State}
 use Rattle.base_answers.specs.declared.Refusal.{Refusal}
 use Rattle.base_answers.specs.declared.Sections.{Sections}
-use Rattle.base_answers.specs.declared.Started.TheVariants.{Fresh, NotStarted}
-use Rattle.base_answers.specs.Answers.{fresh_told, done, refused_by, number_of, place_of}
+use Rattle.base_answers.specs.Answers.{told, done, refused_by, number_of, place_of}
 use Rattle.spec_format.specs.Words.{Bytes}
 use Rattle.spec_format.specs.Signature.{signature_of}
 use Rattle.spec_format.specs.Image.{Table}
@@ -26,7 +26,7 @@ module _ (b : List ℕ) (x : Sections) (e : done x ≡ open_answer b (open_of b)
   unfolding fresh_of
   started = ap fresh_from (opens b x e)
 
-  pub fresh_answer_lem : fresh_told Fresh ≡ fresh_answer (fresh_of b)
+  pub fresh_answer_lem : told (Ok tt) ≡ fresh_answer (fresh_of b)
   fresh_answer_lem = sym (ap fresh_answer started)
 
   pub fresh_state : Bytes b → (s : State)
@@ -36,7 +36,7 @@ module _ (b : List ℕ) (x : Sections) (e : done x ≡ open_answer b (open_of b)
 -- an image that is refused
 pub fresh_refused : (b : List ℕ) (r : Refusal) → refused_by r ≡ open_answer b (open_of b) → (s : State)
     → s ≡ state_for 512 (record { outputs = []; variables = [] })
-    → (fresh_told (NotStarted r) ≡ fresh_answer (fresh_of b)) × (s ≡ start_of (fresh_of b))
+    → (told (Err r) ≡ fresh_answer (fresh_of b)) × (s ≡ start_of (fresh_of b))
 unfolding fresh_of
 fresh_refused b r e s f =
     let z : fresh_of b ≡ fresh_from (not_opened (number_of r) (place_of r)) = ap fresh_from (image_refused b r e) in

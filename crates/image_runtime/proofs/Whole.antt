@@ -7,11 +7,11 @@ use mathlib.Core.Bool.{true}
 use mathlib.Core.List.{List}
 use lib.ListN.{length, take, drop}
 use lib.IntN.{ℤ}
+use Rattle.std.specs.Prelude.{Err}
 use Rattle.base_answers.specs.Answers.{lines_of, cycle_told, done, refused_by, count_of}
 use Rattle.base_answers.specs.declared.State.{State}
 use Rattle.base_answers.specs.declared.Refusal.{Refusal}
 use Rattle.base_answers.specs.declared.Sections.{Sections}
-use Rattle.base_answers.specs.declared.Cycled.TheVariants.{NotPerformed}
 use Rattle.spec_format.specs.Words.{Bytes}
 use Rattle.spec_format.specs.Lines.{reach}
 use Rattle.spec_format.specs.Walk.{from}
@@ -97,12 +97,13 @@ module _ (b : List ℕ) (x : Sections) (e : done x ≡ open_answer b (open_of b)
 -- An image that is refused.
 
 -- a cycle on it: state and row as they came
-pub refused_advance : (b : List ℕ) (r : Refusal) → refused_by r ≡ open_answer b (open_of b) → (s : State) (i o : List ℤ)
-    → Advances (cycle_of b s i o) (record { state = s; answer = NotPerformed r }) o
+pub refused_advance : (b : List ℕ) (r : Refusal) → refused_by r ≡ open_answer b (open_of b) → (s : State) (i o : List ℤ) (a : Advanced)
+    → a ≡ record { state = s; answer = Err r } → Advances (cycle_of b s i o) a o
 unfolding cycle_of
-refused_advance b r e s i o =
-    subst (λ (z : Opened). Advances (unless_closed z s o (λ t. row_of t s i o)) (record { state = s; answer = NotPerformed r }) o) (sym (image_refused b r e))
-    (record { answer = refl; state = refl; row = refl })
+refused_advance b r e s i o a h =
+    subst (λ (y : Advanced). Advances (cycle_of b s i o) y o) (sym h)
+    (subst (λ (z : Opened). Advances (unless_closed z s o (λ t. row_of t s i o)) (record { state = s; answer = Err r }) o) (sym (image_refused b r e))
+    (record { answer = refl; state = refl; row = refl }))
 
 -- The count.
 

@@ -1,27 +1,17 @@
 #![tactic(auto)]
 // The run-time on whole images: whatever the bytes, the state and the rows are, a call is performed or refused as document 01 says.
 ghost use Rattle.std.specs.Prelude.{◌≡◌, ◌+◌, ◌≤◌, length, []};
-ghost use Rattle.base_answers.specs.Answers.{lines_of, cycle_told, fresh_told, done};
-ghost use Rattle.base_answers.specs.declared.Opened.TheVariants.{Image};
+ghost use Rattle.base_answers.specs.Answers.{lines_of, cycle_told, told, done};
 ghost use Rattle.spec_format.specs.Opening.{open_of};
 ghost use Rattle.spec_format.specs.State.{fresh_of};
 ghost use Rattle.spec_semantics.specs.Records.{state_for};
 ghost use Rattle.spec_format.specs.Cycle.{cycle_of};
 ghost use Rattle.image_loader.specs.Open.{open_answer};
 ghost use Rattle.spec_semantics.specs.Advances.{Advances, start_of, cycle_answer, fresh_answer};
-ghost use Rattle.image_runtime.specs.Outcomes.{Outcomes};
 ghost use Rattle.image_runtime.specs.Calls.{way_of, first_reach};
 
-use base_answers::{Advanced, Cycled, FreshState, Opened, Sections, Started, State, is_performed};
+use base_answers::{Advanced, Counts, FreshState, Refusal, Sections, State, refused};
 use base_codes::{limit, record};
-
-// A cycle's answer, the state after it, and whether it was performed.
-#[derive(Clone, Copy)]
-struct Outcome {
-    performed: bool,
-    state: State,
-    answer: Cycled,
-}
 
 // A cycle on an image that was opened before, by the sections that `open` answered: for callers that run many rows on one image and check it once.
 pub fn cycle_opened(
@@ -57,33 +47,19 @@ pub fn cycle(image: &[u8], s: State, inputs: &[i32], row: &mut [i32]) -> Advance
         × (lines_of result.answer ≡ length (way_of c.answer))
         × (lines_of result.answer ≤ first_reach image.now s.place + 1) }
 {
-    let opened = image_loader::open(image);
-    match opened {
-        Opened::Image(at) => cycle_opened(image, at, s, inputs, row),
-        Opened::NotOpened(r) => Advanced {
-            state: s,
-            answer: Cycled::NotPerformed(r),
-        },
-    }
-}
-
-// A cycle on an image, and whether it was performed.
-fn cycle_outcome(image: &[u8], s: State, inputs: &[i32], row: &mut [i32]) -> Outcome
-    ensures { Outcomes image.now s inputs.now row.old result row.new }
-{
-    let a = cycle(image, s, inputs, row);
-    let state = a.state;
-    let answer = a.answer;
-    let performed = is_performed(answer);
-    Outcome {
-        performed: performed,
-        state: state,
-        answer: answer,
+    match image_loader::open(image) {
+        Ok(at) => cycle_opened(image, at, s, inputs, row),
+        Err(r) => refused(s, r),
     }
 }
 
 // One cycle on an image, by which the caller's own state record advances: the new state is stored only where the cycle was performed.
-pub fn advance_state(image: &[u8], state: &mut State, inputs: &[i32], row: &mut [i32]) -> Cycled
+pub fn advance_state(
+    image: &[u8],
+    state: &mut State,
+    inputs: &[i32],
+    row: &mut [i32],
+) -> Result<Counts, Refusal>
     ensures { let c = cycle_of image.now state.old inputs.now row.old in
         (cycle_told result ≡ cycle_answer c.answer)
         × (state.new ≡ c.state)
@@ -91,11 +67,11 @@ pub fn advance_state(image: &[u8], state: &mut State, inputs: &[i32], row: &mut 
         × (lines_of result ≡ length (way_of c.answer))
         × (lines_of result ≤ first_reach image.now state.old.place + 1) }
 {
-    let r = cycle_outcome(image, *state, inputs, row);
-    if r.performed {
-        *state = r.state;
+    let a = cycle(image, *state, inputs, row);
+    if a.answer.is_ok() {
+        *state = a.state;
     }
-    r.answer
+    a.answer
 }
 
 // The fresh state of an image that opened, by its signature section.
@@ -121,23 +97,16 @@ fn blank() -> State
 
 // The fresh state of an image, or refusal 11, 12 or 13.
 pub fn fresh(image: &[u8]) -> FreshState
-    ensures { (fresh_told result.answer ≡ fresh_answer (fresh_of image.now)) × (result.state ≡ start_of (fresh_of image.now)) }
+    ensures { (told result.answer ≡ fresh_answer (fresh_of image.now)) × (result.state ≡ start_of (fresh_of image.now)) }
 {
-    let opened = image_loader::open(image);
-    match opened {
-        Opened::Image(at) => {
-            let state = fresh_on_sections(image, at);
-            FreshState {
-                state: state,
-                answer: Started::Fresh,
-            }
-        }
-        Opened::NotOpened(r) => {
-            let state = blank();
-            FreshState {
-                state: state,
-                answer: Started::NotStarted(r),
-            }
-        }
+    match image_loader::open(image) {
+        Ok(at) => FreshState {
+            state: fresh_on_sections(image, at),
+            answer: Ok(()),
+        },
+        Err(r) => FreshState {
+            state: blank(),
+            answer: Err(r),
+        },
     }
 }

@@ -9,10 +9,9 @@ use lib.Dec.{eqb}
 use borrow.Author.Tests.{eq-eqb, ne_eqb}
 use Rattle.spec_semantics.specs.Evaluation.{is_one}
 use Rattle.image_evaluator.specs.declared.Found.{Found}
-use Rattle.image_evaluator.specs.declared.Evaluated.{Evaluated}
-use Rattle.image_evaluator.specs.declared.Evaluated.TheVariants.{Value, Fault}
+use Rattle.spec_design.specs.Expression.{Out, fine, fault}
 use Rattle.image_walk.specs.declared.Move.{Move}
-use Rattle.image_walk.specs.declared.Move.TheVariants.{Wait, Next, Refused}
+use Rattle.image_walk.specs.declared.Move.TheVariants.{Wait, Next}
 use Rattle.image_walk.specs.Fields.{kind_at, target_at, next_at, other_at}
 use Rattle.image_walk.specs.Moves.{move_of, move_at, stored_of, stored_at, Valued, Performs}
 use Rattle.image_evaluator.specs.Value.{machine_for, part_value, evaluated_of}
@@ -25,7 +24,7 @@ pub when_false : {A : Type 0} (o b : Bool) (r f g : A) → o ≡ b → o ≡ fal
 when_false o b r f g e h q = rw (sym e ∙ h) q
 
 -- a part of the code section, its start and its size as they were read
-pub part_read : (is vs : List ℕ) (i v : List ℤ) (s : List ℕ) (k k' n n' : ℕ) (r : Evaluated) → k ≡ k' → n ≡ n'
+pub part_read : (is vs : List ℕ) (i v : List ℤ) (s : List ℕ) (k k' n n' : ℕ) (r : Out Found) → k ≡ k' → n ≡ n'
     → r ≡ evaluated_of (part_value (machine_for is vs i v) s k n) → r ≡ evaluated_of (part_value (machine_for is vs i v) s k' n')
 part_read is vs i v s k k' n n' r a b e = rw (← a, ← b) e
 
@@ -43,40 +42,40 @@ has_value a h g = record { no_wait = λ e. h (a ∙ e); no_null = λ e. g (a ∙
 
 -- The ways through a line, each with its test: the line x of the lines section l with the value E of its code, over outputs o and variables v.
 module _ {l : List ℕ} {x : ℕ} {o v : List ℤ} where
-  told : {E : Evaluated} {r : Move} {o' v' : List ℤ} → (r ≡ move_at l x E) × ((o' ≡ stored_at 1 l x E o) × (v' ≡ stored_at 2 l x E v)) → Performs l x E o v r o' v'
+  told : {E : Out Found} {r : Out Move} {o' v' : List ℤ} → (r ≡ move_at l x E) × ((o' ≡ stored_at 1 l x E o) × (v' ≡ stored_at 2 l x E v)) → Performs l x E o v r o' v'
   told t = record { move = t.0; outputs = t.1.0; variables = t.1.1 }
 
-  pub wait_at : {E : Evaluated} {k : ℕ} → k ≡ kind_at l x → k ≡ 0 → Performs l x E o v Wait o v
+  pub wait_at : {E : Out Found} {k : ℕ} → k ≡ kind_at l x → k ≡ 0 → Performs l x E o v (fine Wait) o v
   wait_at {E} a h = told (let z : kind_at l x ≡ 0 = sym a ∙ h in rw z (go E))
     where
-      go : (e : Evaluated) → (Wait ≡ move_of 0 e (next_at l x) (other_at l x)) × ((o ≡ stored_of 1 0 (target_at l x) e o) × (v ≡ stored_of 2 0 (target_at l x) e v))
-      go (Value y) = (refl, (refl, refl))
-      go (Fault q) = (refl, (refl, refl))
+      go : (e : Out Found) → (fine Wait ≡ move_of 0 e (next_at l x) (other_at l x)) × ((o ≡ stored_of 1 0 (target_at l x) e o) × (v ≡ stored_of 2 0 (target_at l x) e v))
+      go (fine y) = (refl, (refl, refl))
+      go (fault q) = (refl, (refl, refl))
 
-  pub null_at : {E : Evaluated} {k m : ℕ} → k ≡ kind_at l x → k ≡ 4 → m ≡ next_at l x → Performs l x E o v (Next m) o v
+  pub null_at : {E : Out Found} {k m : ℕ} → k ≡ kind_at l x → k ≡ 4 → m ≡ next_at l x → Performs l x E o v (fine (Next m)) o v
   null_at {E} {k} {m} a h b = told (let z : kind_at l x ≡ 4 = sym a ∙ h in rw (z, ← b) (go E))
     where
-      go : (e : Evaluated) → (Next m ≡ move_of 4 e m (other_at l x)) × ((o ≡ stored_of 1 4 (target_at l x) e o) × (v ≡ stored_of 2 4 (target_at l x) e v))
-      go (Value y) = (refl, (refl, refl))
-      go (Fault q) = (refl, (refl, refl))
+      go : (e : Out Found) → (fine (Next m) ≡ move_of 4 e m (other_at l x)) × ((o ≡ stored_of 1 4 (target_at l x) e o) × (v ≡ stored_of 2 4 (target_at l x) e v))
+      go (fine y) = (refl, (refl, refl))
+      go (fault q) = (refl, (refl, refl))
 
-  pub fault_at : {E e : Evaluated} {q : ℕ} → Valued l x → e ≡ E → e ≡ Fault q → Performs l x E o v (Refused q) o v
+  pub fault_at : {E e : Out Found} {q : ℕ} → Valued l x → e ≡ E → e ≡ fault q → Performs l x E o v (fault q) o v
   fault_at {E} {e} {q} w b d =
-      let z : E ≡ Fault q = sym b ∙ d in
+      let z : E ≡ fault q = sym b ∙ d in
       told (rw (z, ne_eqb (kind_at l x) 0 w.no_wait, ne_eqb (kind_at l x) 4 w.no_null) (go (eqb (kind_at l x) 3), (refl, refl)))
     where
-      go : (b : Bool) → Refused q ≡ cond b (Refused q) (Refused q)
+      go : (b : Bool) → ◌≡◌ {A = Out Move} (fault q) (cond b (fault q) (fault q))
       go true = refl
       go false = refl
 
-  pub value_at_lem : {E e e' : Evaluated} {m : Move} {o' v' : List ℤ} → e ≡ E → e ≡ e' → Performs l x e' o v m o' v' → Performs l x E o v m o' v'
+  pub value_at_lem : {E e e' : Out Found} {m : Out Move} {o' v' : List ℤ} → e ≡ E → e ≡ e' → Performs l x e' o v m o' v' → Performs l x E o v m o' v'
   value_at_lem b d p = rw (sym b ∙ d) p
 
   pub branch_at : {f : Found} {k m : ℕ} → k ≡ kind_at l x → k ≡ 3 → m ≡ cond (is_one f.value) (next_at l x) (other_at l x)
-      → Performs l x (Value f) o v (Next m) o v
+      → Performs l x (fine f) o v (fine (Next m)) o v
   branch_at a h q = told (let y : kind_at l x ≡ 3 = sym a ∙ h in rw (y, ← q) (refl, (refl, refl)))
 
   pub store_at : {f : Found} {k m n : ℕ} {o' v' : List ℤ} → k ≡ kind_at l x → Valued l x → (k ≡ 3 → ⊥) → m ≡ next_at l x → n ≡ target_at l x
-      → o' ≡ cond (eqb k 1) (set o n f.value) o → v' ≡ cond (eqb k 2) (set v n f.value) v → Performs l x (Value f) o v (Next m) o' v'
+      → o' ≡ cond (eqb k 1) (set o n f.value) o → v' ≡ cond (eqb k 2) (set v n f.value) v → Performs l x (fine f) o v (fine (Next m)) o' v'
   store_at {f} {k} a w h p r s u =
       told (rw (← a, ne_eqb k 0 (λ e. w.no_wait (sym a ∙ e)), ne_eqb k 4 (λ e. w.no_null (sym a ∙ e)), ne_eqb k 3 h, ← p, ← r) (refl, (s, u)))

@@ -33,16 +33,14 @@ use Rattle.spec_simulation.proofs.States.{types_length}
 use Rattle.spec_semantics.proofs.Slots.{pad_take}
 use Rattle.spec_simulation.proofs.Tables.{line_good, good_ranked}
 use Rattle.base_codes.specs.Types.{tag_of}
-use Rattle.image_evaluator.specs.declared.Evaluated.{Evaluated}
-use Rattle.image_evaluator.specs.declared.Evaluated.TheVariants.{Fault}
+use Rattle.image_evaluator.specs.declared.Found.{Found}
 use Rattle.image_evaluator.specs.Value.{types_for, part_value, found, evaluated_of}
 use Rattle.image_evaluator.proofs.Evaluation.{value_of_code}
 use Rattle.image_evaluator.proofs.Slots.{value_slots}
 use Rattle.image_walk.specs.Fields.{kind_at, target_at, offset_at, size_at, next_at, other_at}
 use Rattle.image_walk.specs.Moves.{value_at, Performs}
-use Rattle.image_walk.specs.Follow.{Went, follow_at}
+use Rattle.image_walk.specs.Follow.{Went, at_wait, stopped, spent, follow_at}
 use Rattle.image_walk.specs.Held.{Held}
-use Rattle.image_walk.specs.declared.Followed.TheVariants.{Reached, Stopped, Spent}
 use Rattle.image_walk.specs.declared.Move.TheVariants.{Next}
 use Rattle.image_walk.proofs.Steps.{wait_at, null_at, has_value, fault_at, value_at_lem, branch_at, store_at}
 use Rattle.image_walk.proofs.Turns.{follow_on}
@@ -70,9 +68,9 @@ plainly_some (some s) u e = (s, refl)
 
 -- what an outcome of the walk is by the bytes
 abbrev pub Shows : Result → Went → Type 0
-Shows (passed τ) w = w.answer ≡ Spent
-Shows (reached p τ) w = w ≡ record { answer = Reached p (length τ.way); outputs = pad 16 τ.memory.outputs; variables = pad 32 τ.memory.variables }
-Shows (refused q x) w = w.answer ≡ Stopped q x
+Shows (passed τ) w = w.answer ≡ spent
+Shows (reached p τ) w = w ≡ record { answer = at_wait p (length τ.way); outputs = pad 16 τ.memory.outputs; variables = pad 32 τ.memory.variables }
+Shows (refused q x) w = w.answer ≡ stopped q x
 
 module _ (l c is vs : List ℕ) (t : Table) (h : Held l c t) (ti : types_for is ≡ t.signature.inputs) (tv : types_for vs ≡ types t.signature.variables)
     (i : List ℤ) (hi : Values t.signature.inputs i) where
@@ -108,27 +106,27 @@ module _ (l c is vs : List ℕ) (t : Table) (h : Held l c t) (ti : types_for is 
     abbrev here : Went
     here = follow_at l c is vs i (suc k) x (length ρ.way) (pad 16 ρ.memory.outputs) (pad 32 ρ.memory.variables)
 
-    abbrev value : Evaluated
+    abbrev value : Out Found
     value = value_at l c x is vs i (pad 32 ρ.memory.variables)
 
     counted : suc (length ρ.way) ≡ length (ρ.way ++ (x ∷ []))
     counted = omega (arith, length-append ρ.way (x ∷ []))
 
     waits_shows : kind_at l x ≡ 0 → here ≡ record
-        { answer = Reached x (length (ρ.way ++ (x ∷ []))); outputs = pad 16 ρ.memory.outputs; variables = pad 32 ρ.memory.variables }
+        { answer = at_wait x (length (ρ.way ++ (x ∷ []))); outputs = pad 16 ρ.memory.outputs; variables = pad 32 ρ.memory.variables }
     waits_shows z =
         follow_on l c is vs i k x (length ρ.way) (pad 16 ρ.memory.outputs) (pad 32 ρ.memory.variables) _ _ _ (wait_at (sym z) refl)
-        ∙ ap (λ (n : ℕ). record { answer = Reached x n; outputs = pad 16 ρ.memory.outputs; variables = pad 32 ρ.memory.variables }) counted
+        ∙ ap (λ (n : ℕ). record { answer = at_wait x n; outputs = pad 16 ρ.memory.outputs; variables = pad 32 ρ.memory.variables }) counted
 
     -- a refused operator
-    stops_shows : (j q : ℕ) → kind_at l x ≡ j → (j ≡ 0 → ⊥) → (j ≡ 4 → ⊥) → value ≡ Fault q → here.answer ≡ Stopped q x
+    stops_shows : (j q : ℕ) → kind_at l x ≡ j → (j ≡ 0 → ⊥) → (j ≡ 4 → ⊥) → value ≡ fault q → here.answer ≡ stopped q x
     stops_shows j q z a b e =
         ap (λ (u : Went). u.answer) (follow_on l c is vs i k x (length ρ.way) (pad 16 ρ.memory.outputs) (pad 32 ρ.memory.variables) _ _ _
         (fault_at (has_value (sym z) a b) refl e))
 
     -- a line that goes on at f with the memory m
     goes_shows : (f : ℕ) (m : Memory) → Followed_by k f (record { way = ρ.way ++ (x ∷ []); memory = m })
-        → Performs l x value (pad 16 ρ.memory.outputs) (pad 32 ρ.memory.variables) (Next f) (pad 16 m.outputs) (pad 32 m.variables)
+        → Performs l x value (pad 16 ρ.memory.outputs) (pad 32 ρ.memory.variables) (fine (Next f)) (pad 16 m.outputs) (pad 32 m.variables)
         → Shows (walk t.lines i k f (record { way = ρ.way ++ (x ∷ []); memory = m })) here
     goes_shows f m r p =
         let e : here ≡ follow_at l c is vs i k f (length (ρ.way ++ (x ∷ []))) (pad 16 m.outputs) (pad 32 m.variables) =
@@ -158,7 +156,7 @@ module _ (l c is vs : List ℕ) (t : Table) (h : Held l c t) (ti : types_for is 
               (value_at_lem refl y (store_at (sym kind) (has_value (sym kind) n0 n4) n3 (sym next) (sym target) (so z) (sv z))))
           on (fault r) q =
               let d : perform a i ρ.memory ≡ fault r = rw q at does in
-              let y : value ≡ Fault r = rw q at val in
+              let y : value ≡ fault r = rw q at val in
               rw d (stops_shows j r kind n0 n4 y)
 
       -- a branch
@@ -178,7 +176,7 @@ module _ (l c is vs : List ℕ) (t : Table) (h : Held l c t) (ti : types_for is 
           on : (o : Out ℤ) → evaluate e i ρ.memory.variables ≡ o
               → Shows (tested (holds e i ρ.memory) x ρ (λ τ. walk t.lines i k f τ) (λ τ. walk t.lines i k g τ)) here
           on (fine z) q = let y : value ≡ found (tag_of u) z = rw q at val in rw q (taken z y (is_one z) refl)
-          on (fault r) q = let y : value ≡ Fault r = rw q at val in rw q (stops_shows 3 r kind (λ z. omega arith) (λ z. omega arith) y)
+          on (fault r) q = let y : value ≡ fault r = rw q at val in rw q (stops_shows 3 r kind (λ z. omega arith) (λ z. omega arith) y)
 
       -- any line
       line_shows : (ln : Line) (p q : ℕ) → at l x ≡ raw_of p ln q

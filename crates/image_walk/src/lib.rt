@@ -3,23 +3,24 @@
 // A line is lent as its own bytes: it is line 0 of what is lent.
 ghost use Rattle.std.specs.Prelude.{◌≡◌, cond, suc, ◌*◌, set, take, drop, eqb};
 ghost use Rattle.base_codes.specs.Image as M;
+ghost use Rattle.base_codes.specs.Fault.{outcome};
+ghost use Rattle.spec_design.specs.Expression.{fine};
 ghost use Rattle.spec_semantics.specs.Evaluation.{is_one};
 ghost use Rattle.image_evaluator.specs.Stack.{Room};
-ghost use Rattle.image_evaluator.specs.declared.Evaluated.TheVariants.{Value};
 ghost use Rattle.image_walk.specs.declared.Move.TheVariants.{Next};
 ghost use Rattle.image_walk.specs.Fields.{kind_at, target_at, next_at, other_at, reach_at};
 ghost use Rattle.image_walk.specs.Moves.{value_at, Valued, Performs, PerformsLine};
 ghost use Rattle.image_walk.specs.Follow.{went, follow_at};
 
+use base_codes::fault::Fault;
 use base_codes::{image, limit};
-use image_evaluator::{Evaluated, Found};
+use image_evaluator::{Found, Named, Stack};
 
-// What a line leads to: the end of the cycle at this wait, the line to follow, or a refusal's number.
+// What a line leads to: the end of the cycle at this wait, or the line to follow.
 #[derive(Clone, Copy)]
 pub enum Move {
     Wait,
     Next(u32),
-    Refused(u8),
 }
 
 // How many lines may be followed from line x on: its reach, and one more.
@@ -91,7 +92,7 @@ fn store(row: &mut [i32], w: u8, k: u8, n: usize, v: i32)
 // What a line does with its value: a branch takes a line by it, any other stores it in its target. Answers the line that follows.
 fn settle(line: &[u8], f: Found, outputs: &mut [i32], variables: &mut [i32]) -> u32
     requires { Valued line.now 0 }
-    ensures { Performs line.now 0 (Value f) outputs.old variables.old (Next result) outputs.new variables.new }
+    ensures { Performs line.now 0 (fine f) outputs.old variables.old (fine (Next result)) outputs.new variables.new }
 {
     let k = kind(line);
     let v = f.value;
@@ -108,107 +109,81 @@ fn settle(line: &[u8], f: Found, outputs: &mut [i32], variables: &mut [i32]) -> 
 fn value(
     line: &[u8],
     code: &[u8],
-    inputs: &[i32],
-    input_types: &[u8],
-    variables: &[i32],
-    variable_types: &[u8],
-    stack: &mut [i32; limit::ITEMS],
-    tags: &mut [u8; limit::ITEMS],
-) -> Evaluated
-    requires { Room stack.old tags.old 0 }
-    ensures value { result ≡ value_at line.now code.now 0 input_types.now variable_types.now inputs.now variables.now }
-    ensures room { Room stack.new tags.new 0 }
+    inputs: &Named,
+    variables: &Named,
+    stack: &mut Stack,
+) -> Result<Found, Fault>
+    requires { Room stack.old.values stack.old.tags 0 }
+    ensures value { outcome result ≡ value_at line.now code.now 0
+        inputs.now.kinds.now variables.now.kinds.now inputs.now.values.now variables.now.values.now }
+    ensures room { Room stack.new.values stack.new.tags 0 }
 {
     let start = image_words::word2(line, image::LINE_CODE) as usize;
     let size = image_words::word2(line, image::LINE_CODE_SIZE) as usize;
-    image_evaluator::evaluate(
-        code,
-        start,
-        size,
-        inputs,
-        input_types,
-        variables,
-        variable_types,
-        stack,
-        tags,
-    )
+    image_evaluator::evaluate(code, start, size, inputs, variables, stack)
 }
 
 // Performs a line that has a value: settled, or the refusal of an operator.
 fn operate(
     line: &[u8],
     code: &[u8],
-    inputs: &[i32],
-    input_types: &[u8],
+    inputs: &Named,
     variable_types: &[u8],
     outputs: &mut [i32],
     variables: &mut [i32],
-    stack: &mut [i32; limit::ITEMS],
-    tags: &mut [u8; limit::ITEMS],
-) -> Move
-    requires { Room stack.old tags.old 0 × Valued line.now 0 }
-    ensures performs_line { PerformsLine line.now code.now input_types.now variable_types.now inputs.now
-        outputs.old variables.old result outputs.new variables.new }
-    ensures room { Room stack.new tags.new 0 }
+    stack: &mut Stack,
+) -> Result<Move, Fault>
+    requires { Room stack.old.values stack.old.tags 0 × Valued line.now 0 }
+    ensures performs_line { PerformsLine line.now code.now inputs.now.kinds.now variable_types.now inputs.now.values.now
+        outputs.old variables.old (outcome result) outputs.new variables.new }
+    ensures room { Room stack.new.values stack.new.tags 0 }
 {
-    let e = value(
-        line,
-        code,
-        inputs,
-        input_types,
-        variables,
-        variable_types,
-        stack,
-        tags,
-    );
-    match e {
-        Evaluated::Fault(q) => Move::Refused(q),
-        Evaluated::Value(f) => Move::Next(settle(line, f, outputs, variables)),
-    }
+    let read = Named {
+        kinds: variable_types,
+        values: variables,
+    };
+    let e = value(line, code, inputs, &read, stack);
+    Ok(Move::Next(settle(line, e?, outputs, variables)))
 }
 
 // Performs a line: its value is stored in its target, or decides which line follows.
 fn perform(
     line: &[u8],
     code: &[u8],
-    inputs: &[i32],
-    input_types: &[u8],
+    inputs: &Named,
     variable_types: &[u8],
     outputs: &mut [i32],
     variables: &mut [i32],
-    stack: &mut [i32; limit::ITEMS],
-    tags: &mut [u8; limit::ITEMS],
-) -> Move
-    requires { Room stack.old tags.old 0 }
-    ensures performs_line { PerformsLine line.now code.now input_types.now variable_types.now inputs.now
-        outputs.old variables.old result outputs.new variables.new }
-    ensures room { Room stack.new tags.new 0 }
+    stack: &mut Stack,
+) -> Result<Move, Fault>
+    requires { Room stack.old.values stack.old.tags 0 }
+    ensures performs_line { PerformsLine line.now code.now inputs.now.kinds.now variable_types.now inputs.now.values.now
+        outputs.old variables.old (outcome result) outputs.new variables.new }
+    ensures room { Room stack.new.values stack.new.tags 0 }
 {
     let k = kind(line);
     if k == image::WAIT {
-        return Move::Wait;
+        return Ok(Move::Wait);
     }
     if k == image::NULL {
-        return Move::Next(next(line));
+        return Ok(Move::Next(next(line)));
     }
     operate(
         line,
         code,
         inputs,
-        input_types,
         variable_types,
         outputs,
         variables,
         stack,
-        tags,
     )
 }
 
-// Where lines lead: to a wait, with the number of lines performed; to a refusal's number at a line; or to no wait within the lines allowed.
+// Where lines lead: to a wait, with the number of lines performed; to a refusal at a line; or to no wait within the lines allowed.
 #[derive(Clone, Copy)]
 pub enum Followed {
     Reached(u32, u32),
-    Stopped(u8, u32),
+    Stopped(Fault, u32),
     Spent,
 }
 
@@ -218,42 +193,35 @@ pub fn follow(
     code: &[u8],
     first: u32,
     most: u32,
-    inputs: &[i32],
-    input_types: &[u8],
+    inputs: &Named,
     variable_types: &[u8],
     outputs: &mut [i32],
     variables: &mut [i32],
 ) -> Followed
-    ensures { went result outputs.new variables.new ≡ follow_at lines.now code.now input_types.now variable_types.now inputs.now
+    ensures { went result outputs.new variables.new ≡ follow_at lines.now code.now inputs.now.kinds.now variable_types.now inputs.now.values.now
         most first 0 outputs.old variables.old }
 {
-    let mut stack = [0i32; limit::ITEMS];
-    let mut tags = [0u8; limit::ITEMS];
+    let mut stack = Stack {
+        values: [0; limit::ITEMS],
+        tags: [0; limit::ITEMS],
+    };
     let mut x = first;
-    let mut left = most;
-    while 0 < left {
+    for n in 0..most {
         let m = perform(
             line_of(lines, x),
             code,
             inputs,
-            input_types,
             variable_types,
             outputs,
             variables,
             &mut stack,
-            &mut tags,
         );
-        left -= 1;
         match m {
-            Move::Wait => {
-                return Followed::Reached(x, most - left);
-            }
-            Move::Next(y) => {
-                x = y;
-            }
-            Move::Refused(q) => {
-                return Followed::Stopped(q, x);
-            }
+            Err(q) => return Followed::Stopped(q, x),
+            Ok(step) => match step {
+                Move::Wait => return Followed::Reached(x, n + 1),
+                Move::Next(y) => x = y,
+            },
         }
     }
     Followed::Spent

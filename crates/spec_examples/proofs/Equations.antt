@@ -8,7 +8,7 @@ use lib.IntN.{ℤ, pos, negsuc}
 use Rattle.spec_design.specs.Types as Types
 use Rattle.spec_design.specs.Expression as Expression
 use Rattle.spec_design.specs.Statement as Statement
-use Rattle.spec_language.specs.Verdict.{onAccepted, verdict}
+use Rattle.spec_language.specs.Verdict.{on_accepted, verdict}
 use Rattle.spec_language.proofs.Computing.{computed}
 use Rattle.spec_language.proofs.Examples.{stmts}
 use Rattle.spec_language.proofs.ExamplesReadings.{tally_text, gcd_text}
@@ -21,7 +21,7 @@ use Rattle.spec_semantics.specs.Rows as Rows
 
 -- the rows of a text, if it is accepted
 unfoldable pub rows_of : List ℕ → List Call → Option (List (Outcome × Kept))
-rows_of b cs = onAccepted (λ p. some (rows p cs)) (λ n k. none) (verdict b)
+rows_of b cs = on_accepted (λ p. some (rows p cs)) (λ n k. none) (verdict b)
 
 -- opens all that rows compute by
 unfoldable pub opened : List ℕ → List Call → Option (List (Outcome × Kept))

@@ -10,7 +10,7 @@ use Rattle.base_answers.specs.Answers.{Told, done, refusal}
 use Rattle.base_answers.specs.declared.State.{State}
 use Rattle.spec_language.specs.Bytes.{bytes}
 use Rattle.spec_language.specs.Lexer.{token_at}
-use Rattle.spec_language.specs.Verdict.{Verdict, refused, onAccepted, verdict, is_accepted}
+use Rattle.spec_language.specs.Verdict.{Verdict, refused, on_accepted, verdict, is_accepted}
 use Rattle.spec_language.proofs.Examples.{plain, place, whole, std_ports, std_vars, stmts, vars, passes}
 use Rattle.spec_language.proofs.ExamplesReadings.{tally_text}
 use Rattle.spec_semantics.specs.Equations as Equations
@@ -50,7 +50,7 @@ direct_trace text cs = from_start (direct_fresh text) (λ s. direct_calls text s
 
 -- .. and of the equations
 abbrev on_verdict : Verdict → List Call → List Called
-on_verdict v cs = onAccepted (λ p. equation_calls p (kept_at_first p) cs) (λ n k. []) v
+on_verdict v cs = on_accepted (λ p. equation_calls p (kept_at_first p) cs) (λ n k. []) v
 
 unfoldable pub equation_trace : List ℕ → List Call → List Called
 equation_trace text cs = on_verdict (verdict text) cs

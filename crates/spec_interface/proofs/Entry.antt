@@ -11,8 +11,8 @@ pub told_by_entry : (text image : List ℕ) (s : State) → ToldByEntry text ima
 told_by_entry text image s =
     let after : Started → State = λ x. state_after x s in
     record {
-      opened = λ t e. ap opening_told e;
-      open_refused = λ q k e. ap opening_told e;
+      opened = λ x t e. ap (opening_told x) e;
+      open_refused = λ x q k e. ap (opening_told x) e;
       started = λ x e. ap after e;
       start_refused = λ q k e. ap after e;
       run_started = λ x e. ap after e;

@@ -3,6 +3,7 @@
 use Rattle.std.specs.Prelude.{◌≡◌, List, [], ◌∷◌, ℕ, length, get_or, take, drop, ℤ, pos}
 use Rattle.base_answers.specs.declared.State.{State}
 use Rattle.base_answers.specs.declared.Sections.{Sections}
+use Rattle.base_answers.specs.Answers.{done, refusal}
 use Rattle.spec_semantics.specs.Records.{fresh, not_started}
 use Rattle.spec_semantics.specs.Calls.{Answer, performed, not_performed, Called, Call}
 use Rattle.spec_format.specs.Image.{Table, sections_for}
@@ -22,11 +23,11 @@ pub record SectionsLent (image : List ℕ) (t : Table) (o : Sections) : Type 0 w
   pub lines : LentAs image o.lines o.code (sections_for t).lines
   pub code : LentAs image o.code o.end (sections_for t).code
 
--- WHAT ENTRY LEAVES AND TELLS: the state record s is the fresh state where there is one and as it came where the call is refused; an opened image
--- tells 0 and 0, or the definition's own number and place
+-- WHAT ENTRY LEAVES AND TELLS: the state record s is the fresh state where there is one and as it came where the call is refused; an image that opens is
+-- told as done, whatever the bounds x that go with the answer (SectionsLent says which they are), and any other by the definition's own number and place
 pub record ToldByEntry (text image : List ℕ) (s : State) : Type 0 where
-  pub opened : (t : Table) → open_of image ≡ opened t → opening_told (open_of image) ≡ (0, 0)
-  pub open_refused : (q k : ℕ) → open_of image ≡ not_opened q k → opening_told (open_of image) ≡ (q, k)
+  pub opened : (x : Sections) (t : Table) → open_of image ≡ opened t → opening_told x (open_of image) ≡ done x
+  pub open_refused : (x : Sections) (q k : ℕ) → open_of image ≡ not_opened q k → opening_told x (open_of image) ≡ refusal q k
   pub started : (x : State) → fresh_of image ≡ fresh x → state_after (fresh_of image) s ≡ x
   pub start_refused : (q k : ℕ) → fresh_of image ≡ not_started q k → state_after (fresh_of image) s ≡ s
   pub run_started : (x : State) → direct_fresh text ≡ fresh x → state_after (direct_fresh text) s ≡ x

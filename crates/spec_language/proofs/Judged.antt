@@ -26,7 +26,7 @@ use Rattle.spec_language.specs.Clock.{clock}
 use Rattle.spec_language.specs.Classes.{loops}
 use Rattle.spec_language.specs.Rules.{Offence, Stage, table}
 use Rattle.spec_language.specs.Elaboration.{Elaborates, elaborate}
-use Rattle.spec_language.specs.Verdict.{Verdict, accepted, refused, onAccepted, lowest_offence, judged, ruled, parsed, lexed, verdict}
+use Rattle.spec_language.specs.Verdict.{Verdict, accepted, refused, on_accepted, lowest_offence, judged, ruled, parsed, lexed, verdict}
 use Rattle.spec_language.specs.Validity.{Free, First, Parses, Valid, Refuses}
 use Rattle.spec_language.specs.Validity as Q
 use Rattle.spec_language.proofs.Facts.{clash, T_is, is_T}
@@ -47,7 +47,7 @@ ruled_first (r ∷ rs) t n p (Q.First.here h) = rw (is_lowest (r t) (record { nu
 ruled_first (r ∷ rs) t n p (Q.First.there e h) = rw e (ruled_first rs t n p h)
 
 abbrev RuledRight : List Stage → Text → Verdict → Type 0
-RuledRight rs t v = onAccepted (λ d. Free rs t × (elaborate t ≡ d)) (λ n p. First t n p rs) v
+RuledRight rs t v = on_accepted (λ d. Free rs t × (elaborate t ≡ d)) (λ n p. First t n p rs) v
 
 ruled_right : (rs : List Stage) (t : Text) → RuledRight rs t (ruled rs t)
 unfolding ruled judged
@@ -72,7 +72,7 @@ clean t f =
 
 -- all stages: what is computed is so
 abbrev Right : List ℕ → Verdict → Type 0
-Right b v = onAccepted (Valid b) (Refuses b) v
+Right b v = on_accepted (Valid b) (Refuses b) v
 
 parses : (b : List ℕ) (ts : List Token) (t : Text) → length b ≤ 16384 → lex b ≡ tokens ts → answer ts ≡ P.accepted t → Parses b t
 parses b ts t s l e = let x = (exactly_limits ts t).0 e in

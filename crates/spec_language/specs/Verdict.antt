@@ -18,9 +18,9 @@ pub data Verdict : Type 0 where
   refused : ℕ → ℕ → Verdict
 
 -- a verdict by its cases: what comes of an accepted text's process, and of a refusal's number and place. All that is defined by a verdict goes through this
-abbrev pub onAccepted {ℓ} : {A : Type ℓ} → (Process → A) → (ℕ → ℕ → A) → Verdict → A
-onAccepted f g (accepted p) = f p
-onAccepted f g (refused n k) = g n k
+abbrev pub on_accepted {ℓ} : {A : Type ℓ} → (Process → A) → (ℕ → ℕ → A) → Verdict → A
+on_accepted f g (accepted p) = f p
+on_accepted f g (refused n k) = g n k
 
 -- "the lowest place first within a stage"; of two at one place the lower number, as "3 first at one token"
 unfoldable pub earlier : Offence → Offence → Offence
@@ -59,4 +59,4 @@ verdict b = let v = lexed (length b) (lex b) in cond (leb (length b) 16384) v (r
 
 -- whether a text is accepted
 abbrev pub is_accepted : Verdict → Bool
-is_accepted v = onAccepted (λ p. true) (λ n k. false) v
+is_accepted v = on_accepted (λ p. true) (λ n k. false) v

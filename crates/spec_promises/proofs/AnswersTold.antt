@@ -1,54 +1,39 @@
--- Answers that are enums: each by the cases of the answer. Assumes nothing.
+-- The answers: each by the cases of its `Result`. Assumes nothing.
 use Prim.Native.Nat.{ℕ}
 use mathlib.Core.Path.{◌≡◌, refl, sym, ap}
 use lib.ListN.{length}
-use Rattle.base_answers.specs.Answers.{Told, done, refusal, number_of, place_of, compile_told, fresh_told, cycle_told}
+use Rattle.std.specs.Prelude.{Err, Ok, Result}
+use Rattle.base_answers.specs.declared.Counts.{Counts}
+use Rattle.base_answers.specs.Answers.{done, refusal, told, cycle_told}
 use Rattle.base_answers.proofs.Told.{done_refused}
 use Rattle.base_answers.specs.declared.Refusal.{Refusal}
-use Rattle.base_answers.specs.declared.Compiled as declared_compiled
-use Rattle.base_answers.specs.declared.Compiled.TheVariants.{Written, NotCompiled}
-use Rattle.base_answers.specs.declared.Started as declared_started
-use Rattle.base_answers.specs.declared.Started.TheVariants.{Fresh, NotStarted}
-use Rattle.base_answers.specs.declared.Cycled.{Cycled}
-use Rattle.base_answers.specs.declared.Cycled.TheVariants.{Performed, NotPerformed}
 use Rattle.spec_promises.specs.Promises.{RefusedAs, AnswersTold}
 
--- a refusal that tells q and k
-pub told_by : {A B : Type 0} (wrap : Refusal → B) (x : Refusal) (q k : ℕ) → ◌≡◌ {A = Told A} (refusal (number_of x) (place_of x)) (refusal q k)
-    → RefusedAs wrap (wrap x) q k
-told_by wrap x q k e = (x, refl, cc, cc)
+-- an answer told as done is `Ok` of what is done
+pub done_is : {A : Type 0} (r : Result A Refusal) (x : A) → told r ≡ done x → r ≡ Ok x
+done_is (Ok y) x e = let z : y ≡ x = cc in ap Ok z
+done_is (Err y) x e = done_refused (sym e)
 
-compiled_is : (r : declared_compiled.Compiled) (n : ℕ) → compile_told r ≡ done n → r ≡ Written n
-compiled_is (Written m) n e = let z : m ≡ n = cc in ap Written z
-compiled_is (NotCompiled x) n e = done_refused (sym e)
+-- one told as refused is a refusal by that number and place
+pub refused_is : {A : Type 0} (r : Result A Refusal) (q k : ℕ) → told r ≡ refusal q k → RefusedAs r q k
+refused_is (Ok y) q k e = done_refused e
+refused_is (Err y) q k e = (y, refl, cc, cc)
 
-compile_refused_is : (r : declared_compiled.Compiled) (q k : ℕ) → compile_told r ≡ refusal q k → RefusedAs NotCompiled r q k
-compile_refused_is (Written m) q k e = done_refused e
-compile_refused_is (NotCompiled x) q k e = told_by NotCompiled x q k e
+cycled_is : (r : Result Counts Refusal) (n : ℕ) → cycle_told r ≡ done n → r ≡ Ok (record { lines = n })
+cycled_is (Ok c) n e = let z : c.lines ≡ n = cc in ap (λ (k : ℕ). Ok (record { lines = k })) z
+cycled_is (Err x) n e = done_refused (sym e)
 
-started_is : (r : declared_started.Started) → fresh_told r ≡ done tt → r ≡ Fresh
-started_is Fresh e = refl
-started_is (NotStarted x) e = done_refused (sym e)
-
-start_refused_is : (r : declared_started.Started) (q k : ℕ) → fresh_told r ≡ refusal q k → RefusedAs NotStarted r q k
-start_refused_is Fresh q k e = done_refused e
-start_refused_is (NotStarted x) q k e = told_by NotStarted x q k e
-
-cycled_is : (r : Cycled) (n : ℕ) → cycle_told r ≡ done n → r ≡ Performed (record { lines = n })
-cycled_is (Performed c) n e = let z : c.lines ≡ n = cc in ap (λ (k : ℕ). Performed (record { lines = k })) z
-cycled_is (NotPerformed x) n e = done_refused (sym e)
-
-cycle_refused_is : (r : Cycled) (q k : ℕ) → cycle_told r ≡ refusal q k → RefusedAs NotPerformed r q k
-cycle_refused_is (Performed c) q k e = done_refused e
-cycle_refused_is (NotPerformed x) q k e = told_by NotPerformed x q k e
+cycle_refused_is : (r : Result Counts Refusal) (q k : ℕ) → cycle_told r ≡ refusal q k → RefusedAs r q k
+cycle_refused_is (Ok c) q k e = done_refused e
+cycle_refused_is (Err x) q k e = (x, refl, cc, cc)
 
 pub answers_told : AnswersTold
 answers_told =
     record {
-      compiled = compiled_is;
-      compile_refused = compile_refused_is;
-      started = λ r s e. started_is r e;
-      start_refused = start_refused_is;
+      compiled = done_is;
+      compile_refused = refused_is;
+      started = λ r s e. done_is r tt e;
+      start_refused = refused_is;
       cycled = λ r way e. cycled_is r (length way) e;
       cycle_refused = cycle_refused_is;
     }

@@ -10,13 +10,13 @@ use lib.ListN.{length, get_or, take, drop, length-append, length-drop, length-ma
 use lib.Seq.{length-take-le}
 use lib.IntN.{ℤ}
 use lib.Dec.{eqb}
-use Rattle.base_answers.specs.Answers.{Told, done, refusal, batch_told}
-use Rattle.base_answers.specs.Numbers.{Narrow, numbers_of, uncounted, batched_numbers}
+use Rattle.std.specs.Prelude.{Result}
+use Rattle.base_answers.specs.declared.Refusal as declared
+use Rattle.base_answers.specs.Answers.{Told, done, refusal, told}
+use Rattle.base_answers.specs.Numbers.{Narrow, numbers_of, uncounted, answer_numbers}
 use Rattle.base_answers.proofs.Told.{done_refused}
 use Rattle.base_answers.proofs.Narrow.{narrowed, refused_narrow, done_narrow}
 use Rattle.base_answers.specs.declared.State.{State}
-use Rattle.base_answers.specs.declared.Batched as declared_batched
-use Rattle.base_answers.specs.declared.Batched.TheVariants.{Taken, NotTaken}
 use Rattle.spec_design.specs.Process.{Process, Source, Slot}
 use Rattle.spec_language.specs.Validity.{Valid}
 use Rattle.spec_language.specs.Verdict.{accepted}
@@ -41,13 +41,13 @@ use Rattle.spec_simulation.proofs.Outcomes.{image_outcome, row_long}
 use Rattle.spec_simulation.proofs.Processes.{encode_opens}
 use Rattle.spec_simulation.proofs.Places.{image_place, cycle_place, cycle_count}
 use Rattle.spec_interface.specs.Compile.{written, compile_of}
-use Rattle.spec_promises.specs.Promises.{answer_in_c, RefusedAs}
+use Rattle.spec_promises.specs.Promises.{answer_in_c}
 use Rattle.spec_promises.specs.Batch.{Due, DueTo, BatchRefused, by_image, by_length, end_to_end, Comes, turned_away, takes, Singly, Batched, BatchTold}
 use Rattle.spec_promises.specs.Batch.{BatchOfText}
 use Rattle.spec_promises.proofs.Size.{valid_fits}
 use Rattle.spec_interface.proofs.Compile.{wrote}
 use Rattle.spec_promises.proofs.Demand3.{demand3}
-use Rattle.spec_promises.proofs.AnswersTold.{told_by}
+use Rattle.spec_promises.proofs.AnswersTold.{done_is, refused_is}
 
 -- THE COUNT'S DUE
 eqb_is : (m n : ℕ) → m ≡ n → eqb m n ≡ true
@@ -154,8 +154,8 @@ module _ (image : List ℕ) (h : Bytes image) (s : State) (n : ℕ) (is os : Lis
   turned_place (by_length t e d a b) = omega arith
 
 -- 32 bits hold the call's own three numbers
-pub batch_narrow : (image : List ℕ) → Bytes image → (s : State) (n : ℕ) (is os : List ℤ) (ns : List ℕ) (x : declared_batched.Batched)
-    → batch_told x ≡ batch_answer (batch_of image s n is os ns).answer → Narrow (batched_numbers x)
+pub batch_narrow : (image : List ℕ) → Bytes image → (s : State) (n : ℕ) (is os : List ℤ) (ns : List ℕ) (x : Result (Unit {0}) declared.Refusal)
+    → told x ≡ batch_answer (batch_of image s n is os ns).answer → Narrow (answer_numbers (λ k. 0) x)
 batch_narrow image h s n is os ns x e = narrowed (λ (t : Told (Unit {0})). numbers_of (uncounted t)) (sym e) (on (batch_of image s n is os ns).answer refl)
   where
     on : (a : Told (List Called)) → (batch_of image s n is os ns).answer ≡ a → Narrow (numbers_of (uncounted (batch_answer a)))
@@ -266,15 +266,7 @@ batched image h s n is os ns =
 
 -- AN ANSWER THAT IS AN ENUM
 pub batch_told_lem : BatchTold
-batch_told_lem = record { taken = taken_is; refused = refused_is }
-  where
-    taken_is : (r : declared_batched.Batched) (rs : List Called) → batch_told r ≡ done tt → r ≡ Taken
-    taken_is Taken rs e = refl
-    taken_is (NotTaken x) rs e = done_refused (sym e)
-
-    refused_is : (r : declared_batched.Batched) (q k : ℕ) → batch_told r ≡ refusal q k → RefusedAs NotTaken r q k
-    refused_is Taken q k e = done_refused e
-    refused_is (NotTaken x) q k e = told_by NotTaken x q k e
+batch_told_lem = record { taken = λ r rs e. done_is r tt e; refused = refused_is }
 
 -- ON WHAT A COMPILE WROTE
 -- it opens as the table of the process that the text means

@@ -1,10 +1,9 @@
 -- What was promised of many rows in one call on an image (document 02, slip 1), for every image, state record, count, input rows, output rows and answers as
 -- they are lent. `batch_of` is the definition that stands in the `ensures` of the code that takes such a call, `batch_in_c` that of rabtishu_cycles. Assumes nothing.
-use Rattle.std.specs.Prelude.{◌≡◌, false, ◌↔◌, List, [], ◌∷◌, ◌++◌, map, ℕ, zero, suc, ◌*◌, ◌≤◌, length, get_or, take, drop, ℤ}
-use Rattle.base_answers.specs.Answers.{done, refusal, batch_told}
+use Rattle.std.specs.Prelude.{◌≡◌, false, ◌↔◌, List, [], ◌∷◌, ◌++◌, map, ℕ, zero, suc, ◌*◌, ◌≤◌, length, get_or, take, drop, ℤ, Ok, Result}
+use Rattle.base_answers.specs.Answers.{done, refusal, told}
+use Rattle.base_answers.specs.declared.Refusal as declared
 use Rattle.base_answers.specs.declared.State.{State}
-use Rattle.base_answers.specs.declared.Batched as declared_batched
-use Rattle.base_answers.specs.declared.Batched.TheVariants.{Taken, NotTaken}
 use Rattle.spec_design.specs.Process.{Process}
 use Rattle.spec_language.specs.Validity.{Valid}
 use Rattle.spec_semantics.specs.Rows.{kept_at_first}
@@ -89,8 +88,8 @@ pub record Batched (image : List ℕ) (s : State) (n : ℕ) (is os : List ℤ) (
 
 -- AN ANSWER THAT IS AN ENUM: an answer of the code that tells what is told of the definition's, as its contract has it
 pub record BatchTold : Type 0 where
-  pub taken : (r : declared_batched.Batched) (rs : List Called) → batch_told r ≡ batch_answer (done rs) → r ≡ Taken
-  pub refused : (r : declared_batched.Batched) (q k : ℕ) → batch_told r ≡ batch_answer (refusal q k) → RefusedAs NotTaken r q k
+  pub taken : (r : Result (Unit {0}) declared.Refusal) (rs : List Called) → told r ≡ batch_answer (done rs) → r ≡ Ok tt
+  pub refused : (r : Result (Unit {0}) declared.Refusal) (q k : ℕ) → told r ≡ batch_answer (refusal q k) → RefusedAs r q k
 
 -- ON WHAT A COMPILE WROTE, m bytes: the widths are the numbers of the text's inputs and outputs; from the fresh state the rows are those of the text's
 -- equations, laid end to end; from any state record, lengths that are not due are turned away

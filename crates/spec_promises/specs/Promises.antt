@@ -1,17 +1,12 @@
 -- What the buyer was promised: demands 1, 2 and 3, for every text, buffer, image, state record and list of calls. To be read first. The definitions that are
 -- named here (spec_interface/specs/Operations.antt) stand in the `ensures` of the public functions: compile (`compile_of`), open (`open_of`), fresh (`fresh_of`),
 -- cycle (`cycle_of`), direct (`direct_of`), direct_fresh (`direct_fresh`). They are functions, so every call ends and a refusal has one place. Assumes nothing.
-use Rattle.std.specs.Prelude.{◌≡◌, ◌↔◌, List, [], ◌∷◌, ◌++◌, map, ℕ, suc, ◌+◌, ◌≤◌, ◌<◌, length, take, drop, ℤ}
+use Rattle.base_answers.specs.declared.Counts.{Counts}
+use Rattle.std.specs.Prelude.{◌≡◌, ◌↔◌, List, [], ◌∷◌, ◌++◌, map, ℕ, suc, ◌+◌, ◌≤◌, ◌<◌, length, take, drop, ℤ, Err, Ok, Result}
 use Rattle.std.specs.Borrow.{Bor}
-use Rattle.base_answers.specs.Answers.{number_of, place_of, compile_told, fresh_told, cycle_told}
+use Rattle.base_answers.specs.Answers.{number_of, place_of, told, cycle_told}
 use Rattle.base_answers.specs.declared.State.{State}
 use Rattle.base_answers.specs.declared.Refusal as declared
-use Rattle.base_answers.specs.declared.Compiled as declared_compiled
-use Rattle.base_answers.specs.declared.Compiled.TheVariants.{Written, NotCompiled}
-use Rattle.base_answers.specs.declared.Started as declared_started
-use Rattle.base_answers.specs.declared.Started.TheVariants.{Fresh, NotStarted}
-use Rattle.base_answers.specs.declared.Cycled.{Cycled}
-use Rattle.base_answers.specs.declared.Cycled.TheVariants.{Performed, NotPerformed}
 use Rattle.spec_grammar.specs.Tree.{Text}
 use Rattle.spec_design.specs.Statement.{size}
 use Rattle.spec_design.specs.Process.{Process}
@@ -218,16 +213,16 @@ pub record Handed (text : List ℕ) (place : ℕ) : Type 0 where
 -- ANSWERS THAT ARE ENUMS. "Where an answer is an enum, the promises use a definition. That definition gives this paper's number and values for each of the
 -- enum's cases." An answer of the code that tells what is told of the definition's, as every contract has it, is the count itself, or a refusal with the
 -- definition's own number and place.
-abbrev pub RefusedAs : {A : Type 0} → (declared.Refusal → A) → A → ℕ → ℕ → Type 0
-RefusedAs wrap r q k = (x : declared.Refusal) × (r ≡ wrap x) × (number_of x ≡ q) × (place_of x ≡ k)
+abbrev pub RefusedAs : {A : Type 0} → Result A declared.Refusal → ℕ → ℕ → Type 0
+RefusedAs r q k = (x : declared.Refusal) × (r ≡ Err x) × (number_of x ≡ q) × (place_of x ≡ k)
 
 pub record AnswersTold : Type 0 where
-  pub compiled : (r : declared_compiled.Compiled) (n : ℕ) → compile_told r ≡ written n → r ≡ Written n
-  pub compile_refused : (r : declared_compiled.Compiled) (q k : ℕ) → compile_told r ≡ not_compiled q k → RefusedAs NotCompiled r q k
-  pub started : (r : declared_started.Started) (s : State) → fresh_told r ≡ fresh_answer (fresh s) → r ≡ Fresh
-  pub start_refused : (r : declared_started.Started) (q k : ℕ) → fresh_told r ≡ fresh_answer (not_started q k) → RefusedAs NotStarted r q k
-  pub cycled : (r : Cycled) (way : List ℕ) → cycle_told r ≡ cycle_answer (performed way) → r ≡ Performed (record { lines = length way })
-  pub cycle_refused : (r : Cycled) (q k : ℕ) → cycle_told r ≡ cycle_answer (not_performed q k) → RefusedAs NotPerformed r q k
+  pub compiled : (r : Result ℕ declared.Refusal) (n : ℕ) → told r ≡ written n → r ≡ Ok n
+  pub compile_refused : (r : Result ℕ declared.Refusal) (q k : ℕ) → told r ≡ not_compiled q k → RefusedAs r q k
+  pub started : (r : Result (Unit {0}) declared.Refusal) (s : State) → told r ≡ fresh_answer (fresh s) → r ≡ Ok tt
+  pub start_refused : (r : Result (Unit {0}) declared.Refusal) (q k : ℕ) → told r ≡ fresh_answer (not_started q k) → RefusedAs r q k
+  pub cycled : (r : Result Counts declared.Refusal) (way : List ℕ) → cycle_told r ≡ cycle_answer (performed way) → r ≡ Ok (record { lines = length way })
+  pub cycle_refused : (r : Result Counts declared.Refusal) (q k : ℕ) → cycle_told r ≡ cycle_answer (not_performed q k) → RefusedAs r q k
 
 -- WHAT ENTRY LEAVES AND TELLS beside them: `ToldByEntry`, above.
 

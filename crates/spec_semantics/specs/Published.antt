@@ -9,7 +9,7 @@
 -- SEQ_AB, printed so that resuming in the second part repeats the first, and SEQ_AC, printed with pgb inside the first function's result: "If the
 -- evaluation starts from one of the internal wait statements of y, then this result becomes the result of the entire sequence." (5.4)
 -- CLOSE_C is printed with the old output state as the output row; document 01 has "the output row gets all outputs, what the cycle assigned
--- included". So it hands on the new state alone here, and CLOSE_C-printed is the print.
+-- included". So it hands on the new state alone here, and CLOSE_C_printed is the print.
 use Rattle.std.specs.Prelude.{Bool, true, false, not, ◌⊎◌, List, ℤ}
 use Rattle.std.proofs.Math.Option.{Option, none, some}
 use Rattle.std.proofs.Common.{inl, inr}

@@ -7,10 +7,12 @@ use Prim.Native.Nat.{ℕ, zero, suc, ◌≤◌, ◌/◌}
 use native.Mathlib.Omega.{arith}
 use lib.ListN.{length, drop}
 use lib.IntN.{ℤ}
+use Rattle.std.specs.Prelude.{Result}
+use Rattle.base_answers.specs.declared.Counts.{Counts}
+use Rattle.base_answers.specs.declared.Refusal as declared
 use Rattle.base_answers.specs.declared.State.{State}
-use Rattle.base_answers.specs.declared.Cycled.{Cycled}
 use Rattle.base_answers.specs.Answers.{cycle_told}
-use Rattle.base_answers.specs.Numbers.{Narrow, numbers_of, cycled_numbers}
+use Rattle.base_answers.specs.Numbers.{Narrow, numbers_of, answer_numbers}
 use Rattle.base_answers.proofs.Narrow.{narrowed, refused_narrow, done_narrow}
 use Rattle.spec_semantics.specs.InputRow.{Wrong}
 use Rattle.spec_semantics.specs.Calls.{Answer, performed, not_performed, Called}
@@ -91,7 +93,7 @@ module _ (image : List ℕ) (h : Bytes image) where
             let y : not_performed n x ≡ performed way = sym (closed_answer n x f) ∙ e in absurd (let z : ◌≡◌ {A = ℕ} 0 1 = cc in omega arith)
 
     -- 32 bits hold them
-    pub cycle_narrow : (x : Cycled) → cycle_told x ≡ cycle_answer (cycle_of image s i o).answer → Narrow (cycled_numbers x)
+    pub cycle_narrow : (x : Result Counts declared.Refusal) → cycle_told x ≡ cycle_answer (cycle_of image s i o).answer → Narrow (answer_numbers (λ n. n.lines) x)
     cycle_narrow x e = narrowed numbers_of (sym e) (on (cycle_of image s i o).answer refl)
       where
         on : (a : Answer) → (cycle_of image s i o).answer ≡ a → Narrow (numbers_of (cycle_answer a))

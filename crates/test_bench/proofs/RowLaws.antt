@@ -1,18 +1,19 @@
 -- Rows run in a loop come to what all of them come to: at every turn, what was told so far and what the rest from here comes to is what the whole comes to.
 -- Assumes nothing.
 use mathlib.Core.Path.{◌≡◌, refl, sym, ap, subst, ◌∙◌}
-use mathlib.Core.Bool.{Bool, true, false, ◌&&◌}
+use mathlib.Core.Bool.{Bool, true, false}
 use mathlib.Core.List.{List, [], ◌∷◌}
-use Prim.Native.Nat.{ℕ, zero, suc, ◌+◌, ◌-◌, ◌≤◌, ◌<◌}
+use Prim.Native.Nat.{ℕ, zero, suc, ◌+◌, ◌-◌, ◌≤◌, ◌<◌, min}
 use native.Mathlib.Omega.{arith}
 use lib.ListN.{length, take, drop, length-drop}
 use lib.Seq.{drop-drop}
 use lib.IntN.{ℤ}
-use lib.Dec.{ltb, leb}
-use borrow.Author.Tests.{ltb-true, leb-true, leb-false, lt-ltb, le-leb, lt-leb}
-use Rattle.spec_semantics.proofs.Basic.{false_true, and_left, and_right}
+use lib.Dec.{leb}
+use borrow.Author.Tests.{leb-true, leb-false, le-leb, lt-leb}
+use Rattle.std.specs.Prelude.{Result}
+use Rattle.base_answers.specs.declared.Counts.{Counts}
+use Rattle.base_answers.specs.declared.Refusal.{Refusal}
 use Rattle.base_answers.specs.declared.State.{State}
-use Rattle.base_answers.specs.declared.Cycled.{Cycled}
 use Rattle.base_answers.specs.Answers.{lines_of, cycle_told, count_of}
 use Rattle.spec_semantics.specs.Calls.{Called, turned_back}
 use Rattle.spec_semantics.specs.Advances.{cycle_answer}
@@ -56,12 +57,9 @@ told_sum a b = told_cases (λ k. told (k + b) ≡ told (a + b)) a (λ h. refl) a
             rw z (told_low 18446744073709551615 (omega arith) ∙ sym (told_high (a + 0) (omega arith)))
         go false e = told_high _ (omega (arith, leb-false b 0 e)) ∙ sym (told_high (a + b) (omega arith))
 
--- what the test for another row says
-pub more_left : (left w rest : ℕ) → (ltb 0 left && leb w rest) ≡ true → 1 ≤ left
-more_left left w rest t = ltb-true 0 left (and_left (ltb 0 left) (leb w rest) t)
-
-pub more_room : (left w rest : ℕ) → (ltb 0 left && leb w rest) ≡ true → w ≤ rest
-more_room left w rest t = leb-true w rest (and_right (ltb 0 left) (leb w rest) t)
+-- a sum that stops at the largest number
+pub told_min : (n : ℕ) → min n 18446744073709551615 ≡ told n
+told_min n = told_cases (λ k. min n 18446744073709551615 ≡ k) n (λ h. omega arith) (λ h. omega arith)
 
 module _ (f : Cycle) (l : List ℤ) (w : ℕ) (s₀ : State) (n₀ : ℕ) (o₀ : List ℤ) where
   -- what the row at `from` and those behind it come to, at most `left` of them, from a state and an output row
@@ -76,8 +74,10 @@ module _ (f : Cycle) (l : List ℤ) (w : ℕ) (s₀ : State) (n₀ : ℕ) (o₀ 
     pub row : row_after o (rest_of from left p.state o) ≡ row_after o₀ (called_on f s₀ o₀ (rows_of n₀ w l))
 
   -- before the first row
-  pub rest_first : Rest 0 n₀ (record { lines = 0; state = s₀ }) o₀
-  rest_first = record { within = omega arith; small = omega arith; lines = ap told (omega arith); row = refl }
+  pub rest_first : Rest 0 (n₀ - 0) (record { lines = 0; state = s₀ }) o₀
+  rest_first =
+      let all : n₀ - 0 ≡ n₀ = omega arith in
+      rw all (record { within = omega arith; small = omega arith; lines = ap told (omega arith); row = refl })
 
   -- a row that fits is the first of the rest
   rows_there : (from m : ℕ) → w ≤ length l - from → rows_of (suc m) w (drop from l) ≡ take w (drop from l) ∷ rows_of m w (drop (from + w) l)
@@ -103,49 +103,56 @@ module _ (f : Cycle) (l : List ℤ) (w : ℕ) (s₀ : State) (n₀ : ℕ) (o₀ 
   rest_row from m s o h = rw (rows_there from m h)
 
   -- after a row
-  pub rest_again : (from left : ℕ) (p q : Progress) (o u : List ℤ) → (ltb 0 left && leb w (length l - from)) ≡ true → Rest from left p o
-      → Adds (call_at from p.state o) p.lines q u → Rest (from + w) (left - 1) q u
-  rest_again from zero p q o u t h a = false_true t
-  rest_again from (suc m) p q o u t h a =
-      let room : w ≤ length l - from = more_room (suc m) w (length l - from) t in
+  pub rest_again : (from i : ℕ) (p q : Progress) (o u : List ℤ) → i < n₀ → w ≤ length l - from → Rest from (n₀ - i) p o
+      → Adds (call_at from p.state o) p.lines q u → Rest (from + w) (n₀ - (i + 1)) q u
+  rest_again from i p q o u t room h a =
+      let m = n₀ - (i + 1) in
       let n = length (way_of (call_at from p.state o).answer) in
       let x = lines_in (rest_of (from + w) m (call_at from p.state o).state (call_at from p.state o).row) in
       let sum : p.lines + n + x ≡ p.lines + (n + x) = omega arith in
-      let less : m ≡ suc m - 1 = omega arith in
-      subst (λ (k : ℕ). Rest (from + w) k q u) less
-      (record {
+      let left : n₀ - i ≡ suc m = omega arith in
+      let g : Rest from (suc m) p o = rw left at h in
+      record {
         within = omega (arith, h.within);
         small = subst (λ k. k ≤ 18446744073709551615) (sym a.lines) (told_small (p.lines + n));
         lines = rw (a.lines, a.state, a.row) (told_sum (p.lines + n) x ∙ ap told (sum ∙ ap (λ k. p.lines + k) (sym (rest_lines from m p.state o room)))
-            ∙ h.lines);
-        row = rw (a.state, a.row) (sym (rest_row from m p.state o room) ∙ h.row);
-      })
+            ∙ g.lines);
+        row = rw (a.state, a.row) (sym (rest_row from m p.state o room) ∙ g.row);
+      }
 
-  -- no row is left
-  rows_none : (from left : ℕ) → (ltb 0 left && leb w (length l - from)) ≡ false → rows_of left w (drop from l) ≡ []
+  -- no row is left: the values that are left fill none, or so many were run
+  rows_short : (from left : ℕ) → length l - from < w → rows_of left w (drop from l) ≡ []
   unfolding rows_of
-  rows_none from zero t = refl
-  rows_none from (suc m) t =
-      let z : ltb 0 (suc m) ≡ true = lt-ltb 0 (suc m) (omega arith) in
-      let e : leb w (length (drop from l)) ≡ false = rw length-drop (rw z at t) in
+  rows_short from zero t = refl
+  rows_short from (suc m) t =
+      let e : leb w (length (drop from l)) ≡ false = rw length-drop (lt-leb w (length l - from) t) in
       rw e
 
-  pub rest_end : (from left : ℕ) (p : Progress) (o : List ℤ) → (ltb 0 left && leb w (length l - from)) ≡ false → Rest from left p o
-      → Runs f s₀ l w n₀ o₀ p.lines o
+  rows_run : (from left : ℕ) → left ≡ 0 → rows_of left w (drop from l) ≡ []
+  unfolding rows_of
+  rows_run from zero t = refl
+  rows_run from (suc m) t = absurd (omega arith)
+
+  rest_end : (from left : ℕ) (p : Progress) (o : List ℤ) → rows_of left w (drop from l) ≡ [] → Rest from left p o → Runs f s₀ l w n₀ o₀ p.lines o
   unfolding called_on lines_in row_after
-  rest_end from left p o t h =
-      let e = rows_none from left t in
+  rest_end from left p o e h =
       let sum : p.lines + 0 ≡ p.lines = omega arith in
       record {
         lines = sym (told_low p.lines h.small) ∙ ap told (sym sum) ∙ (rw e at h.lines);
         row = rw e at h.row;
       }
 
+  pub rest_short : (from left : ℕ) (p : Progress) (o : List ℤ) → length l - from < w → Rest from left p o → Runs f s₀ l w n₀ o₀ p.lines o
+  rest_short from left p o t h = rest_end from left p o (rows_short from left t) h
+
+  pub rest_run : (from i : ℕ) (p : Progress) (o : List ℤ) → n₀ ≤ i → Rest from (n₀ - i) p o → Runs f s₀ l w n₀ o₀ p.lines o
+  rest_run from i p o t h = rest_end from (n₀ - i) p o (rows_run from (n₀ - i) (omega arith)) h
+
 -- The lines of one call.
 
 -- the call of the part from .. from + w, whose lines n are put to those before it
 pub adds : (f : Cycle) (s : State) (l : List ℤ) (from w : ℕ) (o : List ℤ)
-    → {before n k : ℕ} (a : Cycled) {t : State} {u : List ℤ} → n ≡ lines_of a → cycle_told a ≡ cycle_answer (f s (take (from + w - from) (drop from l)) o).answer
+    → {before n k : ℕ} (a : Result Counts Refusal) {t : State} {u : List ℤ} → n ≡ lines_of a → cycle_told a ≡ cycle_answer (f s (take (from + w - from) (drop from l)) o).answer
     → k ≡ told (before + n)
     → t ≡ (f s (take (from + w - from) (drop from l)) o).state → u ≡ (f s (take (from + w - from) (drop from l)) o).row
     → Adds (f s (take w (drop from l)) o) before (record { lines = k; state = t }) u

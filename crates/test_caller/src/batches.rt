@@ -6,22 +6,16 @@ use std::io;
 
 // The input rows: every row's value in all its inputs.
 fn fill(values: &mut [i32], inputs: usize) {
-    if inputs == 0 {
-        return;
-    }
-    let mut k = 0;
-    while k < values.len() {
-        values[k] = rows::value(k / inputs);
-        k += 1;
+    if inputs > 0 {
+        for (row, v) in values.chunks_mut(inputs).zip(rows::VALUES) {
+            row.fill(v);
+        }
     }
 }
 
 // How many places all rows have. No image has more than 16 in a row.
 fn places(row: usize) -> usize {
-    if 16 < row {
-        return 0;
-    }
-    COUNT * row
+    if row <= 16 { COUNT * row } else { 0 }
 }
 
 // A call, printed.
@@ -35,55 +29,30 @@ fn call(
     numbers: &mut [u32],
 ) -> io::Result<()> {
     let a = calls::rows(image, s, count, inputs, outputs, numbers);
-    let answer = a.answer;
-    let state = a.state;
-    print::words(rt, b" rows")?;
-    print::number(rt, count)?;
-    print::batched(rt, answer)?;
+    print!(rt; " rows {count}")?;
+    print::done(rt, a.answer)?;
     print::answers_of(rt, numbers)?;
     print::row(rt, outputs)?;
-    print::state(rt, state)?;
-    print::line(rt)
-}
-
-// A call with the first m places of the outputs.
-fn call_with(
-    rt: &impl Print,
-    image: &[u8],
-    s: State,
-    count: usize,
-    inputs: &[i32],
-    outputs: &mut [i32],
-    m: usize,
-) -> io::Result<()> {
-    if outputs.len() < m {
-        return Ok(());
-    }
-    let mut numbers = [99u32; 24];
-    call(
-        rt,
-        image,
-        s,
-        count,
-        inputs,
-        &mut outputs[0..m],
-        &mut numbers,
-    )
+    print::state(rt, &a.state)?;
+    rt.print("\n")
 }
 
 // A call with this count, where inputs, outputs and answers are those of all rows: 128 places hold eight rows of 16.
 fn run_count(rt: &impl Print, image: &[u8], rows: Rows, s: State, count: usize) -> io::Result<()> {
     let mut inputs = [0i32; 128];
     let mut outputs = [99i32; 128];
+    let mut numbers = [99u32; 24];
     fill(&mut inputs, rows.inputs);
-    call_with(
+    let n = places(rows.inputs).min(inputs.len());
+    let m = places(rows.outputs).min(outputs.len());
+    call(
         rt,
         image,
         s,
         count,
-        rows::first_values(&inputs, places(rows.inputs)),
-        &mut outputs,
-        places(rows.outputs),
+        &inputs[..n],
+        &mut outputs[..m],
+        &mut numbers,
     )
 }
 

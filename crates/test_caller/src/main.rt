@@ -7,9 +7,7 @@
 // cut or empty, opened and called.
 // `fresh`, `cycle` and `rows` tell the answer and the record that the call leaves. Before `fresh` the record has place 7, 3 in output slot 15 and -5 in variable slot 31;
 // an output row, and the answers of many rows, hold 99 before a call.
-ghost use Rattle.std.specs.Prelude.{◌≤◌, length};
-
-use base_answers::{Compiled, Refusal, State};
+use base_answers::{Refusal, State};
 use image_words::byte;
 use rows::Rows;
 use std::env::Env;
@@ -26,61 +24,39 @@ mod sections;
 // The longest text whose tokens are printed.
 const SHORT: usize = 1000;
 
-fn wide(x: u8) -> usize
-    ensures { result ≤ 255 }
-{
-    x as usize
-}
-
-// Whether every byte is 165.
-fn untouched(buffer: &[u8]) -> bool {
-    let mut k = 0;
-    while k < buffer.len() {
-        if buffer[k] != 165 {
-            return false;
-        }
-        k += 1;
-    }
-    true
-}
-
 fn print_untouched(rt: &impl Print, buffer: &[u8]) -> io::Result<()> {
-    if untouched(buffer) {
-        return print::words(rt, b" untouched");
-    }
-    print::words(rt, b" touched")
+    let untouched = buffer.iter().all(|b| *b == 165);
+    rt.print(if untouched { " untouched" } else { " touched" })
 }
 
 // The token at a place, if one starts there.
 fn print_token(rt: &impl Print, text: &[u8], place: usize) -> io::Result<()> {
     let t = api_rattle::token_at(text, place);
-    if t.len() == 0 {
+    if t.is_empty() {
         return Ok(());
     }
-    print::words(rt, b" ")?;
-    print::words(rt, t)
+    rt.print(" ")?;
+    rt.write_all(t)
 }
 
 fn print_tokens(rt: &impl Print, text: &[u8]) -> io::Result<()> {
-    if SHORT < text.len() {
+    if text.len() > SHORT {
         return Ok(());
     }
-    print::words(rt, b" tokens")?;
-    let mut k = 0;
-    while k <= text.len() {
+    rt.print(" tokens")?;
+    for k in 0..=text.len() {
         print_token(rt, text, k)?;
-        k += 1;
     }
-    print::line(rt)
+    rt.print("\n")
 }
 
 // The refusal of a text, and the token there.
 fn print_refused(rt: &impl Print, text: &[u8], buffer: &[u8], r: Refusal) -> io::Result<()> {
     print::refusal(rt, r)?;
     print_untouched(rt, buffer)?;
-    print::words(rt, b" token")?;
-    print_token(rt, text, base_answers::place(r))?;
-    print::line(rt)
+    rt.print(" token")?;
+    print_token(rt, text, r.place())?;
+    rt.print("\n")
 }
 
 // The calls on a text that is refused, from the marked record.
@@ -92,7 +68,7 @@ fn run_refused(rt: &impl Print, text: &[u8]) -> io::Result<()> {
     };
     rows::start(rt, text, false)?;
     rows::run_row(rt, text, rows, rows::marked(), 1)?;
-    print::line(rt)
+    rt.print("\n")
 }
 
 // A text that is refused.
@@ -103,53 +79,35 @@ fn refused(rt: &impl Print, text: &[u8], buffer: &[u8], r: Refusal) -> io::Resul
 }
 
 // The text compiled into the first m bytes of a buffer.
-fn compile_into(rt: &impl Print, text: &[u8], buffer: &mut [u8], m: usize) -> io::Result<()> {
-    if buffer.len() < m {
-        return Ok(());
-    }
-    print::words(rt, b" into")?;
-    print::number(rt, m)?;
-    let compiled = api_rattle::compile(text, &mut buffer[0..m]);
-    print_compiled(rt, compiled)?;
-    print_untouched(rt, buffer)?;
-    print::line(rt)
-}
-
-fn print_compiled(rt: &impl Print, compiled: Compiled) -> io::Result<()> {
-    match compiled {
-        Compiled::Written(n) => print::number(rt, n),
-        Compiled::NotCompiled(r) => print::refusal(rt, r),
-    }
-}
-
-// The text compiled into a byte less than it needs.
-fn compile_short(rt: &impl Print, text: &[u8], n: usize) -> io::Result<()> {
-    if n == 0 {
-        return Ok(());
-    }
+fn compile_into(rt: &impl Print, text: &[u8], m: usize) -> io::Result<()> {
     let mut buffer = [165u8; 65535];
-    compile_into(rt, text, &mut buffer, n - 1)
+    if m > buffer.len() {
+        return Ok(());
+    }
+    print!(rt; " into {m}")?;
+    print::counted(rt, api_rattle::compile(text, &mut buffer[..m]))?;
+    print_untouched(rt, &buffer)?;
+    rt.print("\n")
 }
 
 // How many inputs and outputs the signature has.
 fn rows_of(image: &[u8], on_image: bool) -> Rows {
     let signature = sections::signature(image);
     Rows {
-        on_image: on_image,
-        inputs: wide(byte(signature, 0)),
-        outputs: wide(byte(signature, 1)),
+        on_image,
+        inputs: usize::from(byte(signature, 0)),
+        outputs: usize::from(byte(signature, 1)),
     }
 }
 
 fn fresh_state(image: &[u8]) -> State {
-    let f = calls::fresh(image, rows::marked());
-    f.state
+    calls::fresh(image, rows::marked()).state
 }
 
 // The calls on an image, damaged too.
 fn run_image(rt: &impl Print, image: &[u8]) -> io::Result<()> {
     let rows = rows_of(image, true);
-    print::words(rt, b" image\n")?;
+    rt.print(" image\n")?;
     rows::run(rt, image, rows)?;
     batches::run(rt, image, rows, fresh_state(image))?;
     opened::damaged(rt, image, rows, fresh_state(image))
@@ -157,7 +115,7 @@ fn run_image(rt: &impl Print, image: &[u8]) -> io::Result<()> {
 
 // The calls on a text, with the counts of its image.
 fn run_text(rt: &impl Print, text: &[u8], image: &[u8]) -> io::Result<()> {
-    print::words(rt, b" text\n")?;
+    rt.print(" text\n")?;
     rows::run(rt, text, rows_of(image, false))
 }
 
@@ -174,61 +132,43 @@ fn accepted(rt: &impl Print, text: &[u8], whole: &[u8], n: usize) -> io::Result<
     if whole.len() < n {
         return Ok(());
     }
-    print::number(rt, n)?;
-    print_untouched(rt, &whole[n..])?;
-    print::line(rt)?;
-    compile_short(rt, text, n)?;
-    run(rt, text, &whole[0..n])
+    let (image, rest) = whole.split_at(n);
+    print!(rt; " {n}")?;
+    print_untouched(rt, rest)?;
+    rt.print("\n")?;
+    if n > 0 {
+        // into a byte less than it needs
+        compile_into(rt, text, n - 1)?;
+    }
+    run(rt, text, image)
 }
 
 fn report(rt: &impl Print, text: &[u8], line: u64) -> io::Result<()> {
     print!(rt; "{line}: compile")?;
     let mut whole = [165u8; 65535];
-    let compiled = api_rattle::compile(text, &mut whole);
-    match compiled {
-        Compiled::Written(n) => accepted(rt, text, &whole, n),
-        Compiled::NotCompiled(r) => refused(rt, text, &whole, r),
+    match api_rattle::compile(text, &mut whole) {
+        Ok(n) => accepted(rt, text, &whole, n),
+        Err(r) => refused(rt, text, &whole, r),
     }
-}
-
-fn line_end(text: &[u8], at: usize) -> usize
-    requires { at ≤ length text.now }
-    ensures { (at ≤ result) × (result ≤ length text.now) }
-{
-    let mut i = at;
-    while i < text.len() {
-        if text[i] == b'\n' {
-            return i;
-        }
-        i += 1;
-    }
-    i
 }
 
 // Each line as a text, with its number.
 fn report_lines(rt: &impl Print, text: &[u8]) -> io::Result<()> {
-    let mut at = 0;
-    let mut line: u64 = 1;
-    while at < text.len() {
-        let end = line_end(text, at);
-        report(rt, &text[at..end], line)?;
-        at = end + 1;
-        line += 1;
+    for (line, part) in (1u64..).zip(text.split_inclusive(|b| *b == b'\n')) {
+        report(rt, part.strip_suffix(b"\n").unwrap_or(part), line)?;
     }
     Ok(())
 }
 
 fn report_blanks(rt: &impl Print) -> io::Result<()> {
-    let text = [32u8; 16385];
+    let text = [b' '; 16385];
     report(rt, &text, 0)
 }
 
 // The lines of the file that an argument names.
 fn report_argument(rt: &(impl Env + Files + Print + Eprint), i: usize) -> io::Result<()> {
-    let mut path = [0u8; 4096];
-    let length = base_files::argument(rt, i, &mut path);
     let mut buffer = [0u8; 65536];
-    if let Some(n) = base_files::read_or_tell(rt, &path[..length], &mut buffer)? {
+    if let Some(n) = base_files::read_argument(rt, i, &mut buffer)? {
         report_lines(rt, &buffer[..n])?;
     }
     Ok(())

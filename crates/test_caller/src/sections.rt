@@ -1,10 +1,9 @@
 // The opened image: what opening has found, and the sections that it lends out.
-use api_rattle::Opening;
+use base_answers::{Refusal, Sections};
 
 // What stands in the opened image beside the bytes.
-pub(crate) fn opening(bytes: &[u8]) -> Opening {
-    let i = api_rattle::open(bytes);
-    i.opening
+pub(crate) fn opening(bytes: &[u8]) -> Result<Sections, Refusal> {
+    api_rattle::open(bytes).opening
 }
 
 // The signature section.

@@ -1,10 +1,7 @@
 #![tactic(auto)]
 // Prints the front end's answer to texts, a line for each: the refusal's number and place and the token there, or 0 for an accepted text. The first
 // arguments name files in which each line is a text; every further argument names a file that is a text.
-ghost use Rattle.std.specs.Prelude.{◌≤◌, length};
-
 use base_answers::Refusal;
-use front_accept::Acceptance;
 use std::env::Env;
 use std::io;
 use std::rt::Files;
@@ -17,71 +14,40 @@ const LISTS: usize = 16;
 // The bytes of the token at a place, or in parentheses how many they are, if more than 40.
 fn print_token(rt: &impl Print, text: &[u8], place: usize) -> io::Result<()> {
     let t = front_lexer::token_at(text, place);
-    let n = t.len();
-    if n == 0 {
-        return Ok(());
-    }
-    rt.print(" ")?;
-    if n <= 40 {
-        rt.write_all(t)
-    } else {
-        print!(rt; "({n})")
+    match t.len() {
+        0 => Ok(()),
+        1..=40 => {
+            rt.print(" ")?;
+            rt.write_all(t)
+        }
+        n => print!(rt; " ({n})"),
     }
 }
 
 fn print_refusal(rt: &impl Print, text: &[u8], r: Refusal) -> io::Result<()> {
-    let number = base_answers::number(r);
-    let place = base_answers::place(r);
+    let number = r.number();
+    let place = r.place();
     print!(rt; "{number} {place}")?;
     print_token(rt, text, place)
-}
-
-fn print_accepted(rt: &impl Print) -> io::Result<()> {
-    rt.print("0")
 }
 
 fn report(rt: &impl Print, text: &[u8]) -> io::Result<()> {
     let mut ops = [0u8; 16384];
     let mut args = [0i32; 16384];
     let mut lines = [0u16; 3072];
-    let front = front_accept::accept(text, &mut ops, &mut args, &mut lines);
-    let answer = front.answer;
-    match answer {
-        Acceptance::Accepted => print_accepted(rt)?,
-        Acceptance::Refused(r) => print_refusal(rt, text, r)?,
+    match front_accept::accept(text, &mut ops, &mut args, &mut lines) {
+        Ok(_) => rt.print("0")?,
+        Err(r) => print_refusal(rt, text, r)?,
     }
     rt.print("\n")
 }
 
-fn line_end(text: &[u8], at: usize) -> usize
-    requires { at ≤ length text.now }
-    ensures { (at ≤ result) × (result ≤ length text.now) }
-{
-    let mut i = at;
-    while i < text.len() {
-        if text[i] == b'\n' {
-            return i;
-        }
-        i += 1;
-    }
-    i
-}
-
-fn print_line_number(rt: &impl Print, name: &[u8], line: u64) -> io::Result<()> {
-    rt.write_all(name)?;
-    print!(rt; " {line}: ")
-}
-
 // Each line as a text, with the file's name and the line's number.
 fn report_lines(rt: &impl Print, name: &[u8], text: &[u8]) -> io::Result<()> {
-    let mut at = 0;
-    let mut line: u64 = 1;
-    while at < text.len() {
-        let end = line_end(text, at);
-        print_line_number(rt, name, line)?;
-        report(rt, &text[at..end])?;
-        at = end + 1;
-        line += 1;
+    for (line, part) in (1u64..).zip(text.split_inclusive(|b| *b == b'\n')) {
+        rt.write_all(name)?;
+        print!(rt; " {line}: ")?;
+        report(rt, part.strip_suffix(b"\n").unwrap_or(part))?;
     }
     Ok(())
 }

@@ -10,8 +10,8 @@
 // Of a case are printed: the image's length and its bytes (`print_image`), as compiled into 65535 bytes; what compiling again into fewer bytes comes to;
 // the fresh state; and for each row the answer of the cycle on the image, the output row and the state after it. `same` says that the direct run from the
 // text gave all of this too; where it did not, its own answer follows. Buffers hold 165 before a call; `untouched` says that they still do.
-use base_answers::{Compiled, Refusal};
-use image_words::{byte, word2};
+use base_answers::Refusal;
+use image_words::word2;
 use std::env::Env;
 use std::io;
 use std::rt::Files;
@@ -25,7 +25,7 @@ mod traces;
 fn refused(rt: &impl Print, text: &[u8], buffer: &[u8], r: Refusal) -> io::Result<()> {
     print::refusal(rt, r)?;
     compiling::print_untouched(rt, buffer)?;
-    print::line(rt)?;
+    rt.print("\n")?;
     rows::print_fresh_of_text(rt, text)?;
     rows::print_run_of_text(rt, text)
 }
@@ -35,10 +35,10 @@ fn accepted(rt: &impl Print, text: &[u8], rows: &[u8], whole: &[u8], n: usize) -
     if whole.len() < n {
         return Ok(());
     }
-    let image = &whole[0..n];
+    let image = &whole[..n];
     compiling::print_image(rt, image)?;
     compiling::print_untouched(rt, &whole[n..])?;
-    print::line(rt)?;
+    rt.print("\n")?;
     compiling::again(rt, text, image)?;
     rows::run(rt, text, image, rows)
 }
@@ -46,10 +46,9 @@ fn accepted(rt: &impl Print, text: &[u8], rows: &[u8], whole: &[u8], n: usize) -
 // One case.
 fn report(rt: &impl Print, text: &[u8], rows: &[u8]) -> io::Result<()> {
     let mut whole = [165u8; 65535];
-    let compiled = image_compiler::compile(text, &mut whole);
-    match compiled {
-        Compiled::Written(n) => accepted(rt, text, rows, &whole, n),
-        Compiled::NotCompiled(r) => refused(rt, text, &whole, r),
+    match image_compiler::compile(text, &mut whole) {
+        Ok(n) => accepted(rt, text, rows, &whole, n),
+        Err(r) => refused(rt, text, &whole, r),
     }
 }
 
@@ -64,7 +63,8 @@ fn report_cases(rt: &impl Print, name: &[u8], cases: &[u8]) -> io::Result<()> {
         if cases.len() < end {
             return Ok(());
         }
-        print::title(rt, name, number)?;
+        rt.write_all(name)?;
+        print!(rt; " {number}:")?;
         report(rt, &cases[start..middle], &cases[middle..end])?;
         at = end;
         number += 1;
@@ -81,23 +81,16 @@ fn report_file(rt: &(impl Files + Print + Eprint), path: &[u8]) -> io::Result<()
     Ok(())
 }
 
-// Whether a path ends in a slash.
-fn is_folder(path: &[u8]) -> bool {
-    let n = path.len();
-    if n == 0 {
-        return false;
-    }
-    byte(path, n - 1) == b'/'
-}
-
 // The file or the folder that an argument names.
 fn report_argument(rt: &(impl Env + Files + Print + Eprint), i: usize) -> io::Result<()> {
     let mut path = [0u8; 4096];
     let length = base_files::argument(rt, i, &mut path);
-    if is_folder(&path[..length]) {
-        return traces::report(rt, &path[..length]);
+    let name = &path[..length];
+    if name.ends_with(b"/") {
+        traces::report(rt, name)
+    } else {
+        report_file(rt, name)
     }
-    report_file(rt, &path[..length])
 }
 
 fn main(rt: HostRuntime) -> io::Result<()> {

@@ -1,78 +1,26 @@
 // The rows of a case, each by the cycle on the image and by the direct run from the text.
-ghost use Rattle.std.specs.Prelude.{◌≡◌, ◌≤◌};
+ghost use Rattle.std.specs.Prelude.{◌≡◌};
 ghost use Rattle.base_answers.specs.Answers.{cycle_told};
 ghost use Rattle.spec_format.specs.Cycle.{cycle_of};
 ghost use Rattle.spec_semantics.specs.Advances.{cycle_answer};
 
 use crate::print;
-use base_answers::{Advanced, Counts, Cycled, Refusal, Started, State};
+use base_answers::{Advanced, Counts, Refusal, State};
+use base_files::shown::Spaced;
 use image_words::{byte, word4};
 use std::io;
 
-fn wide(x: u8) -> usize
-    ensures { result ≤ 255 }
-{
-    x as usize
-}
-
-// Whether two rows or two lists of slots are the same.
-fn same_values(a: &[i32], b: &[i32]) -> bool {
-    if a.len() != b.len() {
-        return false;
-    }
-    let mut k = 0;
-    while k < a.len() {
-        if b.len() <= k {
-            return false;
-        }
-        if !base_signed::equal(a[k], b[k]) {
-            return false;
-        }
-        k += 1;
-    }
-    true
-}
-
-fn same_state(s: State, t: State) -> bool {
-    let a = s.outputs;
-    let b = t.outputs;
-    let c = s.variables;
-    let d = t.variables;
-    if s.place != t.place {
-        return false;
-    }
-    if !same_values(&a, &b) {
-        return false;
-    }
-    same_values(&c, &d)
-}
-
-fn same_refusal(r: Refusal, s: Refusal) -> bool {
-    if base_answers::number(r) != base_answers::number(s) {
-        return false;
-    }
-    base_answers::place(r) == base_answers::place(s)
-}
-
-fn is_performed(a: Cycled, counts: Counts) -> bool {
-    match a {
-        Cycled::Performed(own) => counts.lines == own.lines,
-        Cycled::NotPerformed(_) => false,
-    }
-}
-
-fn is_refused(a: Cycled, r: Refusal) -> bool {
-    match a {
-        Cycled::Performed(_) => false,
-        Cycled::NotPerformed(s) => same_refusal(r, s),
-    }
-}
-
-fn same_answer(a: Cycled, b: Cycled) -> bool {
-    match a {
-        Cycled::Performed(counts) => is_performed(b, counts),
-        Cycled::NotPerformed(r) => is_refused(b, r),
-    }
+// The answer of a run, the output row and the state after it.
+fn print_run(
+    rt: &impl Print,
+    answer: Result<Counts, Refusal>,
+    row: &[i32],
+    state: &State,
+) -> io::Result<()> {
+    print::cycled(rt, answer)?;
+    let outputs = Spaced(row);
+    print!(rt; " row{outputs}")?;
+    print::state(rt, state)
 }
 
 // The direct run beside what the table gave: `same`, or its own answer.
@@ -82,24 +30,16 @@ fn print_direct(
     before: State,
     inputs: &[i32],
     row: &mut [i32],
-    by_table: Cycled,
+    by_table: Result<Counts, Refusal>,
     after: State,
     table_row: &[i32],
 ) -> io::Result<()> {
     let d = direct_runtime::run(text, before, inputs, row);
-    let answer = d.answer;
-    let state = d.state;
-    if same_answer(by_table, answer) {
-        if same_state(after, state) {
-            if same_values(table_row, row) {
-                return print::words(rt, b" same");
-            }
-        }
+    if by_table == d.answer && after == d.state && *table_row == *row {
+        return rt.print(" same");
     }
-    print::words(rt, b" direct")?;
-    print::cycled(rt, answer)?;
-    print::row(rt, row)?;
-    print::state(rt, state)
+    rt.print(" direct")?;
+    print_run(rt, d.answer, row, &d.state)
 }
 
 // A cycle on an image by a state record of the caller's own, which is lent to it.
@@ -110,10 +50,7 @@ fn advance(image: &[u8], s: State, inputs: &[i32], row: &mut [i32]) -> Advanced
 {
     let mut state = s;
     let answer = image_runtime::advance_state(image, &mut state, inputs, row);
-    Advanced {
-        state: state,
-        answer: answer,
-    }
+    Advanced { state, answer }
 }
 
 // One row by table and text; the state that the table leaves.
@@ -127,61 +64,13 @@ fn run_row(
     direct_row: &mut [i32],
 ) -> io::Result<State> {
     let a = advance(image, before, inputs, row);
-    let answer = a.answer;
-    let state = a.state;
-    print::cycled(rt, answer)?;
-    print::row(rt, row)?;
-    print::state(rt, state)?;
-    print_direct(rt, text, before, inputs, direct_row, answer, state, row)?;
-    print::line(rt)?;
-    Ok(state)
+    print_run(rt, a.answer, row, &a.state)?;
+    print_direct(rt, text, before, inputs, direct_row, a.answer, a.state, row)?;
+    rt.print("\n")?;
+    Ok(a.state)
 }
 
-// A row with the first m places of two output rows.
-fn run_with_room(
-    rt: &impl Print,
-    text: &[u8],
-    image: &[u8],
-    before: State,
-    inputs: &[i32],
-    row: &mut [i32],
-    direct_row: &mut [i32],
-    m: usize,
-) -> io::Result<State> {
-    if row.len() < m {
-        return Ok(before);
-    }
-    if direct_row.len() < m {
-        return Ok(before);
-    }
-    run_row(
-        rt,
-        text,
-        image,
-        before,
-        inputs,
-        &mut row[0..m],
-        &mut direct_row[0..m],
-    )
-}
-
-// The input values of a row.
-fn fill(inputs: &mut [i32], row: &[u8]) {
-    let mut k = 0;
-    while k < inputs.len() {
-        inputs[k] = base_signed::from_bits(word4(row, 2 + 4 * k));
-        k += 1;
-    }
-}
-
-// The first n values, or all where there are fewer.
-fn first_values<'a>(s: &'a [i32], n: usize) -> &'a [i32] {
-    if s.len() < n {
-        return s;
-    }
-    &s[0..n]
-}
-
+// A row of a case, with two output rows of the length that it tells.
 fn run_case_row(
     rt: &impl Print,
     text: &[u8],
@@ -190,38 +79,40 @@ fn run_case_row(
     row: &[u8],
 ) -> io::Result<State> {
     let mut inputs = [0i32; 20];
-    fill(&mut inputs, row);
+    for (k, v) in inputs.iter_mut().enumerate() {
+        *v = base_signed::from_bits(word4(row, 2 + 4 * k));
+    }
     let mut by_table = [99i32; 20];
     let mut by_text = [99i32; 20];
-    run_with_room(
+    let n = usize::from(byte(row, 0)).min(inputs.len());
+    let m = usize::from(byte(row, 1));
+    if m > by_table.len() {
+        return Ok(before);
+    }
+    run_row(
         rt,
         text,
         image,
         before,
-        first_values(&inputs, wide(byte(row, 0))),
-        &mut by_table,
-        &mut by_text,
-        wide(byte(row, 1)),
+        &inputs[..n],
+        &mut by_table[..m],
+        &mut by_text[..m],
     )
 }
 
 // The fresh state of the image, and whether it is that of the text.
 fn print_fresh(rt: &impl Print, text: &[u8], image: &[u8]) -> io::Result<State> {
-    print::words(rt, b" fresh")?;
+    rt.print(" fresh")?;
     let f = image_runtime::fresh(image);
-    let answer = f.answer;
-    let state = f.state;
-    if let Started::NotStarted(r) = answer {
+    if let Err(r) = f.answer {
         print::refusal(rt, r)?;
     }
-    print::state(rt, state)?;
-    let d = direct_runtime::fresh(text);
-    let direct = d.state;
-    if same_state(state, direct) {
-        print::words(rt, b" same")?;
+    print::state(rt, &f.state)?;
+    if f.state == direct_runtime::fresh(text).state {
+        rt.print(" same")?;
     }
-    print::line(rt)?;
-    Ok(state)
+    rt.print("\n")?;
+    Ok(f.state)
 }
 
 // All rows, one after another from the fresh state on.
@@ -229,7 +120,7 @@ pub(crate) fn run(rt: &impl Print, text: &[u8], image: &[u8], rows: &[u8]) -> io
     let mut s = print_fresh(rt, text, image)?;
     let mut at = 0;
     while at < rows.len() {
-        let end = at + 2 + 4 * wide(rows[at]);
+        let end = at + 2 + 4 * usize::from(rows[at]);
         if rows.len() < end {
             return Ok(());
         }
@@ -241,27 +132,21 @@ pub(crate) fn run(rt: &impl Print, text: &[u8], image: &[u8], rows: &[u8]) -> io
 
 // The answer to the fresh state of a text that is refused.
 pub(crate) fn print_fresh_of_text(rt: &impl Print, text: &[u8]) -> io::Result<()> {
-    print::words(rt, b" fresh")?;
+    rt.print(" fresh")?;
     let d = direct_runtime::fresh(text);
-    let answer = d.answer;
-    let state = d.state;
-    if let Started::NotStarted(r) = answer {
+    if let Err(r) = d.answer {
         print::refusal(rt, r)?;
     }
-    print::state(rt, state)?;
-    print::line(rt)
+    print::state(rt, &d.state)?;
+    rt.print("\n")
 }
 
 // The direct run of a text that is refused.
 pub(crate) fn print_run_of_text(rt: &impl Print, text: &[u8]) -> io::Result<()> {
     let mut row = [99i32; 2];
     let inputs = [0i32; 2];
-    let d0 = direct_runtime::fresh(text);
-    let d = direct_runtime::run(text, d0.state, &inputs, &mut row);
-    let answer = d.answer;
-    let state = d.state;
-    print::cycled(rt, answer)?;
-    print::row(rt, &row)?;
-    print::state(rt, state)?;
-    print::line(rt)
+    let first = direct_runtime::fresh(text).state;
+    let d = direct_runtime::run(text, first, &inputs, &mut row);
+    print_run(rt, d.answer, &row, &d.state)?;
+    rt.print("\n")
 }

@@ -1,80 +1,59 @@
 // The folders of examples/: the trace of process.vhd over rows.txt is held to trace.txt.
-ghost use Rattle.std.specs.Prelude.{◌≤◌, length};
+ghost use Rattle.std.specs.Prelude.{◌≡◌, ◌≤◌, length, IfOk};
 
-use crate::{compiling, print};
-use front_lexer::parts::part_of;
-use image_words::byte;
-use std::io::ErrorKind;
+use crate::compiling;
+use std::io;
 use std::rt::Files;
-use std::{fs, io};
-use trace_lines::Begun;
+use trace_lines::OnlyLine;
 
 // Copies bytes to the beginning of a buffer, as many as there is room for, and answers how many.
 fn copy(bytes: &[u8], to: &mut [u8]) -> usize
     ensures { result ≤ length to.new }
 {
-    let mut k = 0;
-    while k < to.len() {
-        if bytes.len() <= k {
-            return k;
-        }
-        to[k] = byte(bytes, k);
-        k += 1;
-    }
-    k
+    let n = bytes.len().min(to.len());
+    to[..n].copy_from_slice(&bytes[..n]);
+    n
 }
 
-// The lines of rows behind the first k bytes of the buffer: as many as it has room for.
-fn put_rows(image: &[u8], rows: &[u8], out: &mut [u8], k: usize) -> usize {
-    if out.len() < k {
-        return k;
-    }
+// The lines of rows into the buffer: as many as it has room for.
+fn put_rows(image: &[u8], rows: &[u8], out: &mut [u8]) -> usize
+    ensures { result ≤ length out.new }
+{
     let p = trace_lines::first(image);
-    let filled = trace_lines::fill(image, rows, p, &mut out[k..]);
-    let size = filled.size;
-    if out.len() - k < size {
-        return k;
-    }
-    k + size
+    let filled = trace_lines::fill(image, rows, p, out);
+    filled.size.min(out.len())
 }
 
 // The header into the buffer.
-fn put_header(text: &[u8], out: &mut [u8]) -> usize {
+fn put_header(text: &[u8], out: &mut [u8]) -> usize
+    ensures { result ≤ length out.new }
+{
     let line = trace_header::header(text);
-    let bytes = line.bytes;
-    copy(part_of(&bytes, 0, line.size), out)
+    copy(&line.bytes[..line.size.min(line.bytes.len())], out)
 }
 
 // The trace of a text over rows into a buffer.
 fn put_trace(text: &[u8], rows: &[u8], out: &mut [u8]) -> usize {
     let mut image = [0u8; 65535];
     match trace_lines::start(text, rows, &mut image, out) {
-        Begun::Only(size) => size,
-        Begun::Image(n) => {
+        Ok(n) => {
             let k = put_header(text, out);
-            put_rows(part_of(&image, 0, n), rows, out, k)
+            k + put_rows(&image[..n.min(image.len())], rows, &mut out[k..])
         }
-    }
-}
-
-// Opens a file of a folder; its path is put into a buffer.
-fn open<R: Files>(rt: &R, folder: &[u8], name: &[u8], path: &mut [u8]) -> io::Result<R::File> {
-    let k = copy(folder, path);
-    let n = copy(name, &mut path[k..]);
-    if path.len() - k < n {
-        return Err(io::Error::from(ErrorKind::InvalidInput));
-    }
-    match str::from_utf8(part_of(path, 0, k + n)) {
-        Ok(whole) => fs::open(rt, whole),
-        Err(_) => Err(io::Error::from(ErrorKind::InvalidInput)),
+        Err(OnlyLine { size }) => size,
     }
 }
 
 // A file of a folder; no bytes where it cannot be opened.
-fn read(rt: &impl Files, folder: &[u8], name: &[u8], bytes: &mut [u8]) -> io::Result<usize> {
+fn read(rt: &impl Files, folder: &[u8], name: &[u8], bytes: &mut [u8]) -> io::Result<usize>
+    ensures bound { IfOk result (λ n. n ≤ length bytes.new) }
+    ensures room { length bytes.new ≡ length bytes.old }
+{
     let mut path = [0u8; 4096];
-    match open(rt, folder, name, &mut path) {
-        Ok(mut file) => base_files::read_full(&mut file, bytes),
+    let k = copy(folder, &mut path);
+    let n = copy(name, &mut path[k..]);
+    match str::from_utf8(&path[..k + n]) {
+        Ok(whole) => base_files::read_or_empty(rt, whole, bytes),
         Err(_) => Ok(0),
     }
 }
@@ -88,10 +67,9 @@ pub(crate) fn report(rt: &(impl Files + Print), folder: &[u8]) -> io::Result<()>
     let n = read(rt, folder, b"process.vhd", &mut text)?;
     let m = read(rt, folder, b"rows.txt", &mut rows)?;
     let e = read(rt, folder, b"trace.txt", &mut expected)?;
-    let size = put_trace(part_of(&text, 0, n), part_of(&rows, 0, m), &mut out);
-    print::words(rt, folder)?;
-    print::words(rt, b": trace")?;
-    print::number(rt, size)?;
-    compiling::print_same(rt, part_of(&expected, 0, e), part_of(&out, 0, size))?;
-    print::line(rt)
+    let size = put_trace(&text[..n], &rows[..m], &mut out);
+    rt.write_all(folder)?;
+    print!(rt; ": trace {size}")?;
+    compiling::print_same(rt, &expected[..e], &out[..size.min(out.len())])?;
+    rt.print("\n")
 }

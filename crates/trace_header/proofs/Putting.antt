@@ -1,13 +1,11 @@
 -- Bytes put behind others: one, several after each other, and the invariant of a loop that puts them. Assumes nothing.
 use mathlib.Core.Path.{◌≡◌, refl, sym, ◌∙◌, ap, subst}
-use mathlib.Core.List.{List, [], ◌∷◌, ◌++◌, append_assoc, append-nil, map}
+use mathlib.Core.List.{List, [], ◌∷◌, ◌++◌, append_assoc, append-nil}
 use Prim.Native.Nat.{ℕ, suc, ◌+◌, ◌-◌, ◌≤◌, ◌<◌, min}
 use native.Mathlib.Omega.{arith}
-use native.Mathlib.Numerals.{add-one}
-use lib.ListN.{length, get_or, drop, set, replicate, length-append, drop_of_length-le}
-use lib.Seq.{set_at, drop-cons}
-use Rattle.spec_language.specs.Bytes.{bytes, lower}
-use Rattle.front_token.specs.Places.{part}
+use lib.ListN.{length, set, replicate, length-append}
+use lib.Seq.{set_at}
+use Rattle.spec_language.specs.Bytes.{bytes}
 use Rattle.base_ir.specs.declared.Names.{Names}
 use Rattle.trace_header.specs.Lines.{padded, Shows, Puts}
 use Rattle.trace_header.specs.Positions.{label_at, labels_from, header_at}
@@ -35,17 +33,6 @@ put_one {out} {n} b g = record {
   };
 }
 
--- without room the bytes do not fit
-pub put_full : {out : List ℕ} {n : ℕ} (b : ℕ) → 560 ≤ n → Puts out n (b ∷ []) out n
-put_full {out} {n} b g = record {
-  is = λ l s. record {
-    is = λ h.
-        let a : length l + 1 ≤ 560 = (let e = length-append l (b ∷ []) in omega arith) in
-        let e = s.is (omega arith) in
-        absurd (let y = e.1 in omega arith);
-  };
-}
-
 pub puts_none : {a : List ℕ} {n : ℕ} → Puts a n [] a n
 puts_none = record { is = λ l s. rw (append-nil l) s }
 
@@ -66,26 +53,12 @@ goes_on g p = record { on = λ c k h. g.on c k (puts_then p h) }
 pub goes_end : {a whole b : List ℕ} {n m : ℕ} → Goes a n whole b m [] → Puts a n whole b m
 goes_end {b = b} {m = m} g = g.on b m puts_none
 
--- the bytes of a word, one after the other
-pub word_again : {a b c : List ℕ} {n m k : ℕ} (w : List ℕ) (i x : ℕ) → Goes a n (map lower w) b m (map lower (drop i w)) → i < length w → x ≡ lower (get_or w i 0)
-    → Puts b m (x ∷ []) c k
-    → Goes a n (map lower w) c k (map lower (drop (i + 1) w))
-word_again {a} {b} {c} {n} {m} {k} w i x g h e p =
-    let z : map lower (drop i w) ≡ (x ∷ []) ++ map lower (drop (i + 1) w) = rw (drop-cons w i 0 h, e, add-one i) in
-    goes_on (rw z at g) p
-
-pub word_end : {a b : List ℕ} {n m : ℕ} (w : List ℕ) (i : ℕ) → Goes a n (map lower w) b m (map lower (drop i w)) → length w ≤ i → Puts a n (map lower w) b m
-word_end w i g h = goes_end (rw (drop_of_length-le w h) at g)
-
 -- the labels of declared names, one after the other
 pub record Lists (f : ℕ → List ℕ) (a : List ℕ) (n last : ℕ) (end : ℕ) (b : List ℕ) (m k : ℕ) : Type 0 where
   pub within : k ≤ end
   pub goes : Goes a n (labels_from f 0 last) b m (labels_from f k (end - k))
 
 module _ (f : ℕ → List ℕ) (last : ℕ) where
-  pub list_first : {a : List ℕ} {n end : ℕ} → end ≡ last → Lists f a n last end a n 0
-  list_first {a} {n} {end} e = let z : end - 0 ≡ last = omega arith in record { within = omega arith; goes = rw z goes_first }
-
   pub list_again : {a b c : List ℕ} {n end m k r : ℕ} → Lists f a n last end b m k → k < end → Puts b m (f k) c r → Lists f a n last end c r (k + 1)
   unfolding labels_from
   list_again {a} {b} {c} {n} {end} {m} {k} {r} g h p =
@@ -95,13 +68,6 @@ module _ (f : ℕ → List ℕ) (last : ℕ) where
   pub list_end : {a b : List ℕ} {n end m k : ℕ} → Lists f a n last end b m k → end ≤ k → Puts a n (labels_from f 0 last) b m
   unfolding labels_from
   list_end {a} {b} {n} {end} {m} {k} g h = let z : end - k ≡ 0 = omega arith in goes_end (rw z at g.goes)
-
--- a space and the bytes of a name, from its start and size
-pub name_put : (text : List ℕ) (s z : ℕ) {s' z' : ℕ} {w a b c : List ℕ} {m x r : ℕ} → s' ≡ s → z' ≡ z → Puts a m (32 ∷ []) b x → w ≡ part text s' z'
-    → Puts b x (map lower w) c r
-    → Puts a m (32 ∷ map lower (part text s z)) c r
-name_put text s z {s'} {z'} {w} {a} {b} {c} {m} {x} {r} p q u e h =
-    subst (λ (l : List ℕ). Puts a m (32 ∷ map lower l) c r) (e ∙ (ap (λ (k : ℕ). part text k z') p ∙ ap (λ (k : ℕ). part text s k) q)) (puts_then u h)
 
 -- the three parts of a header
 pub line_shows : (text : List ℕ) (d : Names) {v a b c : List ℕ} {x y r : ℕ} → v ≡ bytes "cycle wait lines" → Puts (replicate 560 0) 0 v a x

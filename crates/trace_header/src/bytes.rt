@@ -4,22 +4,7 @@ ghost use Rattle.spec_language.specs.Bytes.{lower};
 ghost use Rattle.trace_header.specs.Lines.{Puts};
 
 use crate::ROOM;
-
-// How far a small letter lies behind its capital.
-const CASE: u8 = b'a' - b'A';
-
-// "in lower case": a capital as its small letter.
-fn lower_case(b: u8) -> u8
-    ensures { result ≡ lower b }
-{
-    if b < b'A' {
-        return b;
-    }
-    if b > b'Z' {
-        return b;
-    }
-    b + CASE
-}
+use front_token::bytes::lower_case;
 
 // One byte; where there is no room, none.
 pub(crate) fn put(out: &mut [u8; ROOM], n: usize, b: u8) -> usize
@@ -27,9 +12,10 @@ pub(crate) fn put(out: &mut [u8; ROOM], n: usize, b: u8) -> usize
 {
     if n < ROOM {
         out[n] = b;
-        return n + 1;
+        n + 1
+    } else {
+        n
     }
-    n
 }
 
 // The bytes of a word, folded to lower case.
@@ -37,10 +23,8 @@ pub(crate) fn put_folded(word: &[u8], out: &mut [u8; ROOM], n: usize) -> usize
     ensures { Puts out.old n (map lower word.now) out.new result }
 {
     let mut m = n;
-    let mut i = 0;
-    while i < word.len() {
-        m = put(out, m, lower_case(word[i]));
-        i += 1;
+    for b in word {
+        m = put(out, m, lower_case(*b));
     }
     m
 }

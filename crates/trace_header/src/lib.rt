@@ -9,7 +9,6 @@ mod names;
 
 use base_codes::{limit, statement};
 use base_ir::Names;
-use front_accept::Acceptance;
 
 // Bytes that a line has room for: `cycle wait lines`, a space and a name for each output, the end, and some to spare.
 pub const ROOM: usize = 560;
@@ -49,10 +48,8 @@ pub fn header(text: &[u8]) -> Line
     let mut ops = [0u8; limit::TEXT];
     let mut args = [0i32; limit::TEXT];
     let mut lines = [0u16; statement::ROWS];
-    let front = front_accept::accept(text, &mut ops, &mut args, &mut lines);
-    let answer = front.answer;
-    match answer {
-        Acceptance::Accepted => named_line(text, front.declared.outputs),
-        Acceptance::Refused(_) => blank(),
+    match front_accept::accept(text, &mut ops, &mut args, &mut lines) {
+        Ok(declared) => named_line(text, declared.outputs),
+        Err(_) => blank(),
     }
 }

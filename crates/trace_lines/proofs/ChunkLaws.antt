@@ -8,11 +8,9 @@ use lib.Dec.{leb, ltb}
 use lib.ListN.{length, drop, length-take, length-drop}
 use lib.Seq.{sets}
 use borrow.Author.Tests.{le-leb, lt-leb, lt-ltb, le-ltb, leb-true, ltb-true}
-use Rattle.base_answers.specs.Answers.{number_of, place_of, Told, done, refused_by, compile_told}
+use Rattle.base_answers.specs.Answers.{number_of, place_of, Told, done, refused_by, told}
 use Rattle.base_answers.specs.declared.State.{State}
 use Rattle.base_answers.specs.declared.Refusal.{Refusal}
-use Rattle.base_answers.specs.declared.Compiled.{Compiled}
-use Rattle.base_answers.specs.declared.Compiled.TheVariants.{Written, NotCompiled}
 use Rattle.spec_format.specs.State.{fresh_of}
 use Rattle.front_token.specs.Places.{part}
 use Rattle.spec_semantics.specs.Advances.{start_of}
@@ -22,8 +20,12 @@ use Rattle.trace_lines.specs.Printing.{refused_text}
 use Rattle.trace_lines.specs.Stored.{Puts}
 use Rattle.trace_lines.specs.Chunks.{row_shown, Shows, goes_on, first_of, row_at, passed, onward, next_of, begun_of}
 use Rattle.trace_lines.specs.declared.Progress.{Progress}
-use Rattle.trace_lines.specs.declared.Begun.{Begun}
-use Rattle.trace_lines.specs.declared.Begun.TheVariants.{Only, Image}
+use Rattle.std.specs.Prelude.{Result, Ok, Err}
+use Rattle.trace_lines.specs.declared.OnlyLine.{OnlyLine}
+
+-- an only line of so many bytes
+abbrev only : ℕ → Result ℕ OnlyLine
+only r = Err (record { size = r })
 
 -- whether there is a row
 module _ (l n a : ℕ) where
@@ -86,29 +88,29 @@ module _ (b rows : List ℕ) (p : Progress) (g : goes_on (length rows) p.number 
 
 -- the beginning
 module _ (n l : ℕ) (o : List ℕ) where
-  pub begin_only : (u : List ℕ) (r : ℕ) → 65536 < l → Puts o 0 (refused_text 14 0) u r → (Only r ≡ (begun_of (done n) l o).0) × (u ≡ (begun_of (done n) l o).1)
+  pub begin_only : (u : List ℕ) (r : ℕ) → 65536 < l → Puts o 0 (refused_text 14 0) u r → (only r ≡ (begun_of (done n) l o).0) × (u ≡ (begun_of (done n) l o).1)
   unfolding begun_of
   begin_only u r h p =
       let q = stored o (refused_text 14 0) u r p in
       let z : leb l 65536 ≡ false = lt-leb l 65536 h in
-      rw z (ap Only q.0, q.1)
+      rw z (ap only q.0, q.1)
 
-  pub begin_image : l ≤ 65536 → (Image n ≡ (begun_of (done n) l o).0) × (o ≡ (begun_of (done n) l o).1)
+  pub begin_image : l ≤ 65536 → (Ok n ≡ (begun_of (done n) l o).0) × (o ≡ (begun_of (done n) l o).1)
   unfolding begun_of
   begin_image h = let z : leb l 65536 ≡ true = le-leb l 65536 h in rw z (refl, refl)
 
-module _ (x : Compiled) (y : Told ℕ) (l : ℕ) (o i f : List ℕ) (e : compile_told x ≡ y) (d : i ≡ f) where
-  pub start_written : (n : ℕ) (r : Begun) (u : List ℕ) → x ≡ Written n → (r ≡ (begun_of (done n) l o).0) × (u ≡ (begun_of (done n) l o).1)
+module _ (x : Result ℕ Refusal) (y : Told ℕ) (l : ℕ) (o i f : List ℕ) (e : told x ≡ y) (d : i ≡ f) where
+  pub start_written : (n : ℕ) (r : Result ℕ OnlyLine) (u : List ℕ) → x ≡ Ok n → (r ≡ (begun_of (done n) l o).0) × (u ≡ (begun_of (done n) l o).1)
       → (r ≡ (begun_of y l o).0) × (u ≡ (begun_of y l o).1) × (i ≡ f)
   start_written n r u h p =
-      let z : done n ≡ y = sym (ap compile_told h) ∙ e in
+      let z : done n ≡ y = sym (ap told h) ∙ e in
       (p.0 ∙ ap (λ (c : Told ℕ). (begun_of c l o).0) z, p.1 ∙ ap (λ (c : Told ℕ). (begun_of c l o).1) z, d)
 
-  pub start_refused : (k : Refusal) (q m : ℕ) (u : List ℕ) (r : ℕ) → x ≡ NotCompiled k → q ≡ number_of k → m ≡ place_of k → Puts o 0 (refused_text q m) u r
-      → (Only r ≡ (begun_of y l o).0) × (u ≡ (begun_of y l o).1) × (i ≡ f)
+  pub start_refused : (k : Refusal) (q m : ℕ) (u : List ℕ) (r : ℕ) → x ≡ Err k → q ≡ number_of k → m ≡ place_of k → Puts o 0 (refused_text q m) u r
+      → (only r ≡ (begun_of y l o).0) × (u ≡ (begun_of y l o).1) × (i ≡ f)
   unfolding begun_of
   start_refused k q m u r h a b p =
-      let z : refused_by k ≡ y = sym (ap compile_told h) ∙ e in
+      let z : refused_by k ≡ y = sym (ap told h) ∙ e in
       let w : Puts o 0 (refused_text (number_of k) (place_of k)) u r = rw (a, b) at p in
       let t = stored o (refused_text (number_of k) (place_of k)) u r w in
-      (ap Only t.0 ∙ ap (λ (c : Told ℕ). (begun_of c l o).0) z, t.1 ∙ ap (λ (c : Told ℕ). (begun_of c l o).1) z, d)
+      (ap only t.0 ∙ ap (λ (c : Told ℕ). (begun_of c l o).0) z, t.1 ∙ ap (λ (c : Told ℕ). (begun_of c l o).1) z, d)

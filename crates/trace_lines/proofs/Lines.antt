@@ -1,7 +1,7 @@
 -- What the calls of `fill` put, one behind another, is what is pending: each puts at least one line where something is pending. Assumes nothing.
 use mathlib.Core.Path.{◌≡◌, refl, sym, ◌∙◌, ap}
 use mathlib.Core.Bool.{Bool, true, false}
-use mathlib.Core.Option.{Option, none, some}
+use Rattle.std.specs.Prelude.{Option, None, Some}
 use mathlib.Core.List.{List, [], ◌∷◌, ◌++◌, append_assoc}
 use Prim.Native.Nat.{ℕ, zero, suc, ◌-◌, ◌≤◌, ◌<◌}
 use native.Mathlib.Omega.{arith}
@@ -57,8 +57,8 @@ shown_some n (done l) place row = performed_some n place l row
 shown_some n (refusal q k) place row = refused_some n q
 
 line_some : (b : List ℕ) (s : State) (n : ℕ) (v : Option (List ℤ)) → 1 ≤ length (row_shown b s n v).0
-line_some b s n none = refused_some n 14
-line_some b s n (some v) =
+line_some b s n None = refused_some n 14
+line_some b s n (Some v) =
     let c = cycle_of b s v (replicate (room b) (pos 0)) in shown_some n (cycle_answer c.answer) c.state.place c.row
 
 -- what a fill puts, x, from where the trace stands at p: with what is pending behind it that is what was pending before it; the trace only goes forward

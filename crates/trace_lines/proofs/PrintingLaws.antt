@@ -6,14 +6,12 @@ use Prim.Native.Nat.{ℕ, zero, suc, ◌+◌, ◌-◌, ◌/◌, ◌%◌, ◌≤�
 use native.Mathlib.Omega.{arith}
 use native.Mathlib.Nat.{div-lt_iff_lt-mul}
 use native.Mathlib.Numerals.{add-one}
-use lib.IntN.{ℤ, pos, negsuc}
+use lib.IntN.{ℤ, pos, negsuc, nat_abs}
+use lib.Signed.{lt_z}
 use lib.Dec.{leb}
 use lib.ListN.{length, get_or, set, take, drop, drop_of_length-le, length-append}
 use lib.Seq.{sets, set_out, length-sets, take-suc, take_all, drop-cons}
-use borrow.Author.Tests.{lt-ltb, le-ltb, leb-true, leb-false}
-use mir.Syntax.{w32}
-use mir.Val.{SFits}
-use Rattle.spec_semantics.specs.Twos.{unsigned32}
+use borrow.Author.Tests.{lt-ltb, le-ltb, ltb-true, leb-true, leb-false}
 use Rattle.spec_language.specs.Bytes.{bytes}
 use Rattle.spec_design.specs.Spelling.{decimal_by, decimal}
 use Rattle.trace_lines.specs.Printing.{integer, integers, performed_line, refused_line, refused_text}
@@ -61,9 +59,6 @@ pub text_again : (o : List ℕ) (a : ℕ) (t : List ℕ) (i : ℕ) (u : List ℕ
     → Puts u r (get_or t i 0 ∷ []) w s → Puts o a (take (i + 1) t) w s
 text_again o a t i u r w s h p q = rw (add-one i, take-suc t i 0 h) (puts_then o a (take i t) u r (get_or t i 0 ∷ []) w s p q)
 
-pub text_end : (o : List ℕ) (a : ℕ) (t : List ℕ) (i : ℕ) (u : List ℕ) (r : ℕ) → length t ≤ i → Puts o a (take i t) u r → Puts o a t u r
-text_end o a t i u r h p = rw (take_all i t h) at p
-
 -- digits
 module _ (o : List ℕ) (a n : ℕ) (b : ℕ) (w : List ℕ) (s : ℕ) where
   pub digits_few : (f : ℕ) → n < 10 → b ≡ 48 + n → Puts o a (b ∷ []) w s → Puts o a (decimal_by f n) w s
@@ -85,15 +80,13 @@ unfolding tens
 digits_enough n h = omega arith
 
 -- integers
-pub integer_up : (z : ℤ) (n : ℕ) → SFits w32 z → n ≡ unsigned32 z → n < 2147483648 → integer z ≡ decimal n
-integer_up (pos m) n f e h = ap decimal (sym e)
-integer_up (negsuc m) n f e h = absurd (omega (arith, f.sfits))
+integer_above : (z : ℤ) → lt_z z (pos 0) ≡ false → integer z ≡ decimal (nat_abs z)
+integer_above (pos m) h = refl
+integer_above (negsuc m) h = absurd (let y : ◌≡◌ {A = ℕ} 0 1 = cc in omega arith)
 
-pub integer_down : (z : ℤ) (n : ℕ) → SFits w32 z → n ≡ unsigned32 z → 2147483648 ≤ n → integer z ≡ 45 ∷ decimal (4294967296 - n)
-integer_down (pos m) n f e h = absurd (omega (arith, f.sfits))
-integer_down (negsuc m) n f e h =
-    let z : suc m ≡ 4294967296 - n = omega (arith, f.sfits) in
-    ap (λ (k : ℕ). 45 ∷ decimal k) z
+integer_below : (z : ℤ) → lt_z z (pos 0) ≡ true → integer z ≡ 45 ∷ decimal (nat_abs z)
+integer_below (pos m) h = absurd (let y : m < 0 = ltb-true m 0 h in omega arith)
+integer_below (negsuc m) h = refl
 
 -- what holds whenever the loop over values is at index i
 pub record Printed (o : List ℕ) (a : ℕ) (values : List ℤ) (u : List ℕ) (r i : ℕ) : Type 0 where
@@ -129,14 +122,13 @@ module _ (o : List ℕ) (a : ℕ) (values : List ℤ) (u : List ℕ) (r i : ℕ)
       ∙ (ap (λ (l : List ℤ). g.text ++ integers l) (sym (drop_of_length-le values h)) ∙ g.rest) in
       rw e at g.puts
 
-module _ (o : List ℕ) (a : ℕ) (z : ℤ) (n : ℕ) (f : SFits w32 z) (e : n ≡ unsigned32 z) where
-  pub puts_up : (u : List ℕ) (r : ℕ) → n < 2147483648 → Puts o a (decimal n) u r → Puts o a (integer z) u r
-  puts_up u r h p = subst (λ (x : List ℕ). Puts o a x u r) (sym (integer_up z n f e h)) p
+module _ (o : List ℕ) (a : ℕ) (z : ℤ) (n : ℕ) (e : n ≡ nat_abs z) where
+  pub puts_up : (u : List ℕ) (r : ℕ) → lt_z z (pos 0) ≡ false → Puts o a (decimal n) u r → Puts o a (integer z) u r
+  puts_up u r h p = rw (integer_above z h, ← e) p
 
-  pub puts_down : (u : List ℕ) (r : ℕ) (w : List ℕ) (s : ℕ) → 2147483648 ≤ n → Puts o a (45 ∷ []) u r → Puts u r (decimal (4294967296 - n)) w s
+  pub puts_down : (u : List ℕ) (r : ℕ) (w : List ℕ) (s : ℕ) → lt_z z (pos 0) ≡ true → Puts o a (45 ∷ []) u r → Puts u r (decimal n) w s
       → Puts o a (integer z) w s
-  puts_down u r w s h p q =
-      subst (λ (x : List ℕ). Puts o a x w s) (sym (integer_down z n f e h)) (puts_then o a (45 ∷ []) u r (decimal (4294967296 - n)) w s p q)
+  puts_down u r w s h p q = rw (integer_below z h, ← e) (puts_then o a (45 ∷ []) u r (decimal n) w s p q)
 
 -- whole lines
 pub performed_puts : (o : List ℕ) (n place lines : ℕ) (v : List ℤ) (o1 : List ℕ) (r1 : ℕ) (o2 : List ℕ) (r2 : ℕ) (o3 : List ℕ) (r3 : ℕ) (o4 : List ℕ) (r4 : ℕ)

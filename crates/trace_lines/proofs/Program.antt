@@ -2,7 +2,7 @@
 -- a fill puts for the image that a compile wrote stands in the buffer whole. Assumes nothing.
 use mathlib.Core.Path.{◌≡◌, refl, sym, ◌∙◌, ap, subst}
 use mathlib.Core.Bool.{Bool, true, false, cond}
-use mathlib.Core.Option.{Option, none, some}
+use Rattle.std.specs.Prelude.{Option, None, Some}
 use mathlib.Core.List.{List, ◌++◌}
 use Prim.Native.Nat.{ℕ, ◌≤◌}
 use native.Mathlib.Omega.{arith}
@@ -49,7 +49,7 @@ accepted_prints text rows b free p v h r = rw e (go (leb (length rows) 65536) re
     e = written_whole text b p v h
 
     go : (q : Bool) → leb (length rows) 65536 ≡ q
-        → printed_by (cond q none (some (refused_text 14 0))) (header_for (verdict text))
+        → printed_by (cond q None (Some (refused_text 14 0))) (header_for (verdict text))
         (take (length (encode p)) (compile_of text b).buffer) rows free ≡ trace_of text rows
     go true k =
         let l = leb-true (length rows) 65536 k in

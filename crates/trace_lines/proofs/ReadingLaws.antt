@@ -1,7 +1,7 @@
 -- Decimals, one byte more; the integers of their numbers; the parts of a line, one part more. Assumes nothing.
 use mathlib.Core.Path.{◌≡◌, refl, sym, ◌∙◌, ap}
 use mathlib.Core.Bool.{Bool, true, false, cond}
-use mathlib.Core.Option.{Option, none, some}
+use Rattle.std.specs.Prelude.{Option, None, Some}
 use mathlib.Core.List.{List, [], ◌∷◌}
 use Prim.Native.Nat.{ℕ, zero, suc, ◌+◌, ◌*◌, ◌-◌, min, ◌≤◌, ◌<◌}
 use native.Mathlib.Omega.{arith}
@@ -14,9 +14,7 @@ use borrow.Author.Tests.{lt-ltb, le-ltb, le-leb, lt-leb, leb-true, leb-false, eq
 use Rattle.spec_semantics.specs.Twos.{signed32}
 use Rattle.spec_language.specs.Bytes.{between}
 use Rattle.trace_lines.specs.Rows.{digits, magnitude, upward, downward, decimal_of}
-use Rattle.trace_lines.specs.Reading.{other, or_above, read_as}
-use Rattle.trace_lines.specs.declared.rows.Decimal.{Decimal}
-use Rattle.trace_lines.specs.declared.rows.Decimal.TheVariants.{Value, Unreadable}
+use Rattle.trace_lines.specs.Reading.{other, cut}
 
 pub other_not : (c b : ℕ) → (b ≡ c → ⊥) → other c b ≡ true
 unfolding other
@@ -31,68 +29,50 @@ cut_more : (a b d : ℕ) → min a 2147483649 ≡ min b 2147483649 → min (a * 
 cut_more a b d e = omega arith
 
 -- whether the number so far is cut or not, the number of all digits is cut to the same
-cut_same : (l : List ℕ) (a b : ℕ) → min a 2147483649 ≡ min b 2147483649 → or_above (digits a l) ≡ or_above (digits b l)
+cut_same : (l : List ℕ) (a b : ℕ) → min a 2147483649 ≡ min b 2147483649 → cut (digits a l) ≡ cut (digits b l)
 unfolding digits
-cut_same [] a b e = e
+cut_same [] a b e = ap Some e
 cut_same (c ∷ l) a b e = go (between 48 57 c) (cut_same l (a * 10 + (c - 48)) (b * 10 + (c - 48)) (cut_more a b (c - 48) e))
   where
-    go : (q : Bool) → or_above (digits (a * 10 + (c - 48)) l) ≡ or_above (digits (b * 10 + (c - 48)) l)
-        → or_above (cond q (digits (a * 10 + (c - 48)) l) none) ≡ or_above (cond q (digits (b * 10 + (c - 48)) l) none)
+    go : (q : Bool) → cut (digits (a * 10 + (c - 48)) l) ≡ cut (digits (b * 10 + (c - 48)) l)
+        → cut (cond q (digits (a * 10 + (c - 48)) l) None) ≡ cut (cond q (digits (b * 10 + (c - 48)) l) None)
     go true h = h
     go false h = refl
 
+-- the number of the digits
+pub number_none : (w : List ℕ) → length w ≡ 0 → None ≡ cut (magnitude w)
+unfolding magnitude
+number_none [] h = refl
+number_none (b ∷ w) h = absurd (omega arith)
+
+pub number_first : (w : List ℕ) → (length w ≡ 0 → ⊥) → cut (digits 0 (drop 0 w)) ≡ cut (magnitude w)
+unfolding magnitude
+number_first [] h = absurd (h refl)
+number_first (b ∷ w) h = refl
+
 -- the number of the digits from an index on
 module _ (w : List ℕ) (i v : ℕ) where
-  pub number_none : length w ≤ i → 2147483649 ≡ or_above (magnitude (drop i w))
-  unfolding magnitude
-  number_none h = rw (drop_of_length-le w h)
-
-  pub number_first : i < length w → or_above (digits 0 (drop i w)) ≡ or_above (magnitude (drop i w))
-  unfolding magnitude
-  number_first h = rw (drop-cons w i 0 h)
-
-  pub number_stop : i < length w → between 48 57 (get_or w i 0) ≡ false → 2147483649 ≡ or_above (digits v (drop i w))
+  pub number_stop : i < length w → between 48 57 (get_or w i 0) ≡ false → None ≡ cut (digits v (drop i w))
   unfolding digits
   number_stop h e = rw (drop-cons w i 0 h, e)
 
   pub number_again : (r : ℕ) → i < length w → between 48 57 (get_or w i 0) ≡ true → r ≡ min (v * 10 + (get_or w i 0 - 48)) 2147483649
-      → or_above (digits r (drop (i + 1) w)) ≡ or_above (digits v (drop i w))
+      → cut (digits r (drop (i + 1) w)) ≡ cut (digits v (drop i w))
   unfolding digits
   number_again r h e q =
       let z : min r 2147483649 ≡ min (v * 10 + (get_or w i 0 - 48)) 2147483649 = omega arith in
       rw (drop-cons w i 0 h, add-one i, e) (cut_same (drop (suc i) w) r (v * 10 + (get_or w i 0 - 48)) z)
 
-  pub number_end : length w ≤ i → v ≤ 2147483649 → v ≡ or_above (digits v (drop i w))
+  pub number_end : length w ≤ i → v ≤ 2147483649 → Some v ≡ cut (digits v (drop i w))
   unfolding digits
-  number_end h l = rw (drop_of_length-le w h) (omega arith)
-
--- the integers of a number
-pub up_none : (m : ℕ) → 2147483647 < m → Unreadable ≡ read_as (cond (leb m 2147483647) (some (pos m)) none)
-up_none m h = rw (lt-leb m 2147483647 h)
-
-pub up_value : (m : ℕ) (z : ℤ) → m ≤ 2147483647 → z ≡ signed32 m → Value z ≡ read_as (cond (leb m 2147483647) (some (pos m)) none)
-up_value m z h e = rw (le-leb m 2147483647 h, e, lt-ltb m 2147483648 (omega arith))
-
-pub down_none : (m : ℕ) → 2147483648 < m → Unreadable ≡ read_as (cond (leb m 2147483648) (some (neg_ℤ (pos m))) none)
-down_none m h = rw (lt-leb m 2147483648 h)
-
-pub down_zero : (m : ℕ) (z : ℤ) → m ≡ 0 → z ≡ signed32 0 → Value z ≡ read_as (cond (leb m 2147483648) (some (neg_ℤ (pos m))) none)
-down_zero m z h e = rw (h, e)
-
-pub down_value : (m : ℕ) (z : ℤ) → m ≤ 2147483648 → (m ≡ 0 → ⊥) → z ≡ signed32 (4294967296 - m)
-    → Value z ≡ read_as (cond (leb m 2147483648) (some (neg_ℤ (pos m))) none)
-down_value zero z h n e = absurd (n refl)
-down_value (suc k) z h n e =
-    let d : 4294967295 - (4294967296 - suc k) ≡ k = omega arith in
-    rw (le-leb (suc k) 2147483648 h, e, le-ltb (4294967296 - suc k) 2147483648 (omega arith), d)
+  number_end h l = let z : min v 2147483649 ≡ v = omega arith in rw (drop_of_length-le w h) (ap Some (sym z))
 
 -- a number outside integer is no integer, as where there is no number
-pub up_all : (x : Option ℕ) → read_as (cond (leb (or_above x) 2147483647) (some (pos (or_above x))) none) ≡ read_as (upward x)
-up_all none = refl
-up_all (some m) = go (leb m 2147483647) refl
+pub up_all : (x : Option ℕ) → upward (cut x) ≡ upward x
+up_all None = refl
+up_all (Some m) = go (leb m 2147483647) refl
   where
-    go : (q : Bool) → leb m 2147483647 ≡ q
-        → read_as (cond (leb (min m 2147483649) 2147483647) (some (pos (min m 2147483649))) none) ≡ read_as (cond q (some (pos m)) none)
+    go : (q : Bool) → leb m 2147483647 ≡ q → cond (leb (min m 2147483649) 2147483647) (Some (pos (min m 2147483649))) None ≡ cond q (Some (pos m)) None
     go true e =
         let l = leb-true m 2147483647 e in
         let z : min m 2147483649 ≡ m = omega arith in
@@ -101,12 +81,12 @@ up_all (some m) = go (leb m 2147483647) refl
         let l = leb-false m 2147483647 e in
         rw (lt-leb (min m 2147483649) 2147483647 (omega arith))
 
-pub down_all : (x : Option ℕ) → read_as (cond (leb (or_above x) 2147483648) (some (neg_ℤ (pos (or_above x)))) none) ≡ read_as (downward x)
-down_all none = refl
-down_all (some m) = go (leb m 2147483648) refl
+pub down_all : (x : Option ℕ) → downward (cut x) ≡ downward x
+down_all None = refl
+down_all (Some m) = go (leb m 2147483648) refl
   where
     go : (q : Bool) → leb m 2147483648 ≡ q
-        → read_as (cond (leb (min m 2147483649) 2147483648) (some (neg_ℤ (pos (min m 2147483649)))) none) ≡ read_as (cond q (some (neg_ℤ (pos m))) none)
+        → cond (leb (min m 2147483649) 2147483648) (Some (neg_ℤ (pos (min m 2147483649)))) None ≡ cond q (Some (neg_ℤ (pos m))) None
     go true e =
         let l = leb-true m 2147483648 e in
         let z : min m 2147483649 ≡ m = omega arith in
@@ -115,26 +95,21 @@ down_all (some m) = go (leb m 2147483648) refl
         let l = leb-false m 2147483648 e in
         rw (lt-leb (min m 2147483649) 2147483648 (omega arith))
 
--- the integer of a decimal
-pub decimal_empty : (w : List ℕ) → length w ≡ 0 → Unreadable ≡ read_as (decimal_of w)
+-- the integer of a decimal, after `-` or not
+pub read_down : (w d : List ℕ) → w ≡ 45 ∷ d → downward (cut (magnitude d)) ≡ decimal_of w
 unfolding decimal_of
-decimal_empty [] h = refl
-decimal_empty (b ∷ w) h = absurd (omega arith)
+read_down w d e = rw e (down_all (magnitude d))
 
-pub decimal_down : (w : List ℕ) → (length w ≡ 0 → ⊥) → get_or w 0 0 ≡ 45 → decimal_of w ≡ downward (magnitude (drop 1 w))
-unfolding decimal_of
-decimal_down [] h e = absurd (h refl)
-decimal_down (b ∷ w) h e = rw (eq-eqb b 45 e)
+pub read_up : (w : List ℕ) → ((d : List ℕ) → w ≡ 45 ∷ d → ⊥) → upward (cut (magnitude w)) ≡ decimal_of w
+unfolding decimal_of magnitude
+read_up [] h = refl
+read_up (b ∷ w) h =
+    let n : b ≡ 45 → ⊥ = λ e. h w (ap (λ (k : ℕ). k ∷ w) e) in
+    rw (ne_eqb b 45 n) (up_all (digits 0 (b ∷ w)))
 
-pub decimal_up : (w : List ℕ) → (length w ≡ 0 → ⊥) → (get_or w 0 0 ≡ 45 → ⊥) → decimal_of w ≡ upward (magnitude (drop 0 w))
-unfolding decimal_of
-decimal_up [] h e = absurd (h refl)
-decimal_up (b ∷ w) h e = rw (ne_eqb b 45 e)
+pub read_as_down : (w d : List ℕ) (n x : Option ℕ) (r : Option ℤ) → w ≡ 45 ∷ d → n ≡ cut (magnitude d) → n ≡ x → r ≡ downward x → r ≡ decimal_of w
+read_as_down w d n x r e h k q = q ∙ (ap downward (sym k ∙ h) ∙ read_down w d e)
 
-pub read_down : (w : List ℕ) (m : ℕ) (r : Decimal) → (length w ≡ 0 → ⊥) → get_or w 0 0 ≡ 45 → m ≡ or_above (magnitude (drop 1 w))
-    → r ≡ read_as (cond (leb m 2147483648) (some (neg_ℤ (pos m))) none) → r ≡ read_as (decimal_of w)
-read_down w m r h e q d = d ∙ (rw q (down_all (magnitude (drop 1 w))) ∙ ap read_as (sym (decimal_down w h e)))
-
-pub read_up : (w : List ℕ) (m : ℕ) (r : Decimal) → (length w ≡ 0 → ⊥) → (get_or w 0 0 ≡ 45 → ⊥) → m ≡ or_above (magnitude (drop 0 w))
-    → r ≡ read_as (cond (leb m 2147483647) (some (pos m)) none) → r ≡ read_as (decimal_of w)
-read_up w m r h e q d = d ∙ (rw q (up_all (magnitude (drop 0 w))) ∙ ap read_as (sym (decimal_up w h e)))
+pub read_as_up : (w : List ℕ) (n x : Option ℕ) (r : Option ℤ) → ((d : List ℕ) → w ≡ 45 ∷ d → ⊥) → n ≡ cut (magnitude w) → n ≡ x → r ≡ upward x
+    → r ≡ decimal_of w
+read_as_up w n x r e h k q = q ∙ (ap upward (sym k ∙ h) ∙ read_up w e)

@@ -1,7 +1,7 @@
 -- The parts of a line and their decimals, one part more. Assumes nothing.
 use mathlib.Core.Path.{◌≡◌, refl, sym, ◌∙◌, ap, subst}
 use mathlib.Core.Bool.{Bool, true, false}
-use mathlib.Core.Option.{Option, none, some}
+use Rattle.std.specs.Prelude.{Option, None, Some}
 use mathlib.Core.List.{List, [], ◌∷◌, ◌++◌, append_assoc, append-nil}
 use Prim.Native.Nat.{ℕ, suc, ◌+◌, ◌-◌, ◌≤◌, ◌<◌, min}
 use native.Mathlib.Omega.{arith}
@@ -14,11 +14,7 @@ use Rattle.spec_language.specs.Lexer.{run}
 use Rattle.front_token.specs.Places.{part}
 use Rattle.trace_lines.proofs.Storing.{sets_one}
 use Rattle.trace_lines.specs.Rows.{longer, split, rows_in, parted, decimal_of, before, all, decimals}
-use Rattle.trace_lines.specs.Reading.{other, part_end, read_as, short, Reads, parts_from, after, joined, Reading}
-use Rattle.trace_lines.specs.declared.rows.Decimal.{Decimal}
-use Rattle.trace_lines.specs.declared.rows.Decimal.TheVariants as D
-use Rattle.trace_lines.specs.declared.rows.Row.{Row}
-use Rattle.trace_lines.specs.declared.rows.Row.TheVariants.{Values, Unreadable}
+use Rattle.trace_lines.specs.Reading.{other, part_end, short, Reads, parts_from, after, joined, Reading}
 
 -- the length of the first part
 abbrev pub first : ℕ → List ℕ → ℕ
@@ -151,50 +147,41 @@ module _ (s : List ℕ) (i : ℕ) (h : i ≤ length s) where
           let b : leb (i + first 32 (drop i s) + 1) (length s) ≡ false = lt-leb (i + first 32 (drop i s) + 1) (length s) (omega arith) in
           split_last 32 (drop i s) m ∙ rw (b, m) (ap (λ (k : List ℕ). k ∷ []) (sym (take-length (drop i s))))
 
--- a part's decimal
-pub decimal_known : (x : Option ℤ) (z : ℤ) → D.Value z ≡ read_as x → x ≡ some z
-decimal_known none z e = absurd (let y : ◌≡◌ {A = ℕ} 0 1 = cc in omega arith)
-decimal_known (some y) z e = cc
-
-pub decimal_unknown : (x : Option ℤ) → D.Unreadable ≡ read_as x → x ≡ none
-decimal_unknown none e = refl
-decimal_unknown (some y) e = absurd (let y : ◌≡◌ {A = ℕ} 0 1 = cc in omega arith)
-
 module _ (l : List ℤ) (w : List ℕ) (ws : List (List ℕ)) where
-  joined_none : decimal_of w ≡ none → joined l (w ∷ ws) ≡ none
+  joined_none : decimal_of w ≡ None → joined l (w ∷ ws) ≡ None
   unfolding all
   joined_none e = rw e
 
-  joined_some : (z : ℤ) → decimal_of w ≡ some z → joined l (w ∷ ws) ≡ joined (l ++ (z ∷ [])) ws
+  joined_some : (z : ℤ) → decimal_of w ≡ Some z → joined l (w ∷ ws) ≡ joined (l ++ (z ∷ [])) ws
   unfolding all
   joined_some z e = rw e (go (all ws))
     where
-      go : (r : Option (List ℤ)) → short (after l (before (some z) r)) ≡ short (after (l ++ (z ∷ [])) r)
-      go none = refl
-      go (some m) = ap (λ (k : List ℤ). short (some k)) (sym (append_assoc l (z ∷ []) m))
+      go : (r : Option (List ℤ)) → short (after l (before (Some z) r)) ≡ short (after (l ++ (z ∷ [])) r)
+      go None = refl
+      go (Some m) = ap (λ (k : List ℤ). short (Some k)) (sym (append_assoc l (z ∷ []) m))
 
-  joined_long : 16 ≤ length l → joined l (w ∷ ws) ≡ none
+  joined_long : 16 ≤ length l → joined l (w ∷ ws) ≡ None
   unfolding all
   joined_long h = go (decimal_of w) (all ws)
     where
-      go : (x : Option ℤ) (r : Option (List ℤ)) → short (after l (before x r)) ≡ none
-      go none r = refl
-      go (some z) none = refl
-      go (some z) (some m) = let y = length-append l (z ∷ m) in rw (lt-leb (length (l ++ (z ∷ m))) 16 (omega arith))
+      go : (x : Option ℤ) (r : Option (List ℤ)) → short (after l (before x r)) ≡ None
+      go None r = refl
+      go (Some z) None = refl
+      go (Some z) (Some m) = let y = length-append l (z ∷ m) in rw (lt-leb (length (l ++ (z ∷ m))) 16 (omega arith))
 
-joined_end : (l : List ℤ) → length l ≤ 16 → joined l [] ≡ some l
+joined_end : (l : List ℤ) → length l ≤ 16 → joined l [] ≡ Some l
 unfolding all
 joined_end l h = rw (append-nil l, le-leb (length l) 16 h)
 
 -- what the reading of a row answers
-module _ (x : Option (List ℤ)) (v : List ℤ) (r : Row) (w : List ℤ) where
-  pub reads_none : x ≡ none → r ≡ Unreadable → Reads x v r w
+module _ (x : Option (List ℤ)) (v : List ℤ) (r : Option ℕ) (w : List ℤ) where
+  pub reads_none : x ≡ None → r ≡ None → Reads x v r w
   reads_none e h = subst (λ (y : Option (List ℤ)). Reads y v r w) (sym e) (record { is = h })
 
-  pub reads_some : (l : List ℤ) → x ≡ some l → r ≡ Values (length l) → w ≡ sets v 0 l → Reads x v r w
+  pub reads_some : (l : List ℤ) → x ≡ Some l → r ≡ Some (length l) → w ≡ sets v 0 l → Reads x v r w
   reads_some l e h k = subst (λ (y : Option (List ℤ)). Reads y v r w) (sym e) (record { is = (h, k) })
 
-nil_decimals : decimals [] ≡ some []
+nil_decimals : decimals [] ≡ Some []
 unfolding decimals
 nil_decimals = refl
 
@@ -203,15 +190,15 @@ unfolding decimals
 cons_decimals b s = refl
 
 nothing_before : (r : Option (List ℤ)) → short r ≡ short (after [] r)
-nothing_before none = refl
-nothing_before (some m) = refl
+nothing_before None = refl
+nothing_before (Some m) = refl
 
 -- the loop over the parts of a line
 module _ (line : List ℕ) (v : List ℤ) where
-  pub row_empty : length line ≡ 0 → Reads (short (decimals line)) v (Values 0) v
-  row_empty h = reads_some (short (decimals line)) v (Values 0) v [] (go line h) refl refl
+  pub row_empty : length line ≡ 0 → Reads (short (decimals line)) v (Some 0) v
+  row_empty h = reads_some (short (decimals line)) v (Some 0) v [] (go line h) refl refl
     where
-      go : (s : List ℕ) → length s ≡ 0 → short (decimals s) ≡ some []
+      go : (s : List ℕ) → length s ≡ 0 → short (decimals s) ≡ Some []
       go [] e = ap short nil_decimals
       go (b ∷ s) e = absurd (omega arith)
 
@@ -225,24 +212,24 @@ module _ (line : List ℕ) (v : List ℤ) where
           ap short (cons_decimals b s) ∙ (nothing_before (all (parted (b ∷ s))) ∙ rw z)
 
   module _ (now : List ℤ) (n i : ℕ) (g : Reading line v now n i) where
-    pub row_long : i ≤ length line → 16 ≤ n → Reads (short (decimals line)) v Unreadable now
+    pub row_long : i ≤ length line → 16 ≤ n → Reads (short (decimals line)) v None now
     row_long h k =
         let z = g.count in
-        reads_none (short (decimals line)) v Unreadable now
+        reads_none (short (decimals line)) v None now
         (g.rest ∙ ap (joined g.read) (parts_step line i h)
         ∙ joined_long g.read (part line i (part_end 32 line i - i)) (parts_from line (part_end 32 line i + 1)) (omega arith)) refl
 
-    pub row_unreadable : (e : ℕ) (w : List ℕ) (x : Decimal) → i ≤ length line → e ≡ part_end 32 line i → w ≡ part line i (e - i) → x ≡ read_as (decimal_of w)
-        → x ≡ D.Unreadable → Reads (short (decimals line)) v Unreadable now
+    pub row_unreadable : (e : ℕ) (w : List ℕ) (x : Option ℤ) → i ≤ length line → e ≡ part_end 32 line i → w ≡ part line i (e - i) → x ≡ decimal_of w
+        → x ≡ None → Reads (short (decimals line)) v None now
     row_unreadable e w x h a b d u =
         let y : w ≡ part line i (part_end 32 line i - i) = b ∙ ap (λ (k : ℕ). part line i (k - i)) a in
-        reads_none (short (decimals line)) v Unreadable now
+        reads_none (short (decimals line)) v None now
         (g.rest ∙ ap (joined g.read) (parts_step line i h)
         ∙ joined_none g.read (part line i (part_end 32 line i - i)) (parts_from line (part_end 32 line i + 1))
-        (ap decimal_of (sym y) ∙ decimal_unknown (decimal_of w) (sym u ∙ d))) refl
+        (ap decimal_of (sym y) ∙ (sym d ∙ u))) refl
 
-    pub row_again : (e : ℕ) (w : List ℕ) (x : Decimal) (z y : ℤ) (after : List ℤ) → i ≤ length line → n < 16 → e ≡ part_end 32 line i → w ≡ part line i (e - i)
-        → x ≡ read_as (decimal_of w) → x ≡ D.Value z → after ≡ set now n y → y ≡ z → Reading line v after (n + 1) (e + 1)
+    pub row_again : (e : ℕ) (w : List ℕ) (x : Option ℤ) (z y : ℤ) (after : List ℤ) → i ≤ length line → n < 16 → e ≡ part_end 32 line i → w ≡ part line i (e - i)
+        → x ≡ decimal_of w → x ≡ Some z → after ≡ set now n y → y ≡ z → Reading line v after (n + 1) (e + 1)
     row_again e w x z o after h k a b d u s f =
         let y : w ≡ part line i (part_end 32 line i - i) = b ∙ ap (λ (k : ℕ). part line i (k - i)) a in
         let m = part_inside line i h in
@@ -257,17 +244,17 @@ module _ (line : List ℕ) (v : List ℤ) where
           rest =
               g.rest ∙ ap (joined g.read) (parts_step line i h)
               ∙ joined_some g.read (part line i (part_end 32 line i - i)) (parts_from line (part_end 32 line i + 1)) z
-              (ap decimal_of (sym y) ∙ decimal_known (decimal_of w) z (sym u ∙ d))
+              (ap decimal_of (sym y) ∙ (sym d ∙ u))
               ∙ ap (λ (k : ℕ). joined (g.read ++ (z ∷ [])) (parts_from line (k + 1))) (sym a);
         }
 
     pub end_inside : (e : ℕ) → i ≤ length line → e ≡ part_end 32 line i → (i ≤ e) × (e ≤ length line)
     end_inside e h a = let m = part_inside line i h in (omega arith, omega arith)
 
-    pub row_end : length line < i → Reads (short (decimals line)) v (Values n) now
+    pub row_end : length line < i → Reads (short (decimals line)) v (Some n) now
     row_end h =
         let q = g.count in
         let b : leb i (length line) ≡ false = lt-leb i (length line) h in
         let e : parts_from line i ≡ [] = rw b in
-        reads_some (short (decimals line)) v (Values n) now g.read (g.rest ∙ ap (joined g.read) e ∙ joined_end g.read (omega arith))
-        (ap Values g.count) g.stored
+        reads_some (short (decimals line)) v (Some n) now g.read (g.rest ∙ ap (joined g.read) e ∙ joined_end g.read (omega arith))
+        (ap Some g.count) g.stored

@@ -1,7 +1,7 @@
 -- A line of the trace has at most 512 bytes, so that the program's buffer holds every line whole. Assumes nothing.
 use mathlib.Core.Path.{◌≡◌, refl}
 use mathlib.Core.Bool.{Bool, true, false, cond}
-use mathlib.Core.Option.{Option, none, some}
+use Rattle.std.specs.Prelude.{Option, None, Some}
 use mathlib.Core.List.{List, [], ◌∷◌, ◌++◌}
 use Prim.Native.Nat.{ℕ, zero, suc, ◌+◌, ◌*◌, ◌/◌, ◌%◌, ◌≤◌}
 use native.Mathlib.Omega.{arith}
@@ -92,8 +92,8 @@ unfolding next_of
 next_short b rows h p = go (goes_on (length rows) p.number p.at)
   where
     row : (v : Option (List ℤ)) → length (row_shown b p.state p.number v).0 ≤ 512
-    row none = refused_short p.number 14
-    row (some v) =
+    row None = refused_short p.number 14
+    row (Some v) =
         shown_short p.number (cycle_of b p.state v (replicate (room b) (pos 0))) (λ way e.
         let l = row_long b h p.state v (replicate (room b) (pos 0)) in
         let m = length-replicate (room b) (pos 0) in

@@ -2,7 +2,7 @@
 -- the equations. Assumes nothing.
 use mathlib.Core.Path.{◌≡◌, refl, sym, ◌∙◌, ap}
 use mathlib.Core.Bool.{Bool, true, false, cond}
-use mathlib.Core.Option.{Option, none, some}
+use Rattle.std.specs.Prelude.{Option, None, Some}
 use mathlib.Core.List.{List, [], ◌∷◌, ◌++◌}
 use Prim.Native.Nat.{ℕ, suc, ◌≤◌, ◌<◌}
 use native.Mathlib.Omega.{arith}
@@ -38,21 +38,21 @@ use Rattle.trace_lines.specs.Chunks.{shown, room, first_of, shorts, image_lines,
 -- the calls of rows, with an output row of m zeros; an unreadable row makes no call
 unfoldable calls_for : ℕ → List (Option (List ℤ)) → List Call
 calls_for m [] = []
-calls_for m (none ∷ vs) = calls_for m vs
-calls_for m (some v ∷ vs) = record { inputs = v; outputs = replicate m (pos 0) } ∷ calls_for m vs
+calls_for m (None ∷ vs) = calls_for m vs
+calls_for m (Some v ∷ vs) = record { inputs = v; outputs = replicate m (pos 0) } ∷ calls_for m vs
 
 -- the lines of rows, from what their calls left
 unfoldable printed : ℕ → List (Option (List ℤ)) → List Called → List ℕ
 printed n [] cs = []
-printed n (none ∷ vs) cs = refused_line n 14 ++ printed (suc n) vs cs
-printed n (some v ∷ vs) [] = []
-printed n (some v ∷ vs) (c ∷ cs) = shown n c ++ printed (suc n) vs cs
+printed n (None ∷ vs) cs = refused_line n 14 ++ printed (suc n) vs cs
+printed n (Some v ∷ vs) [] = []
+printed n (Some v ∷ vs) (c ∷ cs) = shown n c ++ printed (suc n) vs cs
 
 by_image : (b : List ℕ) (vs : List (Option (List ℤ))) (s : State) (n : ℕ) → image_lines b s n vs ≡ printed n vs (calls_of b s (calls_for (room b) vs))
 unfolding image_lines printed calls_of calls_for
 by_image b [] s n = refl
-by_image b (none ∷ vs) s n = ap (λ (l : List ℕ). refused_line n 14 ++ l) (by_image b vs s (suc n))
-by_image b (some v ∷ vs) s n =
+by_image b (None ∷ vs) s n = ap (λ (l : List ℕ). refused_line n 14 ++ l) (by_image b vs s (suc n))
+by_image b (Some v ∷ vs) s n =
     ap (λ (l : List ℕ). shown n (cycle_of b s v (replicate (room b) (pos 0))) ++ l) (by_image b vs (cycle_of b s v (replicate (room b) (pos 0))).state (suc n))
 
 -- a call of the equations, shown
@@ -70,8 +70,8 @@ by_equations : (p : Process) (m : ℕ) → m ≡ length p.outputs → (vs : List
     → rows_traced p k n vs ≡ printed n vs (equation_calls p k (calls_for m vs))
 unfolding rows_traced printed equation_calls calls_for
 by_equations p m e [] k n = refl
-by_equations p m e (none ∷ vs) k n = ap (λ (l : List ℕ). refused_line n 14 ++ l) (by_equations p m e vs k (suc n))
-by_equations p m e (some v ∷ vs) k n =
+by_equations p m e (None ∷ vs) k n = ap (λ (l : List ℕ). refused_line n 14 ++ l) (by_equations p m e vs k (suc n))
+by_equations p m e (Some v ∷ vs) k n =
     rw (fed_row m v, sym e)
     (ap (λ (l : List ℕ). line_for n (row p k (record { inputs = v; room = m })) ++ l)
     (by_equations p m e vs (row p k (record { inputs = v; room = m })).1 (suc n))
@@ -85,13 +85,13 @@ other_length p k l e = rw e
 
 -- a row of more than 16 values is refused by 14
 long_row : (p : Process) → length p.inputs ≤ 16 → (k : Kept) (n : ℕ) (v : Option (List ℤ)) → row_traced p k n (short v) ≡ row_traced p k n v
-long_row p h k n none = refl
-long_row p h k n (some l) = go (leb (length l) 16) refl
+long_row p h k n None = refl
+long_row p h k n (Some l) = go (leb (length l) 16) refl
   where
     far : 16 < length l → row p k (record { inputs = l; room = length p.outputs }) ≡ (row_refused 0, k)
     far z = other_length p k l (ne_eqb (length l) (length p.inputs) (λ e. omega arith))
 
-    go : (q : Bool) → leb (length l) 16 ≡ q → row_traced p k n (cond q (some l) none) ≡ row_traced p k n (some l)
+    go : (q : Bool) → leb (length l) 16 ≡ q → row_traced p k n (cond q (Some l) None) ≡ row_traced p k n (Some l)
     go true q = refl
     go false q =
         sym (ap (λ (r : Outcome × Kept). (line_for n r, r.1)) (far (leb-false (length l) 16 q)))

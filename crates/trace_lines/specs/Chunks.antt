@@ -1,7 +1,6 @@
 -- The trace in chunks, by an image: the line of each row, and where the trace stands after it. The theorems of proofs/Whole.antt tie it to `trace_of`.
 -- Assumes nothing.
-use Rattle.std.specs.Prelude.{◌≡◌, Bool, true, false, cond, ◌&&◌, List, [], ◌∷◌, ◌++◌, ℕ, zero, suc, ◌+◌, ◌-◌, min, length, get_or, drop, replicate, ℤ, pos, leb, ltb}
-use Rattle.std.proofs.Math.Option.{Option, none, some}
+use Rattle.std.specs.Prelude.{Option, None, Some, Result, Ok, Err, ◌≡◌, Bool, true, false, cond, ◌&&◌, List, [], ◌∷◌, ◌++◌, ℕ, zero, suc, ◌+◌, ◌-◌, min, length, get_or, drop, replicate, ℤ, pos, leb, ltb}
 use Rattle.std.proofs.lemmas.List.Edits.{sets}
 use Rattle.base_codes.specs.Limit as L
 use Rattle.base_codes.specs.Image as M
@@ -22,8 +21,7 @@ use Rattle.trace_lines.specs.Printing.{performed_line, refused_line, refused_tex
 use Rattle.trace_lines.specs.Trace.{row_values}
 use Rattle.trace_lines.specs.declared.Progress.{Progress}
 use Rattle.trace_lines.specs.declared.Filled.{Filled}
-use Rattle.trace_lines.specs.declared.Begun.{Begun}
-use Rattle.trace_lines.specs.declared.Begun.TheVariants.{Only, Image}
+use Rattle.trace_lines.specs.declared.OnlyLine.{OnlyLine}
 use Rattle.trace_lines.specs.Stored.{Puts}
 
 -- the opener accepts the image b, and its sections stand at these places
@@ -45,8 +43,8 @@ room b = min (get_or b M.OUTPUT_COUNT 0) L.OUTPUTS
 
 -- the line of the row n and the state after it; an unreadable row leaves the state as it was
 abbrev pub row_shown : List ℕ → State → ℕ → Option (List ℤ) → List ℕ × State
-row_shown b s n none = (refused_line n F.BAD_ROW, s)
-row_shown b s n (some v) = let c = cycle_of b s v (replicate (room b) (pos 0)) in (shown n c, c.state)
+row_shown b s n None = (refused_line n F.BAD_ROW, s)
+row_shown b s n (Some v) = let c = cycle_of b s v (replicate (room b) (pos 0)) in (shown n c, c.state)
 
 -- the state t after the row and the line in the buffer, o before and u after, of which r bytes stand there
 pub record Shows (b : List ℕ) (s : State) (n : ℕ) (v : Option (List ℤ)) (o : List ℕ) (t : State) (u : List ℕ) (r : ℕ) : Type 0 where
@@ -108,15 +106,15 @@ pub record Fills (x : List ℕ × Progress) (o : List ℕ) (r : Filled) (u : Lis
 
 -- "A refused text prints only `refused`, number, place"; "with above 65,536 bytes of rows it prints only `refused 14 0`"; else there is no only line
 abbrev pub only_line : Told ℕ → ℕ → Option (List ℕ)
-only_line (done n) rows = cond (leb rows L.TRACED) none (some (refused_text F.BAD_ROW 0))
-only_line (refusal q k) rows = some (refused_text q k)
+only_line (done n) rows = cond (leb rows L.TRACED) None (Some (refused_text F.BAD_ROW 0))
+only_line (refusal q k) rows = Some (refused_text q k)
 
-abbrev pub begun_by : Option (List ℕ) → ℕ → List ℕ → Begun × List ℕ
-begun_by none n o = (Image n, o)
-begun_by (some l) n o = (Only (min (length l) (length o)), sets o 0 l)
+abbrev pub begun_by : Option (List ℕ) → ℕ → List ℕ → Result ℕ OnlyLine × List ℕ
+begun_by None n o = (Ok n, o)
+begun_by (Some l) n o = (Err (record { size = min (length l) (length o) }), sets o 0 l)
 
 -- how a trace begins after this compile, over rows of so many bytes, and the buffer o as it is left
-unfoldable pub begun_of : Told ℕ → ℕ → List ℕ → Begun × List ℕ
+unfoldable pub begun_of : Told ℕ → ℕ → List ℕ → Result ℕ OnlyLine × List ℕ
 begun_of c rows o = begun_by (only_line c rows) (count_of c) o
 
 -- rows as they are read, at most 16 values each

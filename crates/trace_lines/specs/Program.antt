@@ -1,6 +1,5 @@
 -- What the trace program prints, chunk by chunk (document 01, "The trace of tally"). Assumes nothing.
-use Rattle.std.proofs.Math.Option.{Option, none, some}
-use Rattle.std.specs.Prelude.{List, ◌++◌, ℕ, length, take}
+use Rattle.std.specs.Prelude.{Option, None, Some, List, ◌++◌, ℕ, length, take}
 use Rattle.base_answers.specs.Answers.{Told, count_of}
 use Rattle.spec_language.specs.Verdict.{verdict}
 use Rattle.spec_interface.specs.Compile.{compile_of}
@@ -9,8 +8,8 @@ use Rattle.trace_lines.specs.Chunks.{only_line, first_of, fills}
 
 -- the only line, where there is one; else the header, then what at most 65,537 calls of `fill` put into a buffer of so many bytes, until one puts no bytes
 abbrev pub printed_by : Option (List ℕ) → List ℕ → List ℕ → List ℕ → ℕ → List ℕ
-printed_by none header image rows free = header ++ fills 65537 image rows (first_of image) free
-printed_by (some l) header image rows free = l
+printed_by None header image rows free = header ++ fills 65537 image rows (first_of image) free
+printed_by (Some l) header image rows free = l
 
 -- the same after a compile that told c and left the buffer b
 abbrev pub printed_after : List ℕ → List ℕ → Told ℕ → List ℕ → ℕ → List ℕ

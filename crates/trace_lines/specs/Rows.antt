@@ -1,6 +1,5 @@
 -- The rows of a file's bytes, and the decimals of a row (document 01, "The trace of tally"). Assumes nothing.
-use Rattle.std.specs.Prelude.{cond, List, [], ◌∷◌, ℕ, ◌+◌, ◌*◌, ◌-◌, ℤ, pos, neg_ℤ, eqb, leb}
-use Rattle.std.proofs.Math.Option.{Option, none, some}
+use Rattle.std.specs.Prelude.{Option, None, Some, cond, List, [], ◌∷◌, ℕ, ◌+◌, ◌*◌, ◌-◌, ℤ, pos, neg_ℤ, eqb, leb}
 use Rattle.spec_language.specs.Bytes.{between}
 
 -- the first of the parts begins with the byte b
@@ -23,40 +22,40 @@ parted s = split 32 ([] ∷ []) s
 
 -- the number of digits, v standing before them, however large; none where a byte is no digit
 unfoldable pub digits : ℕ → List ℕ → Option ℕ
-digits v [] = some v
-digits v (b ∷ l) = cond (between 48 57 b) (digits (v * 10 + (b - 48)) l) none
+digits v [] = Some v
+digits v (b ∷ l) = cond (between 48 57 b) (digits (v * 10 + (b - 48)) l) None
 
 -- "digits": at least one
 unfoldable pub magnitude : List ℕ → Option ℕ
-magnitude [] = none
+magnitude [] = None
 magnitude (b ∷ l) = digits 0 (b ∷ l)
 
 -- an integer that is not below zero; "a decimal outside integer counts as 14", as an unreadable one does
 abbrev pub upward : Option ℕ → Option ℤ
-upward none = none
-upward (some m) = cond (leb m 2147483647) (some (pos m)) none
+upward None = None
+upward (Some m) = cond (leb m 2147483647) (Some (pos m)) None
 
 -- the integer after `-`
 abbrev pub downward : Option ℕ → Option ℤ
-downward none = none
-downward (some m) = cond (leb m 2147483648) (some (neg_ℤ (pos m))) none
+downward None = None
+downward (Some m) = cond (leb m 2147483648) (Some (neg_ℤ (pos m))) None
 
 -- "digits, perhaps after `-`"; 45 is the byte of `-`
 unfoldable pub decimal_of : List ℕ → Option ℤ
-decimal_of [] = none
+decimal_of [] = None
 decimal_of (b ∷ l) = cond (eqb b 45) (downward (magnitude l)) (upward (magnitude (b ∷ l)))
 
 abbrev pub before : Option ℤ → Option (List ℤ) → Option (List ℤ)
-before none r = none
-before (some z) none = none
-before (some z) (some l) = some (z ∷ l)
+before None r = None
+before (Some z) None = None
+before (Some z) (Some l) = Some (z ∷ l)
 
 -- the decimals of the parts; none where one is unreadable
 unfoldable pub all : List (List ℕ) → Option (List ℤ)
-all [] = some []
+all [] = Some []
 all (w ∷ ws) = before (decimal_of w) (all ws)
 
 -- "Each row is a line of decimals .. parted by one space"; an empty line is a row of no decimals
 unfoldable pub decimals : List ℕ → Option (List ℤ)
-decimals [] = some []
+decimals [] = Some []
 decimals (b ∷ l) = all (parted (b ∷ l))

@@ -1,11 +1,10 @@
 -- The trace of a text over rows, by the equations (document 01, "The trace of tally"). Assumes nothing.
-use Rattle.std.specs.Prelude.{cond, List, [], ◌∷◌, ◌++◌, ℕ, suc, length, ℤ, leb}
-use Rattle.std.proofs.Math.Option.{Option, none, some}
+use Rattle.std.specs.Prelude.{Option, None, Some, cond, List, [], ◌∷◌, ◌++◌, ℕ, suc, length, ℤ, leb}
 use Rattle.base_codes.specs.Refusal as F
 use Rattle.spec_design.specs.Process.{Process}
 use Rattle.spec_semantics.specs.Rows.{Kept, Outcome, performed, row_refused, operator_refused, row, kept_at_first}
 use Rattle.spec_semantics.specs.Records.{number}
-use Rattle.spec_language.specs.Verdict.{Verdict, onAccepted, verdict}
+use Rattle.spec_language.specs.Verdict.{Verdict, on_accepted, verdict}
 use Rattle.trace_lines.specs.Rows.{rows_in, decimals}
 use Rattle.trace_lines.specs.Printing.{performed_line, refused_line, refused_text}
 use Rattle.trace_header.specs.Header.{header_of}
@@ -18,8 +17,8 @@ line_for n (operator_refused q line, k) = refused_line n q
 
 -- the line of a row and what is kept after it; "A row that is unreadable or has a decimal outside integer counts as 14."
 abbrev pub row_traced : Process → Kept → ℕ → Option (List ℤ) → List ℕ × Kept
-row_traced p k n none = (refused_line n F.BAD_ROW, k)
-row_traced p k n (some v) = let r = row p k (record { inputs = v; room = length p.outputs }) in (line_for n r, r.1)
+row_traced p k n None = (refused_line n F.BAD_ROW, k)
+row_traced p k n (Some v) = let r = row p k (record { inputs = v; room = length p.outputs }) in (line_for n r, r.1)
 
 -- the lines of the rows, from the row n on
 unfoldable pub rows_traced : Process → Kept → ℕ → List (Option (List ℤ)) → List ℕ
@@ -34,7 +33,7 @@ row_values (w ∷ ws) = decimals w ∷ row_values ws
 -- "A refused text prints only `refused`, number, place"; "For an accepted text with above 65,536 bytes of rows it prints only `refused 14 0`."
 abbrev pub traced_by : Verdict → List ℕ → List ℕ
 traced_by v rows =
-    onAccepted
+    on_accepted
     (λ p. cond (leb (length rows) 65536) (header_of p ++ rows_traced p (kept_at_first p) 0 (row_values (rows_in rows))) (refused_text F.BAD_ROW 0))
     refused_text v
 

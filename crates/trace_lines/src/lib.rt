@@ -3,23 +3,20 @@
 // once and puts the lines of as many rows into a lent buffer as it has room for. What is printed for a whole text is a refusal of `start` alone, or a
 // header and then the lines.
 ghost use Rattle.std.specs.Prelude.{◌≡◌, true, ◌≤◌, ◌+◌, min, length, take};
-ghost use Rattle.std.proofs.Math.Option.{some};
 ghost use Rattle.spec_format.specs.Cycle.{cycle_of};
 ghost use Rattle.trace_lines.specs.Rows.{decimals};
 ghost use Rattle.trace_lines.specs.Reading.{short};
 ghost use Rattle.trace_lines.specs.Stored.{Puts};
 ghost use Rattle.trace_lines.specs.Chunks.{OpenedAt, line_of, shown, room, Shows, goes_on, first_of, next_of, has_more, fill_by, fill_of, Fills, begun_of};
-ghost use Rattle.base_answers.specs.declared.Compiled.TheVariants.{Written};
 ghost use Rattle.base_answers.specs.Answers.{done, cycle_told};
 ghost use Rattle.spec_interface.specs.Compile.{compile_of};
 
 mod printing;
 mod rows;
 
-use base_answers::{Compiled, Cycled, Opened, Sections, State};
+use base_answers::{Counts, Refusal, Sections, State};
 use base_codes::{image, limit, refusal};
 use front_lexer::parts::part_of;
-use rows::Row;
 
 // Bytes that no line has more of.
 const LINE: usize = 512;
@@ -47,20 +44,19 @@ pub struct Filled {
     pub size: usize,
 }
 
-// How a trace begins: its only line, with the number of its bytes in the buffer; or a header and rows, with the number of the image's bytes.
-#[derive(Clone, Copy)]
-pub enum Begun {
-    Only(usize),
-    Image(usize),
+// The only line of a trace that has no rows, a refusal: how many bytes of it stand in the buffer.
+#[derive(Clone, Copy, Debug, PartialEq, Eq)]
+pub struct OnlyLine {
+    pub size: usize,
 }
 
 // The line of the row n for a cycle's answer, the state after it and its output row.
-fn show(answer: Cycled, place: u16, n: usize, row: &[i32], out: &mut [u8]) -> usize
+fn show(answer: Result<Counts, Refusal>, place: u16, n: usize, row: &[i32], out: &mut [u8]) -> usize
     ensures { Puts out.old 0 (line_of n (cycle_told answer) place row.now) out.new result }
 {
     match answer {
-        Cycled::Performed(c) => printing::performed_line(out, n, place as usize, c.lines, row),
-        Cycled::NotPerformed(r) => printing::refused_line(out, n, base_answers::number(r) as usize),
+        Ok(c) => printing::performed_line(out, n, usize::from(place), c.lines, row),
+        Err(r) => printing::refused_line(out, n, r.number() as usize),
     }
 }
 
@@ -82,38 +78,20 @@ fn run_row(
     let state = a.state;
     let answer = a.answer;
     let size = show(answer, state.place, n, row, out);
-    Ran {
-        state: state,
-        size: size,
-    }
+    Ran { state, size }
 }
 
 // The number of outputs of an image, at most 16.
 fn outputs_of(image: &[u8]) -> usize
     ensures { result ≡ room image.now }
 {
-    let n = image_words::byte(image, image::OUTPUT_COUNT) as usize;
-    if n < limit::OUTPUTS {
-        n
-    } else {
-        limit::OUTPUTS
-    }
-}
-
-// The first n of 16 values.
-fn first_values<'a>(values: &'a [i32], n: usize) -> &'a [i32]
-    ensures { result.now ≡ take n values.now }
-{
-    if values.len() < n {
-        return values;
-    }
-    &values[0..n]
+    usize::from(image_words::byte(image, image::OUTPUT_COUNT)).min(limit::OUTPUTS)
 }
 
 // The line of a row of these inputs, with an output row of its own.
 fn call_row(image: &[u8], at: Sections, s: State, n: usize, inputs: &[i32], out: &mut [u8]) -> Ran
     requires { OpenedAt image.now at }
-    ensures { Shows image.now s n (some inputs.now) out.old result.state out.new result.size }
+    ensures { Shows image.now s n (Some inputs.now) out.old result.state out.new result.size }
 {
     let mut row = [0i32; limit::OUTPUTS];
     let m = outputs_of(image);
@@ -127,35 +105,23 @@ fn row_line(image: &[u8], at: Sections, s: State, n: usize, line: &[u8], out: &m
 {
     let mut values = [0i32; limit::INPUTS];
     match rows::read_row(line, &mut values) {
-        Row::Values(k) => call_row(image, at, s, n, first_values(&values, k), out),
-        Row::Unreadable => {
+        Some(k) => {
+            let k = k.min(values.len());
+            call_row(image, at, s, n, &values[..k], out)
+        }
+        None => {
             let size = printing::refused_line(out, n, refusal::BAD_ROW);
-            Ran {
-                state: s,
-                size: size,
-            }
+            Ran { state: s, size }
         }
     }
 }
 
 // Whether there is a row at a place: rows of more than 65,536 bytes are not traced, so no row's number is that high.
+#[tactic(auto, unfolding(crate::specs::Chunks::goes_on))]
 fn goes_on(length: usize, number: usize, at: usize) -> bool
     ensures { result ≡ goes_on length number at }
 {
-    if limit::TRACED < length {
-        return false;
-    }
-    if length <= at {
-        return false;
-    }
-    number < limit::TRACED
-}
-
-// Where the row behind an end begins.
-fn behind(end: usize, length: usize) -> usize
-    ensures { result ≡ min (end + 1) length }
-{
-    if end < length { end + 1 } else { length }
+    length <= limit::TRACED && at < length && number < limit::TRACED
 }
 
 // Where the trace stands before the first row.
@@ -193,7 +159,7 @@ fn next(image: &[u8], at: Sections, rows: &[u8], p: Progress, out: &mut [u8]) ->
     let progress = Progress {
         state: after,
         number: number + 1,
-        at: behind(end, rows.len()),
+        at: (end + 1).min(rows.len()),
     };
     Filled {
         progress: progress,
@@ -223,13 +189,11 @@ fn append(
 }
 
 // Whether a line more is put: there is room for any line, and there is a row.
+#[tactic(auto, unfolding(crate::specs::Chunks::has_more))]
 fn has_more(free: usize, length: usize, p: Progress) -> bool
     ensures { result ≡ has_more free length p }
 {
-    if free < LINE {
-        return false;
-    }
-    goes_on(length, p.number, p.at)
+    free >= LINE && goes_on(length, p.number, p.at)
 }
 
 // The lines of rows, from where the trace stands at p on, as many as there is room for.
@@ -257,8 +221,8 @@ pub fn fill(image: &[u8], rows: &[u8], p: Progress, out: &mut [u8]) -> Filled
 {
     let opened = image_loader::open(image);
     match opened {
-        Opened::Image(at) => fill_opened(image, at, rows, p, out),
-        Opened::NotOpened(_) => Filled {
+        Ok(at) => fill_opened(image, at, rows, p, out),
+        Err(_) => Filled {
             progress: p,
             size: 0,
         },
@@ -266,26 +230,28 @@ pub fn fill(image: &[u8], rows: &[u8], p: Progress, out: &mut [u8]) -> Filled
 }
 
 // The beginning of a trace whose text was compiled to n bytes.
-fn begin(n: usize, length: usize, out: &mut [u8]) -> Begun
+fn begin(n: usize, length: usize, out: &mut [u8]) -> Result<usize, OnlyLine>
     ensures { (result ≡ (begun_of (done n) length out.old).0) × (out.new ≡ (begun_of (done n) length out.old).1) }
 {
-    if limit::TRACED < length {
-        return Begun::Only(printing::refused_text(out, refusal::BAD_ROW, 0));
+    if length > limit::TRACED {
+        let size = printing::refused_text(out, refusal::BAD_ROW, 0);
+        return Err(OnlyLine { size });
     }
-    Begun::Image(n)
+    Ok(n)
 }
 
-// The beginning of the trace: the refusal of the text or of the rows, which is then all of it, or the image.
-pub fn start(text: &[u8], rows: &[u8], image: &mut [u8], out: &mut [u8]) -> Begun
+// The beginning of the trace: the number of the image's bytes, for a header and rows; or the refusal of the text or of the rows, which is then all of it.
+pub fn start(text: &[u8], rows: &[u8], image: &mut [u8], out: &mut [u8]) -> Result<usize, OnlyLine>
     ensures { (result ≡ (begun_of (compile_of text.now image.old).answer (length rows.now) out.old).0)
         × (out.new ≡ (begun_of (compile_of text.now image.old).answer (length rows.now) out.old).1)
         × (image.new ≡ (compile_of text.now image.old).buffer) }
 {
     match image_compiler::compile(text, image) {
-        Compiled::Written(n) => begin(n, rows.len(), out),
-        Compiled::NotCompiled(r) => {
-            let number = base_answers::number(r) as usize;
-            Begun::Only(printing::refused_text(out, number, base_answers::place(r)))
+        Ok(n) => begin(n, rows.len(), out),
+        Err(r) => {
+            let number = r.number() as usize;
+            let size = printing::refused_text(out, number, r.place());
+            Err(OnlyLine { size })
         }
     }
 }

@@ -1,19 +1,12 @@
 // Bytes stored into a lent buffer, one behind another. Each function takes the place to begin at and answers the place behind what it stored; behind
 // the buffer's end nothing is stored.
-ghost use Rattle.std.specs.Prelude.{◌≡◌, [], ◌∷◌, ◌++◌, ℕ, ◌+◌, ◌<◌, pos, get_or};
+ghost use Rattle.std.specs.Prelude.{◌≡◌, [], ◌∷◌, ◌++◌, ℕ, ◌+◌, ◌<◌};
 ghost use Rattle.spec_design.specs.Spelling.{decimal_by, decimal};
 ghost use Rattle.trace_lines.specs.Printing.{integer, integers, performed_line, refused_line, refused_text};
 ghost use Rattle.trace_lines.specs.Stored.{Puts, tens};
 
-use base_codes::limit;
-
 // How many digits there are.
 const TEN: usize = 10;
-
-// How many numbers 32 bits have, and the first of those that stand for a negative integer.
-const WORDS: usize = limit::WORD as usize + 1;
-
-const NEGATIVE: usize = limit::INTEGER as usize + 1;
 
 // A byte.
 fn put(out: &mut [u8], at: usize, b: u8) -> usize
@@ -31,10 +24,8 @@ fn put_text(out: &mut [u8], at: usize, text: &[u8]) -> usize
     ensures { Puts out.old at text.now out.new result }
 {
     let mut k = at;
-    let mut i = 0;
-    while i < text.len() {
-        k = put(out, k, text[i]);
-        i += 1;
+    for b in text {
+        k = put(out, k, *b);
     }
     k
 }
@@ -85,19 +76,8 @@ fn put_pair(out: &mut [u8], at: usize, m: usize, n: usize) -> usize
 fn put_integer(out: &mut [u8], at: usize, v: i32) -> usize
     ensures { Puts out.old at (integer v) out.new result }
 {
-    let n = base_signed::to_bits(v) as usize;
-    if n < NEGATIVE {
-        return put_number(out, at, n);
-    }
-    let next = put(out, at, b'-');
-    put_number(out, next, WORDS - n)
-}
-
-// The value at an index, or 0 past the end.
-fn value(s: &[i32], i: usize) -> i32
-    ensures { result ≡ get_or s.now i (pos 0) }
-{
-    if i < s.len() { s[i] } else { 0 }
+    let next = if v < 0 { put(out, at, b'-') } else { at };
+    put_number(out, next, v.unsigned_abs() as usize)
 }
 
 // Integers, each after a space.
@@ -105,11 +85,9 @@ fn put_integers(out: &mut [u8], at: usize, values: &[i32]) -> usize
     ensures { Puts out.old at (integers values.now) out.new result }
 {
     let mut k = at;
-    let mut i = 0;
-    while i < values.len() {
+    for v in values {
         let next = put(out, k, b' ');
-        k = put_integer(out, next, value(values, i));
-        i += 1;
+        k = put_integer(out, next, *v);
     }
     k
 }

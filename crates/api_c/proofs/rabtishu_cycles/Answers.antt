@@ -5,8 +5,8 @@ use Rattle.spec_promises.proofs.Batch.{batch_narrow}
 use Rattle.api_c.proofs.CallLaws.{rows_stored, rows_kept}
 use Rattle.api_c.proofs.rabtishu_cycles.Goals as goal
 
-pub batched-numbers-requires : goal.batched-numbers-requires
-batched-numbers-requires c =
+pub answered-requires : goal.answered-requires
+answered-requires c =
     let h = all_bytes c.args.image.now (λ k.
     omega (arith, c.shared_slice_known-1.given k)) in
     batch_narrow c.args.image.now h c.to_state-s.result c.args.count c.args.inputs.now
@@ -17,11 +17,11 @@ returns-then-r c =
     let y = c.cycles-r in
     rows_stored c.args.image.now c.args.state.now c.args.count c.args.inputs.now c.args.outputs.now c.args.answers.now _
     y.result _ _ _ _ c.to_state-s.ensures y.ensures
-    c.batched-numbers.ensures c.if-r.true c.from_state-stored.ensures
+    c.answered.ensures c.if-r.true c.from_state.ensures
 
 pub returns-else-r : goal.returns-else-r
 returns-else-r c =
     let y = c.cycles-r in
     rows_kept c.args.image.now c.args.state.now c.args.count c.args.inputs.now c.args.outputs.now c.args.answers.now _
-    y.result _ _ _ c.to_state-s.ensures y.ensures c.batched-numbers.ensures
+    y.result _ _ _ c.to_state-s.ensures y.ensures c.answered.ensures
     c.if-r.false

@@ -7,14 +7,14 @@ use Rattle.api_c.proofs.CallLaws.{cycled_stored, cycled_kept}
 use Rattle.api_c.proofs.NarrowLaws.{direct_narrow}
 use Rattle.api_c.proofs.rabtishu_direct.Goals as goal
 
-pub cycled-numbers-requires : goal.cycled-numbers-requires
-cycled-numbers-requires c =
+pub answered-requires : goal.answered-requires
+answered-requires c =
     let a = c.args in
     direct_narrow a.text.now c.to_state-s.result (call_of a.inputs.now a.row.now) c.run-a.result.answer
     c.run-a.ensures.0
 
-pub returns-then-is_performed : goal.returns-then-is_performed
-returns-then-is_performed c =
+pub returns-then-is_ok : goal.returns-then-is_ok
+returns-then-is_ok c =
     let call : State → Called = (λ s. direct_of c.args.text.now s
     (call_of c.args.inputs.now
     c.args.row.now)) in
@@ -22,15 +22,15 @@ returns-then-is_performed c =
     c.run-a.result.answer _ _ _ _
     c.to_state-s.ensures
     c.run-a.ensures.0 c.run-a.ensures.1
-    c.run-a.ensures.2 c.cycled-numbers.ensures
-    c.is_performed.ensures c.if-is_performed.true c.from_state-moved.ensures
+    c.run-a.ensures.2 c.answered.ensures
+    c.is_ok.ensures.value c.if-is_ok.true c.from_state.ensures
 
-pub returns-else-is_performed : goal.returns-else-is_performed
-returns-else-is_performed c =
+pub returns-else-is_ok : goal.returns-else-is_ok
+returns-else-is_ok c =
     let call : State → Called = (λ s. direct_of c.args.text.now s
     (call_of c.args.inputs.now
     c.args.row.now)) in
     cycled_kept call c.args.state.now _
     c.run-a.result.answer _ _ _ c.to_state-s.ensures
-    c.run-a.ensures.0 c.run-a.ensures.2 c.cycled-numbers.ensures
-    c.is_performed.ensures c.if-is_performed.false
+    c.run-a.ensures.0 c.run-a.ensures.2 c.answered.ensures
+    c.is_ok.ensures.value c.if-is_ok.false

@@ -10,12 +10,12 @@ use Rattle.image_runtime.proofs.OpenedImage.{all_bytes}
 use Rattle.api_c.proofs.NarrowLaws.{open_narrow}
 use Rattle.api_c.proofs.rabtishu_open.Goals as goal
 
-pub opened-numbers-requires : goal.opened-numbers-requires
-opened-numbers-requires c =
+pub answered-requires : goal.answered-requires
+answered-requires c =
     let b = c.args.image.now in
-    open_narrow b (all_bytes b (λ k. omega (arith, c.shared_slice_known-1.given k))) c.open-o.result c.open-o.ensures
+    open_narrow b (all_bytes b (λ k. omega (arith, c.shared_slice_known-1.given k))) c.«open».result c.«open».ensures
 
 pub returns : goal.returns
 returns c =
     let b = c.args.image.now in
-    c.opened-numbers.ensures ∙ (ap (λ (t : Told Sections). numbers_of (uncounted t)) c.open-o.ensures ∙ opened_numbers_lem b (open_of b))
+    c.answered.ensures ∙ (ap (λ (t : Told Sections). numbers_of (uncounted t)) c.«open».ensures ∙ opened_numbers_lem b (open_of b))

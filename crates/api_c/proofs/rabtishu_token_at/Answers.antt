@@ -4,4 +4,4 @@ use lib.ListN.{length}
 use Rattle.api_c.proofs.rabtishu_token_at.Goals as goal
 
 pub returns : goal.returns
-returns c = ap length c.token_at-t.ensures
+returns c = ap length c.token_at.ensures

@@ -1,16 +1,8 @@
--- `api_rattle::find` meets its contract: the bounds that the opener answers, or its refusal as two numbers. Assumes nothing.
-use mathlib.Core.Path.{sym, ◌∙◌, ap}
-use Rattle.api_rattle.proofs.LendingLaws.{found_image, found_none}
-use Rattle.base_answers.specs.Answers.{open_told}
+-- `api_rattle::find` meets its contract: it is the opener's. Assumes nothing.
+use mathlib.Core.Path.{◌∙◌}
+use Rattle.spec_format.specs.Opening.{open_of}
+use Rattle.api_rattle.proofs.LendingLaws.{found}
 use Rattle.api_rattle.proofs.find.Goals as goal
 
-pub returns-in-Image : goal.returns-in-Image
-returns-in-Image c =
-    found_image c.args.bytes.now _
-    (sym (ap open_told c.in-Image.is) ∙ c.open-o.ensures)
-
-pub returns-in-NotOpened : goal.returns-in-NotOpened
-returns-in-NotOpened c =
-    found_none c.args.bytes.now c.in-NotOpened.r _ _
-    (sym (ap open_told c.in-NotOpened.is) ∙ c.open-o.ensures) c.number-number.ensures
-    c.place-place.ensures
+pub returns : goal.returns
+returns c = c.open.ensures ∙ found c.args.bytes.now (open_of c.args.bytes.now)

@@ -1,4 +1,5 @@
 -- `base_operators::multiplied` meets its contract: each code has its operator. Assumes nothing.
+use Rattle.std.proofs.Common.{rules}
 use mir.Facts.{to_z-of_z}
 use Rattle.spec_design.specs.Types.{integer, plain}
 use Rattle.spec_design.specs.Expression.{times, divide, modulo, remainder, sum_type, type_of_binary}
@@ -32,5 +33,4 @@ returns-in-32 c =
 
 pub returns-in_default : goal.returns-in_default
 returns-in_default c =
-    let n = c.in_default.in_default-own.rest in
-    multiplied_other c.args.op c.args.x c.args.y c.requires n.0.0.0.1 n.0.0.1 n.0.1 n.1
+    multiplied_other c.args.op c.args.x c.args.y c.requires (search rules) (search rules) (search rules) (search rules)

@@ -1,5 +1,6 @@
 -- `base_operators::unary` meets its contract: each number of a type has its function. Assumes nothing.
 use mathlib.Core.Path.{◌∙◌}
+use Rattle.std.proofs.Common.{rules}
 use mir.Facts.{to_z-of_z}
 use Rattle.spec_design.specs.Types.{std_logic, integer, plain, boolean}
 use Rattle.base_operators.proofs.Laws.{unary_tag, unary_no_tag, one_bit}
@@ -20,4 +21,4 @@ returns-in-254 c =
 
 pub returns-in_default : goal.returns-in_default
 returns-in_default c =
-    let s = c.args in unary_no_tag s.op s.t s.x c.in_default.in_default-own.rest.0.0.1 c.in_default.in_default-own.rest.0.1 c.in_default.in_default-own.rest.1
+    let s = c.args in unary_no_tag s.op s.t s.x (search rules) (search rules) (search rules)

@@ -8,25 +8,25 @@ use Rattle.direct_runtime.proofs.run.Goals as goal
 
 pub run_design-requires : goal.run_design-requires
 run_design-requires c =
-    let d = design_of _ c.accept-front.result _
-    (c.accept-front.ensures (record { ops_size = refl; args_size = refl; line_cells = refl }))
-    c.in-Accepted.is in
+    let d = design_of _ c.accept.result _
+    (c.accept.ensures (record { ops_size = refl; args_size = refl; line_cells = refl }))
+    c.in-Ok.is in
     held_bounded _ d.border.holds d.formed
 
-pub returns-in-Accepted : goal.returns-in-Accepted
-returns-in-Accepted c =
-    let d = design_of _ c.accept-front.result _
-    (c.accept-front.ensures (record { ops_size = refl; args_size = refl; line_cells = refl }))
-    c.in-Accepted.is in
+pub returns-in-Ok : goal.returns-in-Ok
+returns-in-Ok c =
+    let d = design_of _ c.accept.result _
+    (c.accept.ensures (record { ops_size = refl; args_size = refl; line_cells = refl }))
+    c.in-Ok.is in
     run_accepted _ c.args.s
     (call_of c.args.inputs.now
     c.args.row.now) d.process
     d.is_verdict _ _ (c.run_design.ensures d.process d.border.holds d.formed)
 
-pub returns-in-Refused : goal.returns-in-Refused
-returns-in-Refused c =
-    run_refused _ c.args.s
+pub returns-in-Err : goal.returns-in-Err
+returns-in-Err c =
+    rw c.refused.ensures (run_refused _ c.args.s
     (call_of c.args.inputs.now
-    c.args.row.now) c.in-Refused.r
-    (turned_of _ c.accept-front.result _
-    (c.accept-front.ensures (record { ops_size = refl; args_size = refl; line_cells = refl })) c.in-Refused.is)
+    c.args.row.now) c.in-Err.r
+    (turned_of _ c.accept.result _
+    (c.accept.ensures (record { ops_size = refl; args_size = refl; line_cells = refl })) c.in-Err.is))

@@ -10,8 +10,8 @@ returns-then-w-n c =
     (owner_there c.args.rows.now c.args.s c.args.owners.now
     c.args.n _ c.first_wait-w.ensures _ c.if-w-n.true c.owner_at.ensures)
 
-pub returns : goal.returns
-returns c =
+pub returns-else-w-n : goal.returns-else-w-n
+returns-else-w-n c =
     owns c.args.rows.now c.args.s c.args.owners.now c.args.n _
     (owner_none c.args.rows.now c.args.s c.args.owners.now c.args.n _
     c.first_wait-w.ensures c.if-w-n.false)

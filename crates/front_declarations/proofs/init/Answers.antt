@@ -1,22 +1,34 @@
 -- `front_declarations::init` meets its contract: a value where := stands, or nothing. Assumes nothing.
-use mathlib.Core.Path.{sym, ◌∙◌}
-use lib.Dec.{lit<}
-use Rattle.front_declarations.specs.Headers.{init_at}
+use mathlib.Core.Path.{◌≡◌, sym, ◌∙◌}
+use mathlib.Core.Bool.{true, false}
+use lib.Dec.{lit<, eqb}
+use Rattle.std.proofs.lemmas.Result.{err_from_is_err_and}
+use Rattle.front_layout.specs.Tokens.{kind_in}
+use Rattle.front_cursor.specs.Reading.{follows_at}
 use Rattle.front_cursor.proofs.Steps.{one_asks}
+use Rattle.front_declarations.specs.Headers.{init_at}
+use Rattle.front_declarations.proofs.Values.{value_ended}
 use Rattle.front_declarations.proofs.init.Goals as goal
 
-pub expect-a-requires : goal.expect-a-requires
-expect-a-requires c = (lit< tt, c.requires)
+pub returns-then-not-follows : goal.returns-then-not-follows
+unfolding init_at follows_at
+returns-then-not-follows c =
+    let f : eqb (kind_in c.args.text.kinds.now c.args.text.count c.args.q.at) 10 ≡ false = sym c.if-not-follows.ensures in rw f
+
+pub returns-in_err-a : goal.returns-in_err-a
+unfolding init_at follows_at
+returns-in_err-a c =
+    let p = err_from_is_err_and c.from_residual.result c.from_residual.ensures.1 in
+    let f : eqb (kind_in c.args.text.kinds.now c.args.text.count c.args.q.at) 10 ≡ true = sym c.if-not-follows.ensures in
+    rw (p.1, p.2, sym c.in_err-a.ensures, f) (value_ended c.args.text.kinds.now c.args.text.long.now c.args.text.count _)
 
 pub value-requires : goal.value-requires
 value-requires c =
     let s = c.args in
-    one_asks s.kinds.now s.long.now 10 (lit< tt) c.requires c.expect-a.ensures
-
-pub returns-then-given : goal.returns-then-given
-unfolding init_at
-returns-then-given c = c.value.ensures ∙ rw (c.expect-a.ensures, sym c.follows-given.ensures ∙ c.if-given.true)
+    one_asks s.text.kinds.now s.text.long.now 10 (lit< tt) c.requires c.in_ok-a.ensures
 
 pub returns : goal.returns
-unfolding init_at
-returns c = rw (sym c.follows-given.ensures ∙ c.if-given.false)
+unfolding init_at follows_at
+returns c =
+    let f : eqb (kind_in c.args.text.kinds.now c.args.text.count c.args.q.at) 10 ≡ true = sym c.if-not-follows.ensures in
+    c.value.ensures ∙ rw (sym c.in_ok-a.ensures, f)

@@ -1,72 +1,22 @@
 -- `front_declarations::mode` meets its contract: each return is an arm of `mode_at`. Assumes nothing.
 use mathlib.Core.Path.{sym, ◌∙◌}
-use native.Mathlib.Omega.{arith}
-use borrow.Author.Tests.{eq-eqb, ne_eqb}
-use lib.Dec.{lit<}
-use Rattle.front_cursor.proofs.Steps.{kind_inside}
-use Rattle.front_layout.specs.Tokens.{kind_in}
+use borrow.Author.Tests.{ne_eqb}
 use Rattle.front_declarations.specs.Headers.{mode_at}
-use Rattle.front_declarations.proofs.Steps.{moved_by}
 use Rattle.front_declarations.proofs.mode.Goals as goal
 
-pub returns-then-q-ne0 : goal.returns-then-q-ne0
+pub returns-in-31 : goal.returns-in-31
 unfolding mode_at
-returns-then-q-ne0 c = rw (ne_eqb c.args.p.cursor.fault 0 c.if-q-ne0.true)
+returns-in-31 c = c.inputs.ensures ∙ rw (sym c.kind_at.ensures ∙ c.in-31.is)
 
-pub inputs-requires : goal.inputs-requires
-inputs-requires c =
-    let s = c.args in
-    let i = kind_inside s.kinds.now s.n s.p.cursor.at 31 (sym c.kind_at-kind.ensures ∙ c.if-kind-eq-IN.true) (lit< tt) in
-    let h = c.requires in omega arith
-
-pub returns-then-kind-eq-IN : goal.returns-then-kind-eq-IN
+pub returns-in-32 : goal.returns-in-32
 unfolding mode_at
-returns-then-kind-eq-IN c =
-    c.inputs.ensures ∙ rw (
-      eq-eqb c.args.p.cursor.fault 0
-          c.if-q-ne0.false,
-      eq-eqb
-          (kind_in c.args.kinds.now c.args.n
-          c.args.p.cursor.at) 31 (sym c.kind_at-kind.ensures ∙ c.if-kind-eq-IN.true),
-    )
+returns-in-32 c = c.outputs.ensures ∙ rw (sym c.kind_at.ensures ∙ c.in-32.is)
 
-pub outputs-requires : goal.outputs-requires
-outputs-requires c =
-    let s = c.args in
-    let i = kind_inside s.kinds.now s.n s.p.cursor.at 32 (sym c.kind_at-kind.ensures ∙ c.if-kind-eq-OUT.true) (lit< tt) in
-    let h = c.requires in omega arith
-
-pub returns-then-kind-eq-OUT : goal.returns-then-kind-eq-OUT
+pub returns-in_default : goal.returns-in_default
 unfolding mode_at
-returns-then-kind-eq-OUT c =
-    c.outputs.ensures ∙ rw (
-      eq-eqb c.args.p.cursor.fault 0
-          c.if-q-ne0.false,
-      ne_eqb
-          (kind_in c.args.kinds.now c.args.n
-          c.args.p.cursor.at) 31
-          (λ e. c.if-kind-eq-IN.false (c.kind_at-kind.ensures ∙ e)),
-      eq-eqb
-          (kind_in c.args.kinds.now c.args.n
-          c.args.p.cursor.at) 32
-          (sym c.kind_at-kind.ensures ∙ c.if-kind-eq-OUT.true),
-    )
-
-pub returns : goal.returns
-unfolding mode_at
-returns c =
-    moved_by c.args.p c.moved.ensures c.refused.ensures
-    ∙ rw (
-      eq-eqb c.args.p.cursor.fault 0
-          c.if-q-ne0.false,
-      ne_eqb
-          (kind_in c.args.kinds.now
-          c.args.n
-          c.args.p.cursor.at) 31
-          (λ e. c.if-kind-eq-IN.false (c.kind_at-kind.ensures ∙ e)),
-      ne_eqb
-          (kind_in c.args.kinds.now
-          c.args.n
-          c.args.p.cursor.at) 32
-          (λ e. c.if-kind-eq-OUT.false (c.kind_at-kind.ensures ∙ e)),
+returns-in_default c =
+    rw (
+      sym c.kind_at.ensures,
+      ne_eqb c.kind_at.result 31 c.in_default.in_default-own.rest.0.1,
+      ne_eqb c.kind_at.result 32 c.in_default.in_default-own.rest.1,
     )

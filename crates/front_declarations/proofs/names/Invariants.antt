@@ -1,9 +1,10 @@
-use Prim.Native.Nat.{◌+◌, ◌-◌}
+use Prim.Native.Nat.{◌-◌}
+use Rattle.front_declarations.specs.Headers.{header_here}
 use Rattle.front_declarations.proofs.NameLists.{NamesOnOver}
 use Rattle.front_declarations.proofs.names.Given as goal
 
-abbrev pub invariant-loop-a : goal.invariant-loop-a
-invariant-loop-a l = NamesOnOver l.kinds l.long l.n l.initial.a l.variables l.a
+abbrev pub invariant-loop-text : goal.invariant-loop-text
+invariant-loop-text l = NamesOnOver l.text.kinds.now l.text.long.now l.text.count (header_here l.initial.a) l.variables (header_here l.a)
 
-abbrev pub decreases-loop-a : goal.decreases-loop-a
-decreases-loop-a l = (l.n - l.a.cursor.at) + (1 - l.a.cursor.fault)
+abbrev pub decreases-loop-text : goal.decreases-loop-text
+decreases-loop-text l = l.text.count - l.a.cursor.at

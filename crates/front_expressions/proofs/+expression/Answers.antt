@@ -5,99 +5,75 @@ use Prim.Native.Nat.{ℕ}
 use mathlib.Core.Path.{◌≡◌, refl, sym, ◌∙◌, subst}
 use mathlib.Core.Bool.{true, false}
 use native.Mathlib.Omega.{arith}
+use borrow.Author.Tests.{eqb-true, eqb-false}
 use lib.Dec.{lit<}
 use Rattle.spec_grammar.specs.Grammar.{primary as primary_part, factor as factor_part, term as term_part, simple as simple_part, relation as relation_part}
 use Rattle.spec_grammar.specs.Tree.{number}
 use Rattle.front_layout.specs.Tokens.{no_token, kind_in, flag_in}
-use Rattle.front_cursor.proofs.Steps.{kind_inside, follows_true}
+use Rattle.std.proofs.lemmas.Result.{err_from_is_err_and}
+use Rattle.front_cursor.specs.Reading.{here, unread}
+use Rattle.front_cursor.proofs.Arms.{expect_stays}
+use Rattle.front_cursor.proofs.Steps.{kind_inside, unread_ends}
 use Rattle.front_layout.specs.Postfix.{postfix}
 use Rattle.front_expressions.specs.Readers.{sum, product as product_tail, operator_of}
+use Rattle.front_expressions.proofs.Items.{put_ends}
 use Rattle.front_expressions.proofs.Behind.{first_moves, operand_asks, put_room, behind_over}
-use Rattle.front_expressions.proofs.Primaries.{reads_stays, primary_refused, parens_full, parens_read}
+use Rattle.front_expressions.proofs.Primaries.{behind_refused, primary_refused, parens_full, parens_read}
 use Rattle.front_expressions.proofs.Sums.{asks_after, adding_kind, multiplying_kind, relational_kind, logical_kind, denied, affirmed, operand_not}
-use Rattle.front_expressions.proofs.Sums.{loop_falls, chained_none, chained_again, chained_falls, factor_plain, factor_not, signed_plain}
-use Rattle.front_expressions.proofs.Sums.{signed_sign, list_turn, joined_turn, turn_none, turn_then, more_terms_true, more_factors_true, sum_read}
+use Rattle.front_expressions.proofs.Sums.{chained_none, chained_again, chained_further, factor_plain, factor_not, signed_plain}
+use Rattle.front_expressions.proofs.Sums.{signed_sign, list_turn, joined_turn, turn_none, turn_then, sum_read}
 use Rattle.front_expressions.proofs.Sums.{product_read, relation_plain, relation_compared, expression_plain, expression_chain}
 use Rattle.base_codes.specs.Token.{one_of, operands, adding, multiplying, relational, logical}
 use Rattle.front_expressions.proofs.+expression.Goals as goal
 
+pub expression-returns-in_err-a : goal.expression-returns-in_err-a
+expression-returns-in_err-a t c =
+    let p = err_from_is_err_and c.from_residual.result c.from_residual.ensures.1 in
+    rw (p.1, p.2) (expression_plain c.in_err-a.ensures (λ z. absurd (unread_ends _ z)))
+
 pub expression-returns-then-not-is_logical : goal.expression-returns-then-not-is_logical
 expression-returns-then-not-is_logical t c =
-    expression_plain c.relation-a.ensures
-    (subst (λ (k : ℕ). one_of k logical ≡ false) c.kind_at-kind.ensures
+    expression_plain c.in_ok-a.ensures
+    (λ z. subst (λ (k : ℕ). one_of k logical ≡ false) c.kind_at-kind.ensures
     (sym c.is_logical.ensures ∙ denied c.is_logical.result c.if-not-is_logical.true-raw))
 
-pub expression-loop-codes-init : goal.expression-loop-codes-init
-expression-loop-codes-init t c =
-    chained_none _
-    (asks_after c.requires.1 c.relation-a.ensures.moves)
+pub expression-loop-text-init : goal.expression-loop-text-init
+expression-loop-text-init t c = chained_none _ (asks_after c.requires.1 c.in_ok-a.ensures.moves)
 
-pub expression-joined-a-requires : goal.expression-joined-a-requires
-expression-joined-a-requires t c =
+pub expression-returns-in_err-a-2 : goal.expression-returns-in_err-a-2
+expression-returns-in_err-a-2 t c =
     let s = c.args in
-    let o = c.relation-a.ensures.moves in
-    let i = c.loop-codes.invariant.moves in
-    let w = (follows_true c.loop-codes.a.fault (kind_in s.kinds.now s.n c.loop-codes.a.at)
-    c.kind_at-kind.result
-    (sym c.follows.ensures ∙ c.loop-codes-test.true)) in (
-      omega arith,
-      (
-        c.requires.0,
-        asks_after
-            (asks_after c.requires.1
-            c.relation-a.ensures.moves)
-            c.loop-codes.invariant.moves,
-        rw w.1
-            (sym c.is_logical.ensures
-            ∙ affirmed c.is_logical.result c.if-not-is_logical.false-raw),
-      ),
-    )
+    let l = sym c.is_logical.ensures ∙ affirmed c.is_logical.result c.if-not-is_logical.false-raw in
+    let p = err_from_is_err_and c.from_residual-in_err-a-2.result c.from_residual-in_err-a-2.ensures.1 in
+    rw (p.1, p.2)
+    (expression_chain c.kind_at-kind.result l c.in_ok-a.ensures (sym c.kind_at-kind.ensures)
+    (chained_again (kind_in s.text.kinds.now s.text.count c.loop-text.a.at) l (eqb-true _ _ (sym c.follows.ensures ∙ c.loop-text-test.true))
+    c.loop-text.invariant c.in_err-a-2.ensures).turns (λ z. absurd (unread_ends _ z)))
 
-pub expression-loop-codes-smaller : goal.expression-loop-codes-smaller
-expression-loop-codes-smaller t c =
+pub expression-loop-text-smaller : goal.expression-loop-text-smaller
+expression-loop-text-smaller t c =
     let s = c.args in
-    let o = c.relation-a.ensures.moves in
-    let i = c.loop-codes.invariant.moves in
-    chained_falls (kind_in s.kinds.now s.n c.loop-codes.a.at)
-    (sym c.is_logical.ensures
-    ∙ affirmed c.is_logical.result
-    c.if-not-is_logical.false-raw)
-    (follows_true c.loop-codes.a.fault
-    (kind_in s.kinds.now s.n c.loop-codes.a.at)
-    c.kind_at-kind.result
-    (sym c.follows.ensures ∙ c.loop-codes-test.true)).1 (omega arith)
-    (follows_true c.loop-codes.a.fault
-    (kind_in s.kinds.now s.n c.loop-codes.a.at)
-    c.kind_at-kind.result
-    (sym c.follows.ensures ∙ c.loop-codes-test.true)).0 c.joined-a.ensures
+    let o = c.in_ok-a.ensures.moves in
+    let i = c.loop-text.invariant.moves in
+    let l = sym c.is_logical.ensures ∙ affirmed c.is_logical.result c.if-not-is_logical.false-raw in
+    let e = eqb-true _ c.kind_at-kind.result (sym c.follows.ensures ∙ c.loop-text-test.true) in
+    let f = chained_further (kind_in s.text.kinds.now s.text.count c.loop-text.a.at) l e c.in_ok-a-2.ensures refl in
+    let m = (chained_again (kind_in s.text.kinds.now s.text.count c.loop-text.a.at) l e c.loop-text.invariant c.in_ok-a-2.ensures).moves in
+    omega arith
 
-pub expression-loop-codes-preserved : goal.expression-loop-codes-preserved
-expression-loop-codes-preserved t c =
+pub expression-loop-text-preserved : goal.expression-loop-text-preserved
+expression-loop-text-preserved t c =
     let s = c.args in
-    chained_again (kind_in s.kinds.now s.n c.loop-codes.a.at)
-    (sym c.is_logical.ensures
-    ∙ affirmed c.is_logical.result
-    c.if-not-is_logical.false-raw)
-    (follows_true c.loop-codes.a.fault
-    (kind_in s.kinds.now s.n c.loop-codes.a.at)
-    c.kind_at-kind.result
-    (sym c.follows.ensures ∙ c.loop-codes-test.true)).1
-    c.loop-codes.invariant c.joined-a.ensures
+    chained_again (kind_in s.text.kinds.now s.text.count c.loop-text.a.at)
+    (sym c.is_logical.ensures ∙ affirmed c.is_logical.result c.if-not-is_logical.false-raw)
+    (eqb-true _ _ (sym c.follows.ensures ∙ c.loop-text-test.true)) c.loop-text.invariant c.in_ok-a-2.ensures
 
 pub expression-returns : goal.expression-returns
 expression-returns t c =
     expression_chain c.kind_at-kind.result
-    (sym c.is_logical.ensures
-    ∙ affirmed c.is_logical.result c.if-not-is_logical.false-raw)
-    c.relation-a.ensures (sym c.kind_at-kind.ensures)
-    c.loop-codes.invariant.turns (sym c.follows.ensures ∙ c.loop-codes-test.false)
-
-pub factor-leaf-requires : goal.factor-leaf-requires
-factor-leaf-requires t c = (
-  c.requires.1,
-  subst (λ (k : ℕ). one_of k operands ≡ true)
-      c.kind_at-kind.ensures (sym c.is_operand.ensures ∙ c.if-is_operand.true),
-)
+    (sym c.is_logical.ensures ∙ affirmed c.is_logical.result c.if-not-is_logical.false-raw)
+    c.in_ok-a.ensures (sym c.kind_at-kind.ensures)
+    c.loop-text.invariant.turns (λ z. eqb-false _ _ (sym c.follows.ensures ∙ c.loop-text-test.false))
 
 pub factor-returns-then-is_operand : goal.factor-returns-then-is_operand
 factor-returns-then-is_operand t c =
@@ -106,414 +82,351 @@ factor-returns-then-is_operand t c =
     (sym c.is_operand.ensures ∙ c.if-is_operand.true)))
     (c.leaf.ensures c.args.parens c.requires.0)
 
-pub factor-parenthesised-requires : goal.factor-parenthesised-requires
-factor-parenthesised-requires t c =
-    rw c.again.ensures (
-      (let p = c.requires in omega arith),
-      (
-        c.requires.0,
-        c.requires.1,
-        subst
-            (λ (k : ℕ). one_of k operands ≡ false) c.kind_at-kind.ensures
-            (sym c.is_operand.ensures ∙ c.if-is_operand.false),
-      ),
-    )
-
 pub factor-returns-then-kind-ne-NOT : goal.factor-returns-then-kind-ne-NOT
 factor-returns-then-kind-ne-NOT t c =
-    factor_plain (λ z. c.if-kind-ne-NOT.true
-    (c.kind_at-kind.ensures ∙ z))
-    (rw c.again.ensures at c.parenthesised.ensures)
+    factor_plain (λ z. c.if-kind-ne-NOT.true (c.kind_at-kind.ensures ∙ z)) c.parenthesised.ensures
 
-pub factor-item-a-requires : goal.factor-item-a-requires
-factor-item-a-requires t c =
-    let s = c.args in
-    let i = (kind_inside s.kinds.now s.n s.q.at 22 (sym c.kind_at-kind.ensures ∙ c.if-kind-ne-NOT.false) (lit< tt)) in omega arith
+pub factor-returns-in_err-a : goal.factor-returns-in_err-a
+factor-returns-in_err-a t c =
+    let e = sym c.kind_at-kind.ensures ∙ c.if-kind-ne-NOT.false in
+    let p = err_from_is_err_and c.from_residual.result c.from_residual.ensures.1 in
+    rw (p.1, p.2)
+    (factor_not e (behind_refused primary_part postfix (number no_token) 22 _ _ (lit< tt) c.requires.1 c.requires.0 e c.in_err-a.ensures))
 
-pub factor-primary-b-requires : goal.factor-primary-b-requires
-factor-primary-b-requires t c =
+pub factor-primary-requires : goal.factor-primary-requires
+factor-primary-requires t c =
     let s = c.args in
-    let i = (kind_inside s.kinds.now s.n s.q.at 22
-    (sym c.kind_at-kind.ensures ∙ c.if-kind-ne-NOT.false) (lit< tt)) in
-    let a = operand_asks s.n s.q c.item-a.result s.q s.q (flag_in s.long.now s.q.at)
-    c.requires.1 i c.item-a.ensures in
-    let m = first_moves s.n s.q c.item-a.result s.q s.q (flag_in s.long.now s.q.at)
-    c.requires.1 i c.item-a.ensures in omega arith
+    let i = kind_inside s.text.kinds.now s.text.count s.q.at 22 (sym c.kind_at-kind.ensures ∙ c.if-kind-ne-NOT.false) (lit< tt) in
+    let q = here s.q in
+    let a = operand_asks s.text.count q (here c.in_ok-a.a) q q (flag_in s.text.long.now s.q.at) c.requires.1 i c.in_ok-a.ensures in
+    let m = first_moves s.text.count q (here c.in_ok-a.a) q q (flag_in s.text.long.now s.q.at) c.requires.1 i c.in_ok-a.ensures in omega arith
+
+pub factor-returns-in_err-b : goal.factor-returns-in_err-b
+factor-returns-in_err-b t c =
+    let e = sym c.kind_at-kind.ensures ∙ c.if-kind-ne-NOT.false in
+    let p = err_from_is_err_and c.from_residual-in_err-b.result c.from_residual-in_err-b.ensures.1 in
+    rw (p.1, p.2)
+    (factor_not e (behind_over primary_part postfix 22 (lit< tt) c.requires.1 c.requires.0 e c.in_ok-a.ensures c.in_err-b.ensures (put_ends _ _)))
 
 pub factor-put-requires : goal.factor-put-requires
 factor-put-requires t c =
     let s = c.args in
-    let i = (kind_inside s.kinds.now s.n s.q.at 22
-    (sym c.kind_at-kind.ensures
-    ∙ c.if-kind-ne-NOT.false) (lit< tt)) in (
-      put_room s.n s.q c.item-a.result c.primary-b.result s.q
-          (flag_in s.long.now s.q.at) c.requires.1 i
-          c.item-a.ensures c.primary-b.ensures.moves,
+    let i = kind_inside s.text.kinds.now s.text.count s.q.at 22 (sym c.kind_at-kind.ensures ∙ c.if-kind-ne-NOT.false) (lit< tt) in (
+      put_room s.text.count (here s.q) (here c.in_ok-a.a) (here c.in_ok-b.b) (here s.q) (flag_in s.text.long.now s.q.at) c.requires.1 i
+          c.in_ok-a.ensures c.in_ok-b.ensures.moves refl,
       omega arith,
     )
 
 pub factor-returns : goal.factor-returns
 factor-returns t c =
-    let e = sym c.kind_at-kind.ensures
-    ∙ c.if-kind-ne-NOT.false in
-    factor_not e (behind_over primary_part postfix 22 (lit< tt)
-    c.requires.1
-    c.requires.0 e
-    c.item-a.ensures c.primary-b.ensures c.put.ensures)
+    let e = sym c.kind_at-kind.ensures ∙ c.if-kind-ne-NOT.false in
+    factor_not e (behind_over primary_part postfix 22 (lit< tt) c.requires.1 c.requires.0 e c.in_ok-a.ensures c.in_ok-b.ensures c.put.ensures)
 
-pub joined-item-a-requires : goal.joined-item-a-requires
-joined-item-a-requires t c =
-    let s = c.args in let w = c.requires.2 in
-    let i = (kind_inside s.kinds.now s.n s.q.at (kind_in s.kinds.now s.n s.q.at) refl (logical_kind _ w)) in omega arith
+pub joined-item-requires : goal.joined-item-requires
+joined-item-requires t c =
+    let s = c.args in
+    let i = kind_inside s.text.kinds.now s.text.count s.q.at (kind_in s.text.kinds.now s.text.count s.q.at) refl (logical_kind _ c.requires.2) in omega arith
 
-pub joined-relation-b-requires : goal.joined-relation-b-requires
-joined-relation-b-requires t c =
-    let s = c.args in let w = c.requires.2 in
-    let i = (kind_inside s.kinds.now s.n s.q.at (kind_in s.kinds.now s.n s.q.at) refl (logical_kind _ w)) in
-    let a = operand_asks s.n s.q c.item-a.result s.q s.q (flag_in s.long.now s.q.at)
-    c.requires.1 i c.item-a.ensures in
-    let m = first_moves s.n s.q c.item-a.result s.q s.q (flag_in s.long.now s.q.at)
-    c.requires.1 i c.item-a.ensures in omega arith
+pub joined-returns-in_err-a : goal.joined-returns-in_err-a
+joined-returns-in_err-a t c =
+    let e = sym c.kind_at.ensures in
+    let u = subst (λ (k : ℕ). one_of k logical ≡ true) e c.requires.2 in
+    let p = err_from_is_err_and c.from_residual.result c.from_residual.ensures.1 in
+    rw (p.1, p.2)
+    (λ t op. joined_turn c.kind_at.result e c.operation_of-code.ensures u t (subst (operator_of t) e op) (behind_refused relation_part postfix (number no_token) c.kind_at.result _ _ (logical_kind _ u) c.requires.1 c.requires.0 e c.in_err-a.ensures))
+
+pub joined-relation-requires : goal.joined-relation-requires
+joined-relation-requires t c =
+    let s = c.args in
+    let i = kind_inside s.text.kinds.now s.text.count s.q.at (kind_in s.text.kinds.now s.text.count s.q.at) refl (logical_kind _ c.requires.2) in
+    let q = here s.q in
+    let a = operand_asks s.text.count q (here c.in_ok-a.a) q q (flag_in s.text.long.now s.q.at) c.requires.1 i c.in_ok-a.ensures in
+    let m = first_moves s.text.count q (here c.in_ok-a.a) q q (flag_in s.text.long.now s.q.at) c.requires.1 i c.in_ok-a.ensures in omega arith
+
+pub joined-returns-in_err-b : goal.joined-returns-in_err-b
+joined-returns-in_err-b t c =
+    let e = sym c.kind_at.ensures in
+    let u = subst (λ (k : ℕ). one_of k logical ≡ true) e c.requires.2 in
+    let p = err_from_is_err_and c.from_residual-in_err-b.result c.from_residual-in_err-b.ensures.1 in
+    rw (p.1, p.2)
+    (λ t op. joined_turn c.kind_at.result e c.operation_of-code.ensures u t (subst (operator_of t) e op) (behind_over relation_part postfix c.kind_at.result (logical_kind _ u) c.requires.1 c.requires.0 e c.in_ok-a.ensures c.in_err-b.ensures (put_ends _ _)))
 
 pub joined-put-requires : goal.joined-put-requires
 joined-put-requires t c =
     let s = c.args in
-    let w = c.requires.2 in
-    let i = (kind_inside s.kinds.now s.n s.q.at (kind_in s.kinds.now s.n s.q.at) refl (logical_kind _ w)) in (
-      put_room s.n s.q c.item-a.result c.relation-b.result s.q
-          (flag_in s.long.now s.q.at) c.requires.1 i
-          c.item-a.ensures c.relation-b.ensures.moves,
+    let i = kind_inside s.text.kinds.now s.text.count s.q.at (kind_in s.text.kinds.now s.text.count s.q.at) refl (logical_kind _ c.requires.2) in (
+      put_room s.text.count (here s.q) (here c.in_ok-a.a) (here c.in_ok-b.b) (here s.q) (flag_in s.text.long.now s.q.at) c.requires.1 i
+          c.in_ok-a.ensures c.in_ok-b.ensures.moves refl,
       omega arith,
     )
 
 pub joined-returns : goal.joined-returns
 joined-returns t c =
-    let s = c.args in
-    let w = c.requires.2 in
     let e = sym c.kind_at.ensures in
-    let u = subst (λ (k : ℕ). one_of k logical ≡ true) e w in
-    λ t op. joined_turn c.kind_at.result e
-    c.operation_of-code.ensures u t (subst (operator_of t) e op)
-    (behind_over relation_part postfix c.kind_at.result (logical_kind _ u)
-    c.requires.1
-    c.requires.0 e c.item-a.ensures
-    c.relation-b.ensures c.put.ensures)
+    let u = subst (λ (k : ℕ). one_of k logical ≡ true) e c.requires.2 in
+    λ t op. joined_turn c.kind_at.result e c.operation_of-code.ensures u t (subst (operator_of t) e op) (behind_over relation_part postfix c.kind_at.result (logical_kind _ u) c.requires.1 c.requires.0 e c.in_ok-a.ensures c.in_ok-b.ensures c.put.ensures)
 
-pub multiplied-item-a-requires : goal.multiplied-item-a-requires
-multiplied-item-a-requires t c =
-    let s = c.args in let w = c.requires.2 in
-    let i = (kind_inside s.kinds.now s.n s.q.at (kind_in s.kinds.now s.n s.q.at) refl (multiplying_kind _ w)) in omega arith
+pub multiplied-item-requires : goal.multiplied-item-requires
+multiplied-item-requires t c =
+    let s = c.args in
+    let i = kind_inside s.text.kinds.now s.text.count s.q.at (kind_in s.text.kinds.now s.text.count s.q.at) refl (multiplying_kind _ c.requires.2) in omega arith
 
-pub multiplied-factor-b-requires : goal.multiplied-factor-b-requires
-multiplied-factor-b-requires t c =
-    let s = c.args in let w = c.requires.2 in
-    let i = (kind_inside s.kinds.now s.n s.q.at (kind_in s.kinds.now s.n s.q.at) refl (multiplying_kind _ w)) in
-    let a = operand_asks s.n s.q c.item-a.result s.q s.q (flag_in s.long.now s.q.at)
-    c.requires.1 i c.item-a.ensures in
-    let m = first_moves s.n s.q c.item-a.result s.q s.q (flag_in s.long.now s.q.at)
-    c.requires.1 i c.item-a.ensures in omega arith
+pub multiplied-returns-in_err-a : goal.multiplied-returns-in_err-a
+multiplied-returns-in_err-a t c =
+    let e = sym c.kind_at.ensures in
+    let u = subst (λ (k : ℕ). one_of k multiplying ≡ true) e c.requires.2 in
+    let p = err_from_is_err_and c.from_residual.result c.from_residual.ensures.1 in
+    rw (p.1, p.2)
+    (list_turn c.kind_at.result e c.operation_of-code.ensures product_tail u (behind_refused factor_part postfix (number no_token) c.kind_at.result _ _ (multiplying_kind _ u) c.requires.1 c.requires.0 e c.in_err-a.ensures))
+
+pub multiplied-factor-requires : goal.multiplied-factor-requires
+multiplied-factor-requires t c =
+    let s = c.args in
+    let i = kind_inside s.text.kinds.now s.text.count s.q.at (kind_in s.text.kinds.now s.text.count s.q.at) refl (multiplying_kind _ c.requires.2) in
+    let q = here s.q in
+    let a = operand_asks s.text.count q (here c.in_ok-a.a) q q (flag_in s.text.long.now s.q.at) c.requires.1 i c.in_ok-a.ensures in
+    let m = first_moves s.text.count q (here c.in_ok-a.a) q q (flag_in s.text.long.now s.q.at) c.requires.1 i c.in_ok-a.ensures in omega arith
+
+pub multiplied-returns-in_err-b : goal.multiplied-returns-in_err-b
+multiplied-returns-in_err-b t c =
+    let e = sym c.kind_at.ensures in
+    let u = subst (λ (k : ℕ). one_of k multiplying ≡ true) e c.requires.2 in
+    let p = err_from_is_err_and c.from_residual-in_err-b.result c.from_residual-in_err-b.ensures.1 in
+    rw (p.1, p.2)
+    (list_turn c.kind_at.result e c.operation_of-code.ensures product_tail u (behind_over factor_part postfix c.kind_at.result (multiplying_kind _ u) c.requires.1 c.requires.0 e c.in_ok-a.ensures c.in_err-b.ensures (put_ends _ _)))
 
 pub multiplied-put-requires : goal.multiplied-put-requires
 multiplied-put-requires t c =
     let s = c.args in
-    let w = c.requires.2 in
-    let i = (kind_inside s.kinds.now s.n s.q.at (kind_in s.kinds.now s.n s.q.at) refl (multiplying_kind _ w)) in (
-      put_room s.n s.q c.item-a.result c.factor-b.result s.q
-          (flag_in s.long.now s.q.at) c.requires.1 i
-          c.item-a.ensures c.factor-b.ensures.moves,
+    let i = kind_inside s.text.kinds.now s.text.count s.q.at (kind_in s.text.kinds.now s.text.count s.q.at) refl (multiplying_kind _ c.requires.2) in (
+      put_room s.text.count (here s.q) (here c.in_ok-a.a) (here c.in_ok-b.b) (here s.q) (flag_in s.text.long.now s.q.at) c.requires.1 i
+          c.in_ok-a.ensures c.in_ok-b.ensures.moves refl,
       omega arith,
     )
 
 pub multiplied-returns : goal.multiplied-returns
 multiplied-returns t c =
-    let s = c.args in
-    let w = c.requires.2 in
     let e = sym c.kind_at.ensures in
-    let u = subst (λ (k : ℕ). one_of k multiplying ≡ true) e w in
-    list_turn c.kind_at.result e
-    c.operation_of-code.ensures product_tail u
-    (behind_over factor_part postfix c.kind_at.result (multiplying_kind _ u)
-    c.requires.1
-    c.requires.0 e
-    c.item-a.ensures c.factor-b.ensures c.put.ensures)
-
-pub parenthesised-returns-then-q-ne0 : goal.parenthesised-returns-then-q-ne0
-parenthesised-returns-then-q-ne0 t c = reads_stays primary_part postfix (number no_token) _ c.requires.1 c.if-q-ne0.true
+    let u = subst (λ (k : ℕ). one_of k multiplying ≡ true) e c.requires.2 in
+    list_turn c.kind_at.result e c.operation_of-code.ensures product_tail u (behind_over factor_part postfix c.kind_at.result (multiplying_kind _ u) c.requires.1 c.requires.0 e c.in_ok-a.ensures c.in_ok-b.ensures c.put.ensures)
 
 pub parenthesised-returns-then-kind_at-ne-LP : goal.parenthesised-returns-then-kind_at-ne-LP
 parenthesised-returns-then-kind_at-ne-LP t c =
-    rw c.refused.ensures
-    (primary_refused c.requires.1 c.requires.0
-    c.if-q-ne0.false _ (λ z. c.if-kind_at-ne-LP.true (c.kind_at.ensures ∙ z))
-    c.requires.2)
+    primary_refused c.requires.1 c.requires.0
+    refl _ (λ z. c.if-kind_at-ne-LP.true (c.kind_at.ensures ∙ z))
+    c.requires.2
 
 pub parenthesised-returns-then-parens-ge-PARENTHESES : goal.parenthesised-returns-then-parens-ge-PARENTHESES
 parenthesised-returns-then-parens-ge-PARENTHESES t c =
-    rw c.refused-then-parens-ge-PARENTHESES.ensures
-    (parens_full c.requires.1 c.requires.0
-    c.if-q-ne0.false _ c.if-parens-ge-PARENTHESES.true (sym c.kind_at.ensures ∙ c.if-kind_at-ne-LP.false))
+    parens_full c.requires.1 c.requires.0
+    refl _ c.if-parens-ge-PARENTHESES.true (sym c.kind_at.ensures ∙ c.if-kind_at-ne-LP.false)
 
-pub parenthesised-overflow_add-a : goal.parenthesised-overflow_add-a
-parenthesised-overflow_add-a t c =
-    let s = c.args in
-    let i = (kind_inside s.kinds.now s.n s.q.at 5 (sym c.kind_at.ensures ∙ c.if-kind_at-ne-LP.false) (lit< tt)) in
-    omega arith
-
-pub parenthesised-expression-b-requires : goal.parenthesised-expression-b-requires
-parenthesised-expression-b-requires t c =
-    let s = c.args in
-    let i = (kind_inside s.kinds.now s.n s.q.at 5
-    (sym c.kind_at.ensures ∙ c.if-kind_at-ne-LP.false) (lit< tt)) in omega arith
-
-pub parenthesised-expect-requires : goal.parenthesised-expect-requires
-parenthesised-expect-requires t c =
-    let s = c.args in
-    let i = (kind_inside s.kinds.now s.n s.q.at 5
-    (sym c.kind_at.ensures ∙ c.if-kind_at-ne-LP.false) (lit< tt)) in
-    let m = c.expression-b.ensures.moves in omega arith
+pub parenthesised-returns-in_err-b : goal.parenthesised-returns-in_err-b
+parenthesised-returns-in_err-b t c =
+    let p = err_from_is_err_and c.from_residual.result c.from_residual.ensures.1 in
+    rw (p.1, p.2)
+    (parens_read c.requires.1 c.requires.0 refl c.if-parens-ge-PARENTHESES.false
+    (sym c.kind_at.ensures ∙ c.if-kind_at-ne-LP.false) _ _ _ refl
+    c.in_err-b.ensures (expect_stays (unread _) _ _ (unread_ends _)))
 
 pub parenthesised-returns : goal.parenthesised-returns
 parenthesised-returns t c =
-    parens_read c.requires.1
-    c.requires.0
-    c.if-q-ne0.false c.if-parens-ge-PARENTHESES.false
-    (sym c.kind_at.ensures
-    ∙ c.if-kind_at-ne-LP.false) _ _ _ refl
-    c.expression-b.ensures c.expect.ensures
+    parens_read c.requires.1 c.requires.0 refl c.if-parens-ge-PARENTHESES.false
+    (sym c.kind_at.ensures ∙ c.if-kind_at-ne-LP.false) _ _ _ refl
+    c.in_ok-b.ensures c.expect.ensures
 
-pub primary-leaf-requires : goal.primary-leaf-requires
-primary-leaf-requires t c = (
-  c.requires.1,
-  subst (λ (k : ℕ). one_of k operands ≡ true) c.kind_at.ensures
-      (sym c.is_operand.ensures ∙ c.if-is_operand.true),
-)
+pub product-returns-in_err-a : goal.product-returns-in_err-a
+product-returns-in_err-a t c =
+    let p = err_from_is_err_and c.from_residual.result c.from_residual.ensures.1 in
+    rw (p.1, p.2)
+    (product_read c.in_err-a.ensures (turn_none product_tail _ (asks_after c.requires.1 c.in_err-a.ensures.moves)) (λ z. absurd (unread_ends _ z)))
 
-pub primary-returns-then-is_operand : goal.primary-returns-then-is_operand
-primary-returns-then-is_operand t c =
-    c.leaf.ensures c.args.parens
-    c.requires.0
+pub product-loop-text-init : goal.product-loop-text-init
+product-loop-text-init t c = turn_none product_tail _ (asks_after c.requires.1 c.in_ok-a.ensures.moves)
 
-pub primary-parenthesised-requires : goal.primary-parenthesised-requires
-primary-parenthesised-requires t c =
-    rw c.again.ensures (
-      (let p = c.requires in omega arith),
-      (
-        c.requires.0,
-        c.requires.1,
-        subst
-            (λ (k : ℕ). one_of k operands ≡ false) c.kind_at.ensures
-            (sym c.is_operand.ensures ∙ c.if-is_operand.false),
-      ),
-    )
+pub product-returns-in_err-a-2 : goal.product-returns-in_err-a-2
+product-returns-in_err-a-2 t c =
+    let p = err_from_is_err_and c.from_residual-in_err-a-2.result c.from_residual-in_err-a-2.ensures.1 in
+    rw (p.1, p.2)
+    (product_read c.in_ok-a.ensures (turn_then c.loop-text.invariant c.in_err-a-2.ensures.turn) (λ z. absurd (unread_ends _ z)))
 
-pub primary-returns : goal.primary-returns
-primary-returns t c = rw c.again.ensures at c.parenthesised.ensures
-
-pub product-loop-codes-init : goal.product-loop-codes-init
-product-loop-codes-init t c = turn_none product_tail _ (asks_after c.requires.1 c.factor-a.ensures.moves)
-
-pub product-multiplied-a-requires : goal.product-multiplied-a-requires
-product-multiplied-a-requires t c =
-    let s = c.args in
-    let o = c.factor-a.ensures.moves in let i = c.loop-codes.invariant.moves in (
-      omega arith,
-      (
-        c.requires.0,
-        asks_after
-            (asks_after c.requires.1
-            c.factor-a.ensures.moves) c.loop-codes.invariant.moves,
-        (more_factors_true c.loop-codes.a.fault (kind_in s.kinds.now s.n c.loop-codes.a.at)
-            (sym c.more_factors.ensures ∙ c.loop-codes-test.true)).1,
-      ),
-    )
-
-pub product-loop-codes-smaller : goal.product-loop-codes-smaller
-product-loop-codes-smaller t c =
-    let s = c.args in
-    let o = c.factor-a.ensures.moves in let i = c.loop-codes.invariant.moves in
-    loop_falls s.n c.loop-codes.a c.multiplied-a.result (omega arith)
-    (more_factors_true c.loop-codes.a.fault
-    (kind_in s.kinds.now s.n c.loop-codes.a.at)
-    (sym c.more_factors.ensures ∙ c.loop-codes-test.true)).0 c.multiplied-a.ensures.turn.moves
-    c.multiplied-a.ensures.further
-
-pub product-loop-codes-preserved : goal.product-loop-codes-preserved
-product-loop-codes-preserved t c = turn_then c.loop-codes.invariant c.multiplied-a.ensures.turn
+pub product-loop-text-preserved : goal.product-loop-text-preserved
+product-loop-text-preserved t c = turn_then c.loop-text.invariant c.in_ok-a-2.ensures.turn
 
 pub product-returns : goal.product-returns
 product-returns t c =
-    product_read c.factor-a.ensures c.loop-codes.invariant
-    (sym c.more_factors.ensures ∙ c.loop-codes-test.false)
+    product_read c.in_ok-a.ensures c.loop-text.invariant
+    (λ z w. let x : true ≡ false = sym w ∙ (subst (λ (k : ℕ). one_of k multiplying ≡ false) c.kind_at.ensures (sym c.is_multiplying.ensures ∙ c.loop-text-test.false)) in
+    let y : ◌≡◌ {A = ℕ} 0 1 = cc in omega arith)
 
-pub relation-returns-then-is_relational : goal.relation-returns-then-is_relational
-relation-returns-then-is_relational t c =
+pub relation-returns-in_err-a : goal.relation-returns-in_err-a
+relation-returns-in_err-a t c =
+    let p = err_from_is_err_and c.from_residual.result c.from_residual.ensures.1 in
+    rw (p.1, p.2) (relation_plain c.in_err-a.ensures (λ z. absurd (unread_ends _ z)))
+
+pub relation-item-requires : goal.relation-item-requires
+relation-item-requires t c =
     let s = c.args in
+    let o = c.in_ok-a.ensures.moves in
+    let i = kind_inside s.text.kinds.now s.text.count c.in_ok-a.a.at c.kind_at-kind.result (sym c.kind_at-kind.ensures) (relational_kind _ (sym c.is_relational.ensures ∙ c.if-is_relational.true)) in omega arith
+
+pub relation-returns-in_err-b : goal.relation-returns-in_err-b
+relation-returns-in_err-b t c =
     let e = sym c.kind_at-kind.ensures in
-    relation_compared c.kind_at-kind.result
-    c.simple-a.ensures
-    (sym c.is_relational.ensures
-    ∙ c.if-is_relational.true) e
-    c.operation_of-code.ensures
-    (behind_over simple_part postfix c.kind_at-kind.result
-    (relational_kind _ (sym c.is_relational.ensures
-    ∙ c.if-is_relational.true))
-    (asks_after c.requires.1
-    c.simple-a.ensures.moves)
-    c.requires.0 e
-    c.item-b.ensures c.simple-c.ensures c.put.ensures)
+    let w = sym c.is_relational.ensures ∙ c.if-is_relational.true in
+    let p = err_from_is_err_and c.from_residual-in_err-b.result c.from_residual-in_err-b.ensures.1 in
+    rw (p.1, p.2)
+    (relation_compared c.kind_at-kind.result c.in_ok-a.ensures w e c.operation_of-code.ensures
+    (behind_refused simple_part postfix (number no_token) c.kind_at-kind.result _ _ (relational_kind _ w)
+    (asks_after c.requires.1 c.in_ok-a.ensures.moves) c.requires.0 e c.in_err-b.ensures))
 
-pub relation-returns : goal.relation-returns
-relation-returns t c =
-    relation_plain c.simple-a.ensures
-    (subst (λ (k : ℕ). one_of k relational ≡ false) c.kind_at-kind.ensures (sym c.is_relational.ensures ∙ c.if-is_relational.false))
-
-pub relation-item-b-requires : goal.relation-item-b-requires
-relation-item-b-requires t c =
+pub relation-simple-requires-then-is_relational : goal.relation-simple-requires-then-is_relational
+relation-simple-requires-then-is_relational t c =
     let s = c.args in
-    let i = (kind_inside s.kinds.now s.n c.simple-a.result.at c.kind_at-kind.result
-    (sym c.kind_at-kind.ensures) (relational_kind _ (sym c.is_relational.ensures ∙ c.if-is_relational.true))) in
-    omega arith
+    let i = kind_inside s.text.kinds.now s.text.count c.in_ok-a.a.at c.kind_at-kind.result (sym c.kind_at-kind.ensures) (relational_kind _ (sym c.is_relational.ensures ∙ c.if-is_relational.true)) in
+    let p = here c.in_ok-a.a in
+    let h = asks_after c.requires.1 c.in_ok-a.ensures.moves in
+    let a = operand_asks s.text.count p (here c.in_ok-b.b) p p (flag_in s.text.long.now c.in_ok-a.a.at) h i c.in_ok-b.ensures in
+    let m = first_moves s.text.count p (here c.in_ok-b.b) p p (flag_in s.text.long.now c.in_ok-a.a.at) h i c.in_ok-b.ensures in
+    let o = c.in_ok-a.ensures.moves in omega arith
 
-pub relation-simple-c-requires : goal.relation-simple-c-requires
-relation-simple-c-requires t c =
-    let s = c.args in
-    let i = (kind_inside s.kinds.now s.n c.simple-a.result.at
-    c.kind_at-kind.result (sym c.kind_at-kind.ensures)
-    (relational_kind _ (sym c.is_relational.ensures ∙ c.if-is_relational.true))) in
-    let a = operand_asks s.n c.simple-a.result c.item-b.result s.q s.q
-    (flag_in s.long.now c.simple-a.result.at)
-    (asks_after c.requires.1
-    c.simple-a.ensures.moves) i c.item-b.ensures in
-    let m = first_moves s.n c.simple-a.result c.item-b.result s.q s.q
-    (flag_in s.long.now c.simple-a.result.at)
-    (asks_after c.requires.1
-    c.simple-a.ensures.moves) i c.item-b.ensures in
-    let o = c.simple-a.ensures.moves in omega arith
+pub relation-returns-in_err-c : goal.relation-returns-in_err-c
+relation-returns-in_err-c t c =
+    let e = sym c.kind_at-kind.ensures in
+    let w = sym c.is_relational.ensures ∙ c.if-is_relational.true in
+    let p = err_from_is_err_and c.from_residual-in_err-c.result c.from_residual-in_err-c.ensures.1 in
+    rw (p.1, p.2)
+    (relation_compared c.kind_at-kind.result c.in_ok-a.ensures w e c.operation_of-code.ensures
+    (behind_over simple_part postfix c.kind_at-kind.result (relational_kind _ w)
+    (asks_after c.requires.1 c.in_ok-a.ensures.moves) c.requires.0 e c.in_ok-b.ensures c.in_err-c.ensures (put_ends _ _)))
 
 pub relation-put-requires : goal.relation-put-requires
 relation-put-requires t c =
     let s = c.args in
     let h = c.requires.1 in
-    let o = c.simple-a.ensures.moves in
-    let i = (kind_inside s.kinds.now s.n c.simple-a.result.at
-    c.kind_at-kind.result
-    (sym c.kind_at-kind.ensures)
-    (relational_kind _ (sym c.is_relational.ensures
-    ∙ c.if-is_relational.true))) in (
-      put_room s.n c.simple-a.result
-          c.item-b.result c.simple-c.result s.q
-          (flag_in s.long.now c.simple-a.result.at)
-          (asks_after c.requires.1
-          c.simple-a.ensures.moves) i
-          c.item-b.ensures c.simple-c.ensures.moves,
+    let o = c.in_ok-a.ensures.moves in
+    let i = kind_inside s.text.kinds.now s.text.count c.in_ok-a.a.at c.kind_at-kind.result (sym c.kind_at-kind.ensures) (relational_kind _ (sym c.is_relational.ensures ∙ c.if-is_relational.true)) in (
+      put_room s.text.count (here c.in_ok-a.a) (here c.in_ok-b.b) (here c.in_ok-c.c) (here s.q) (flag_in s.text.long.now c.in_ok-a.a.at)
+          (asks_after c.requires.1 c.in_ok-a.ensures.moves) i c.in_ok-b.ensures c.in_ok-c.ensures.moves refl,
       omega arith,
     )
+
+pub relation-returns-then-is_relational : goal.relation-returns-then-is_relational
+relation-returns-then-is_relational t c =
+    let e = sym c.kind_at-kind.ensures in
+    let w = sym c.is_relational.ensures ∙ c.if-is_relational.true in
+    relation_compared c.kind_at-kind.result c.in_ok-a.ensures w e c.operation_of-code.ensures
+    (behind_over simple_part postfix c.kind_at-kind.result (relational_kind _ w)
+    (asks_after c.requires.1 c.in_ok-a.ensures.moves) c.requires.0 e c.in_ok-b.ensures c.in_ok-c.ensures c.put.ensures)
+
+pub relation-returns : goal.relation-returns
+relation-returns t c =
+    relation_plain c.in_ok-a.ensures
+    (λ z. subst (λ (k : ℕ). one_of k relational ≡ false) c.kind_at-kind.ensures (sym c.is_relational.ensures ∙ c.if-is_relational.false))
 
 pub signed-returns-then-kind_at-ne-MINUS : goal.signed-returns-then-kind_at-ne-MINUS
 signed-returns-then-kind_at-ne-MINUS t c = signed_plain (λ z. c.if-kind_at-ne-MINUS.true (c.kind_at.ensures ∙ z)) c.product.ensures
 
-pub signed-item-a-requires : goal.signed-item-a-requires
-signed-item-a-requires t c =
-    let s = c.args in
-    let i = (kind_inside s.kinds.now s.n s.q.at 12 (sym c.kind_at.ensures ∙ c.if-kind_at-ne-MINUS.false) (lit< tt)) in omega arith
+pub signed-returns-in_err-a : goal.signed-returns-in_err-a
+signed-returns-in_err-a t c =
+    let e = sym c.kind_at.ensures ∙ c.if-kind_at-ne-MINUS.false in
+    let p = err_from_is_err_and c.from_residual.result c.from_residual.ensures.1 in
+    rw (p.1, p.2)
+    (signed_sign e (behind_refused term_part postfix (number no_token) 12 _ _ (lit< tt) c.requires.1 c.requires.0 e c.in_err-a.ensures))
 
-pub signed-product-whole-requires : goal.signed-product-whole-requires
-signed-product-whole-requires t c =
+pub signed-product-requires-2 : goal.signed-product-requires-2
+signed-product-requires-2 t c =
     let s = c.args in
-    let i = (kind_inside s.kinds.now s.n s.q.at 12 (sym c.kind_at.ensures ∙ c.if-kind_at-ne-MINUS.false)
-    (lit< tt)) in let a = operand_asks s.n s.q c.item-a.result s.q s.q (flag_in s.long.now s.q.at)
-    c.requires.1 i c.item-a.ensures in
-    let m = first_moves s.n s.q c.item-a.result s.q s.q (flag_in s.long.now s.q.at)
-    c.requires.1 i c.item-a.ensures in omega arith
+    let i = kind_inside s.text.kinds.now s.text.count s.q.at 12 (sym c.kind_at.ensures ∙ c.if-kind_at-ne-MINUS.false) (lit< tt) in
+    let q = here s.q in
+    let a = operand_asks s.text.count q (here c.in_ok-a.a) q q (flag_in s.text.long.now s.q.at) c.requires.1 i c.in_ok-a.ensures in
+    let m = first_moves s.text.count q (here c.in_ok-a.a) q q (flag_in s.text.long.now s.q.at) c.requires.1 i c.in_ok-a.ensures in omega arith
+
+pub signed-returns-in_err-whole : goal.signed-returns-in_err-whole
+signed-returns-in_err-whole t c =
+    let e = sym c.kind_at.ensures ∙ c.if-kind_at-ne-MINUS.false in
+    let p = err_from_is_err_and c.from_residual-in_err-whole.result c.from_residual-in_err-whole.ensures.1 in
+    rw (p.1, p.2)
+    (signed_sign e (behind_over term_part postfix 12 (lit< tt) c.requires.1 c.requires.0 e c.in_ok-a.ensures c.in_err-whole.ensures (put_ends _ _)))
 
 pub signed-put-requires : goal.signed-put-requires
 signed-put-requires t c =
     let s = c.args in
-    let i = (kind_inside s.kinds.now s.n s.q.at 12
-    (sym c.kind_at.ensures ∙ c.if-kind_at-ne-MINUS.false)
-    (lit< tt)) in (
-      put_room s.n s.q c.item-a.result c.product-whole.result s.q
-          (flag_in s.long.now s.q.at) c.requires.1 i
-          c.item-a.ensures c.product-whole.ensures.moves,
+    let i = kind_inside s.text.kinds.now s.text.count s.q.at 12 (sym c.kind_at.ensures ∙ c.if-kind_at-ne-MINUS.false) (lit< tt) in (
+      put_room s.text.count (here s.q) (here c.in_ok-a.a) (here c.in_ok-whole.whole) (here s.q) (flag_in s.text.long.now s.q.at) c.requires.1 i
+          c.in_ok-a.ensures c.in_ok-whole.ensures.moves refl,
       omega arith,
     )
 
 pub signed-returns : goal.signed-returns
 signed-returns t c =
-    let e = sym c.kind_at.ensures
-    ∙ c.if-kind_at-ne-MINUS.false in
-    signed_sign e (behind_over term_part postfix 12 (lit< tt) c.requires.1
-    c.requires.0 e
-    c.item-a.ensures c.product-whole.ensures c.put.ensures)
+    let e = sym c.kind_at.ensures ∙ c.if-kind_at-ne-MINUS.false in
+    signed_sign e (behind_over term_part postfix 12 (lit< tt) c.requires.1 c.requires.0 e c.in_ok-a.ensures c.in_ok-whole.ensures c.put.ensures)
 
-pub simple-loop-codes-init : goal.simple-loop-codes-init
-simple-loop-codes-init t c = turn_none sum _ (asks_after c.requires.1 c.signed-a.ensures.moves)
+pub simple-returns-in_err-a : goal.simple-returns-in_err-a
+simple-returns-in_err-a t c =
+    let p = err_from_is_err_and c.from_residual.result c.from_residual.ensures.1 in
+    rw (p.1, p.2)
+    (sum_read c.in_err-a.ensures (turn_none sum _ (asks_after c.requires.1 c.in_err-a.ensures.moves)) (λ z. absurd (unread_ends _ z)))
 
-pub simple-term-a-requires : goal.simple-term-a-requires
-simple-term-a-requires t c =
-    let s = c.args in
-    let o = c.signed-a.ensures.moves in let i = c.loop-codes.invariant.moves in (
-      omega arith,
-      (
-        c.requires.0,
-        asks_after
-            (asks_after c.requires.1
-            c.signed-a.ensures.moves) c.loop-codes.invariant.moves,
-        (more_terms_true c.loop-codes.a.fault (kind_in s.kinds.now s.n c.loop-codes.a.at)
-            (sym c.more_terms.ensures ∙ c.loop-codes-test.true)).1,
-      ),
-    )
+pub simple-loop-text-init : goal.simple-loop-text-init
+simple-loop-text-init t c = turn_none sum _ (asks_after c.requires.1 c.in_ok-a.ensures.moves)
 
-pub simple-loop-codes-smaller : goal.simple-loop-codes-smaller
-simple-loop-codes-smaller t c =
-    let s = c.args in
-    let o = c.signed-a.ensures.moves in let i = c.loop-codes.invariant.moves in
-    loop_falls s.n c.loop-codes.a c.term-a.result (omega arith)
-    (more_terms_true c.loop-codes.a.fault
-    (kind_in s.kinds.now s.n c.loop-codes.a.at)
-    (sym c.more_terms.ensures ∙ c.loop-codes-test.true)).0 c.term-a.ensures.turn.moves
-    c.term-a.ensures.further
+pub simple-returns-in_err-a-2 : goal.simple-returns-in_err-a-2
+simple-returns-in_err-a-2 t c =
+    let p = err_from_is_err_and c.from_residual-in_err-a-2.result c.from_residual-in_err-a-2.ensures.1 in
+    rw (p.1, p.2)
+    (sum_read c.in_ok-a.ensures (turn_then c.loop-text.invariant c.in_err-a-2.ensures.turn) (λ z. absurd (unread_ends _ z)))
 
-pub simple-loop-codes-preserved : goal.simple-loop-codes-preserved
-simple-loop-codes-preserved t c = turn_then c.loop-codes.invariant c.term-a.ensures.turn
+pub simple-loop-text-preserved : goal.simple-loop-text-preserved
+simple-loop-text-preserved t c = turn_then c.loop-text.invariant c.in_ok-a-2.ensures.turn
 
 pub simple-returns : goal.simple-returns
 simple-returns t c =
-    sum_read c.signed-a.ensures c.loop-codes.invariant (sym c.more_terms.ensures ∙ c.loop-codes-test.false)
+    sum_read c.in_ok-a.ensures c.loop-text.invariant
+    (λ z w. let x : true ≡ false = sym w ∙ (subst (λ (k : ℕ). one_of k adding ≡ false) c.kind_at.ensures (sym c.is_adding.ensures ∙ c.loop-text-test.false)) in
+    let y : ◌≡◌ {A = ℕ} 0 1 = cc in omega arith)
 
-pub term-item-a-requires : goal.term-item-a-requires
-term-item-a-requires t c =
-    let s = c.args in let w = c.requires.2 in
-    let i = (kind_inside s.kinds.now s.n s.q.at (kind_in s.kinds.now s.n s.q.at) refl (adding_kind _ w)) in omega arith
+pub term-item-requires : goal.term-item-requires
+term-item-requires t c =
+    let s = c.args in
+    let i = kind_inside s.text.kinds.now s.text.count s.q.at (kind_in s.text.kinds.now s.text.count s.q.at) refl (adding_kind _ c.requires.2) in omega arith
 
-pub term-product-b-requires : goal.term-product-b-requires
-term-product-b-requires t c =
-    let s = c.args in let w = c.requires.2 in
-    let i = (kind_inside s.kinds.now s.n s.q.at (kind_in s.kinds.now s.n s.q.at) refl (adding_kind _ w)) in
-    let a = operand_asks s.n s.q c.item-a.result s.q s.q (flag_in s.long.now s.q.at)
-    c.requires.1 i c.item-a.ensures in
-    let m = first_moves s.n s.q c.item-a.result s.q s.q (flag_in s.long.now s.q.at)
-    c.requires.1 i c.item-a.ensures in omega arith
+pub term-returns-in_err-a : goal.term-returns-in_err-a
+term-returns-in_err-a t c =
+    let e = sym c.kind_at.ensures in
+    let u = subst (λ (k : ℕ). one_of k adding ≡ true) e c.requires.2 in
+    let p = err_from_is_err_and c.from_residual.result c.from_residual.ensures.1 in
+    rw (p.1, p.2)
+    (list_turn c.kind_at.result e c.operation_of-code.ensures sum u (behind_refused term_part postfix (number no_token) c.kind_at.result _ _ (adding_kind _ u) c.requires.1 c.requires.0 e c.in_err-a.ensures))
+
+pub term-product-requires : goal.term-product-requires
+term-product-requires t c =
+    let s = c.args in
+    let i = kind_inside s.text.kinds.now s.text.count s.q.at (kind_in s.text.kinds.now s.text.count s.q.at) refl (adding_kind _ c.requires.2) in
+    let q = here s.q in
+    let a = operand_asks s.text.count q (here c.in_ok-a.a) q q (flag_in s.text.long.now s.q.at) c.requires.1 i c.in_ok-a.ensures in
+    let m = first_moves s.text.count q (here c.in_ok-a.a) q q (flag_in s.text.long.now s.q.at) c.requires.1 i c.in_ok-a.ensures in omega arith
+
+pub term-returns-in_err-b : goal.term-returns-in_err-b
+term-returns-in_err-b t c =
+    let e = sym c.kind_at.ensures in
+    let u = subst (λ (k : ℕ). one_of k adding ≡ true) e c.requires.2 in
+    let p = err_from_is_err_and c.from_residual-in_err-b.result c.from_residual-in_err-b.ensures.1 in
+    rw (p.1, p.2)
+    (list_turn c.kind_at.result e c.operation_of-code.ensures sum u (behind_over term_part postfix c.kind_at.result (adding_kind _ u) c.requires.1 c.requires.0 e c.in_ok-a.ensures c.in_err-b.ensures (put_ends _ _)))
 
 pub term-put-requires : goal.term-put-requires
 term-put-requires t c =
     let s = c.args in
-    let w = c.requires.2 in
-    let i = (kind_inside s.kinds.now s.n s.q.at (kind_in s.kinds.now s.n s.q.at) refl (adding_kind _ w)) in (
-      put_room s.n s.q c.item-a.result c.product-b.result s.q
-          (flag_in s.long.now s.q.at) c.requires.1 i
-          c.item-a.ensures c.product-b.ensures.moves,
+    let i = kind_inside s.text.kinds.now s.text.count s.q.at (kind_in s.text.kinds.now s.text.count s.q.at) refl (adding_kind _ c.requires.2) in (
+      put_room s.text.count (here s.q) (here c.in_ok-a.a) (here c.in_ok-b.b) (here s.q) (flag_in s.text.long.now s.q.at) c.requires.1 i
+          c.in_ok-a.ensures c.in_ok-b.ensures.moves refl,
       omega arith,
     )
 
 pub term-returns : goal.term-returns
 term-returns t c =
-    let s = c.args in
-    let w = c.requires.2 in
-    let e = sym c.kind_at.ensures in let u = subst (λ (k : ℕ). one_of k adding ≡ true) e w in
-    list_turn c.kind_at.result e
-    c.operation_of-code.ensures sum u
-    (behind_over term_part postfix c.kind_at.result (adding_kind _ u)
-    c.requires.1
-    c.requires.0 e
-    c.item-a.ensures c.product-b.ensures c.put.ensures)
+    let e = sym c.kind_at.ensures in
+    let u = subst (λ (k : ℕ). one_of k adding ≡ true) e c.requires.2 in
+    list_turn c.kind_at.result e c.operation_of-code.ensures sum u (behind_over term_part postfix c.kind_at.result (adding_kind _ u) c.requires.1 c.requires.0 e c.in_ok-a.ensures c.in_ok-b.ensures c.put.ensures)

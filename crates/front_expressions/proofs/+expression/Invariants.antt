@@ -1,56 +1,57 @@
 use Prim.Native.Nat.{◌+◌, ◌*◌, ◌-◌}
+use Rattle.front_cursor.specs.Reading.{here}
 use Rattle.front_layout.specs.Items.{arrays}
 use Rattle.front_expressions.specs.Readers.{sum, product as product_tail, TurnOver}
 use Rattle.front_expressions.proofs.Sums.{Chained}
 use Rattle.front_expressions.proofs.+expression.Given as goal
 
 abbrev pub decreases-expression : goal.decreases-expression
-decreases-expression l = 10 * (l.n - l.q.at) + 9
+decreases-expression l = 10 * (l.text.count - l.q.at) + 9
 
 abbrev pub decreases-factor : goal.decreases-factor
-decreases-factor l = 10 * (l.n - l.q.at) + 2
+decreases-factor l = 10 * (l.text.count - l.q.at) + 2
 
 abbrev pub decreases-joined : goal.decreases-joined
-decreases-joined l = 10 * (l.n - l.q.at) + 8
+decreases-joined l = 10 * (l.text.count - l.q.at) + 8
 
 abbrev pub decreases-multiplied : goal.decreases-multiplied
-decreases-multiplied l = 10 * (l.n - l.q.at) + 3
+decreases-multiplied l = 10 * (l.text.count - l.q.at) + 3
 
 abbrev pub decreases-parenthesised : goal.decreases-parenthesised
-decreases-parenthesised l = 10 * (l.n - l.q.at) + 0
+decreases-parenthesised l = 10 * (l.text.count - l.q.at) + 0
 
 abbrev pub decreases-primary : goal.decreases-primary
-decreases-primary l = 10 * (l.n - l.q.at) + 1
+decreases-primary l = 10 * (l.text.count - l.q.at) + 1
 
 abbrev pub decreases-product : goal.decreases-product
-decreases-product l = 10 * (l.n - l.q.at) + 4
+decreases-product l = 10 * (l.text.count - l.q.at) + 4
 
 abbrev pub decreases-relation : goal.decreases-relation
-decreases-relation l = 10 * (l.n - l.q.at) + 7
+decreases-relation l = 10 * (l.text.count - l.q.at) + 7
 
 abbrev pub decreases-signed : goal.decreases-signed
-decreases-signed l = 10 * (l.n - l.q.at) + 5
+decreases-signed l = 10 * (l.text.count - l.q.at) + 5
 
 abbrev pub decreases-simple : goal.decreases-simple
-decreases-simple l = 10 * (l.n - l.q.at) + 6
+decreases-simple l = 10 * (l.text.count - l.q.at) + 6
 
 abbrev pub decreases-term : goal.decreases-term
-decreases-term l = 10 * (l.n - l.q.at) + 5
+decreases-term l = 10 * (l.text.count - l.q.at) + 5
 
-abbrev pub invariant-expression-loop-codes : goal.invariant-expression-loop-codes
-invariant-expression-loop-codes l = Chained l.kind l.kinds l.long l.n l.initial.a l.parens (arrays l.initial.codes l.initial.tokens) l.a (arrays l.codes l.tokens)
+abbrev pub invariant-expression-loop-text : goal.invariant-expression-loop-text
+invariant-expression-loop-text l = Chained l.kind l.text.kinds.now l.text.long.now l.text.count (here l.initial.a) l.parens (arrays l.initial.codes l.initial.tokens) (here l.a) (arrays l.codes l.tokens)
 
-abbrev pub decreases-expression-loop-codes : goal.decreases-expression-loop-codes
-decreases-expression-loop-codes l = (l.n - l.a.at) + (1 - l.a.fault)
+abbrev pub decreases-expression-loop-text : goal.decreases-expression-loop-text
+decreases-expression-loop-text l = (l.text.count - l.a.at)
 
-abbrev pub invariant-product-loop-codes : goal.invariant-product-loop-codes
-invariant-product-loop-codes l = TurnOver product_tail l.kinds l.long l.n l.initial.a l.parens (arrays l.initial.codes l.initial.tokens) l.a (arrays l.codes l.tokens)
+abbrev pub invariant-product-loop-text : goal.invariant-product-loop-text
+invariant-product-loop-text l = TurnOver product_tail l.text.kinds.now l.text.long.now l.text.count (here l.initial.a) l.parens (arrays l.initial.codes l.initial.tokens) (here l.a) (arrays l.codes l.tokens)
 
-abbrev pub decreases-product-loop-codes : goal.decreases-product-loop-codes
-decreases-product-loop-codes l = (l.n - l.a.at) + (1 - l.a.fault)
+abbrev pub decreases-product-loop-text : goal.decreases-product-loop-text
+decreases-product-loop-text l = (l.text.count - l.a.at)
 
-abbrev pub invariant-simple-loop-codes : goal.invariant-simple-loop-codes
-invariant-simple-loop-codes l = TurnOver sum l.kinds l.long l.n l.initial.a l.parens (arrays l.initial.codes l.initial.tokens) l.a (arrays l.codes l.tokens)
+abbrev pub invariant-simple-loop-text : goal.invariant-simple-loop-text
+invariant-simple-loop-text l = TurnOver sum l.text.kinds.now l.text.long.now l.text.count (here l.initial.a) l.parens (arrays l.initial.codes l.initial.tokens) (here l.a) (arrays l.codes l.tokens)
 
-abbrev pub decreases-simple-loop-codes : goal.decreases-simple-loop-codes
-decreases-simple-loop-codes l = (l.n - l.a.at) + (1 - l.a.fault)
+abbrev pub decreases-simple-loop-text : goal.decreases-simple-loop-text
+decreases-simple-loop-text l = (l.text.count - l.a.at)

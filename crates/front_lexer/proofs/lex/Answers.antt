@@ -29,12 +29,6 @@ loop-i-preserved-in-Gap c =
     (gapped _ _ _ c.loop-i-test.true c.piece_at.ensures _
     c.in-Gap.is)
 
-pub overflow_sub-sizes : goal.overflow_sub-sizes
-overflow_sub-sizes c =
-    let g = tokened _ _ _ c.loop-i-test.true
-    c.piece_at.ensures _ _
-    c.in-Token.is in omega arith
-
 pub overflow_cast-sizes : goal.overflow_cast-sizes
 overflow_cast-sizes c =
     let g = tokened _ _ _ c.loop-i-test.true

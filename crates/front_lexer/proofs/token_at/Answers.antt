@@ -12,7 +12,7 @@ unfolding token_at
 loop-i-init c = (search rules, refl)
 
 pub returns-then-place-i : goal.returns-then-place-i
-returns-then-place-i c = c.empty.ensures ∙ (sym (token_past _ 0 _ _ c.if-place-i.true) ∙ c.loop-i.invariant.1)
+returns-then-place-i c = sym (token_past _ 0 _ _ c.if-place-i.true) ∙ c.loop-i.invariant.1
 
 pub loop-i-smaller-in-Gap : goal.loop-i-smaller-in-Gap
 loop-i-smaller-in-Gap c =
@@ -24,18 +24,16 @@ loop-i-preserved-in-Gap c =
     let g = gapped _ _ _ c.loop-i-test.true c.piece_at.ensures _
     c.in-Gap.is in (g.within, sym (g.hands _) ∙ c.loop-i.invariant.1)
 
-pub between-requires : goal.between-requires
-between-requires c =
+pub slice_bounds-result-end-then-i-place : goal.slice_bounds-result-end-then-i-place
+slice_bounds-result-end-then-i-place c =
     let g = tokened _ _ _ c.loop-i-test.true
-    c.piece_at.ensures _ _ c.in-Token.is in
-    (omega arith, g.within)
+    c.piece_at.ensures _ _ c.in-Token.is in let w = g.within in omega arith
 
 pub returns-then-i-place : goal.returns-then-i-place
 returns-then-i-place c =
     let g = tokened _ _ _ c.loop-i-test.true
     c.piece_at.ensures _ _ c.in-Token.is in
-    c.between.ensures ∙ (sym (g.hands _ ∙ rw (eq-eqb _ _ c.if-i-place.true))
-    ∙ c.loop-i.invariant.1)
+    sym (g.hands _ ∙ rw (eq-eqb _ _ c.if-i-place.true)) ∙ c.loop-i.invariant.1
 
 pub loop-i-smaller : goal.loop-i-smaller
 loop-i-smaller c =
@@ -51,7 +49,7 @@ loop-i-preserved c =
 pub returns-in-Nothing : goal.returns-in-Nothing
 returns-in-Nothing c =
     let g = stopped _ _ _ c.loop-i-test.true c.piece_at.ensures
-    c.in-Nothing.is in c.empty-in-Nothing.ensures ∙ (sym (g.hands _) ∙ c.loop-i.invariant.1)
+    c.in-Nothing.is in sym (g.hands _) ∙ c.loop-i.invariant.1
 
 pub returns : goal.returns
-returns c = c.empty-2.ensures ∙ (sym ((nothing_left _ _ c.loop-i-test.false).2 _) ∙ c.loop-i.invariant.1)
+returns c = sym ((nothing_left _ _ c.loop-i-test.false).2 _) ∙ c.loop-i.invariant.1

@@ -1,22 +1,25 @@
--- `front_limits::flag` meets its contract: its tests are those of `flag_of`. Assumes nothing.
-use Prim.Native.Nat.{◌≤◌, ◌<◌}
+-- `front_limits::flag` meets its contract: its cases are those of `flag_of`. Assumes nothing.
+use mathlib.Core.Path.{◌≡◌, refl, ◌∙◌}
+use mathlib.Core.Bool.{Bool, true, false}
 use native.Mathlib.Omega.{arith}
-use borrow.Author.Tests.{lt-ltb, le-ltb, eq-eqb, ne_eqb}
+use mir.Val.{bool_byte}
+use borrow.Author.Tests.{ne_eqb}
+use Rattle.spec_grammar.specs.Reader.{choose}
 use Rattle.front_limits.specs.Flags.{flag_of}
 use Rattle.front_limits.proofs.flag.Goals as goal
 
-pub returns-then-size-gt-MOST_BYTES : goal.returns-then-size-gt-MOST_BYTES
-unfolding flag_of
-returns-then-size-gt-MOST_BYTES c = let h : 32 < c.args.size = omega arith in rw (eq-eqb _ _ c.if-kind-eq-NAME.true, lt-ltb _ _ h)
+byte_is : (b : Bool) → bool_byte b ≡ choose b 1 0
+byte_is true = refl
+byte_is false = refl
 
-pub returns-then-kind-eq-NAME : goal.returns-then-kind-eq-NAME
+pub returns-in-1 : goal.returns-in-1
 unfolding flag_of
-returns-then-kind-eq-NAME c = let h : c.args.size ≤ 32 = omega arith in rw (eq-eqb _ _ c.if-kind-eq-NAME.true, le-ltb _ _ h)
+returns-in-1 c = rw c.in-1.is (c.from.ensures ∙ byte_is _)
 
-pub returns-then-kind-eq-NUMBER : goal.returns-then-kind-eq-NUMBER
+pub returns-in-2 : goal.returns-in-2
 unfolding flag_of
-returns-then-kind-eq-NUMBER c = rw (ne_eqb _ _ c.if-kind-eq-NAME.false, eq-eqb _ _ c.if-kind-eq-NUMBER.true) c.number_flag.ensures
+returns-in-2 c = rw (c.in-2.is, ← c.from-in-2.ensures, ← c.from-in-2-2.ensures) c.number_flag.ensures
 
-pub returns : goal.returns
+pub returns-in_default : goal.returns-in_default
 unfolding flag_of
-returns c = rw (ne_eqb _ _ c.if-kind-eq-NAME.false, ne_eqb _ _ c.if-kind-eq-NUMBER.false)
+returns-in_default c = rw (ne_eqb c.args.kind 1 (λ e. omega arith), ne_eqb c.args.kind 2 (λ e. omega arith))

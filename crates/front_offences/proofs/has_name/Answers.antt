@@ -13,7 +13,6 @@ returns-in-0 c = holds has_name 3 0 refl c.args.kind (omega arith) c.in-0.is
 pub returns-in_default : goal.returns-in_default
 unfolding has_name
 returns-in_default c =
-    let l = c.in_default.if-kind-lt3-own.false in
     rw (
       ne_eqb c.args.kind 0 (λ z. omega arith),
       ne_eqb c.args.kind 1 (λ z. omega arith),

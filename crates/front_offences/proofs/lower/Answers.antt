@@ -1,19 +1,16 @@
 -- `front_offences::lower` meets its contract. Assumes nothing.
-use mathlib.Core.Path.{sym}
-use native.Mathlib.Omega.{arith}
+use Rattle.std.proofs.Common.{rules}
 use Rattle.front_offences.specs.Lowest.{lower}
-use Rattle.front_offences.proofs.Lowest.{lower_none, lower_left, lower_right}
+use Rattle.front_offences.proofs.Lowest.{lower_none}
 use Rattle.front_offences.proofs.lower.Goals as goal
 
-pub returns-then-a-eq0 : goal.returns-then-a-eq0
+pub returns-in-Some-Some : goal.returns-in-Some-Some
 unfolding lower
-returns-then-a-eq0 c = rw c.if-a-eq0.true
+returns-in-Some-Some c = search rules
 
-pub returns-then-b-eq0 : goal.returns-then-b-eq0
-returns-then-b-eq0 c = rw (c.if-b-eq0.true, lower_none c.args.a)
+pub returns-in-None-default : goal.returns-in-None-default
+unfolding lower
+returns-in-None-default c = search rules
 
-pub returns-then-a-b : goal.returns-then-a-b
-returns-then-a-b c = sym (lower_left _ _ (omega arith) (omega arith))
-
-pub returns : goal.returns
-returns c = sym (lower_right _ _ (omega arith) (omega arith))
+pub returns-in_default-None : goal.returns-in_default-None
+returns-in_default-None c = search (rules, lower_none)

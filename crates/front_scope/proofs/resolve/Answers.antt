@@ -23,4 +23,4 @@ returns c =
     (owner_in c.args.text.now c.args.starts.now
     c.args.sizes.now c.args.n c.args.decls.now
     c.args.d) c.args.kinds.now 0 m
-    c.args.owners.now) c.at_most-end.ensures)
+    c.args.owners.now) c.min-end.ensures)

@@ -1,91 +1,152 @@
 -- `front_statements::wait_statement` meets its contract: five tokens after the first, then the row. Assumes nothing.
+use mathlib.Core.Path.{refl}
 use native.Mathlib.Omega.{arith}
 use lib.Dec.{lit<}
+use Rattle.std.proofs.lemmas.Result.{err_from_is_err_and}
 use Rattle.front_layout.specs.Tokens.{flag_in}
-use Rattle.front_cursor.proofs.Steps.{kind_inside}
-use Rattle.front_statements.proofs.Steps.{cursor_asks, stepped_asks, stepped_then, took_steps, begin_steps}
+use Rattle.front_cursor.proofs.Steps.{kind_inside, unread_ends, expect_ended}
+use Rattle.front_statements.specs.Listings.{listing_here}
+use Rattle.front_statements.proofs.Steps.{cursor_asks, stepped_asks, took_steps, begin_steps, statement_halted}
 use Rattle.front_statements.proofs.Simple.{wait_read}
 use Rattle.front_statements.proofs.wait_statement.Goals as goal
 
-pub begin-a-requires : goal.begin-a-requires
-begin-a-requires c =
-    let s = c.args in let h = c.requires.0 in
-    let i = kind_inside s.kinds.now s.n s.p.cursor.at 35 c.requires.2 (lit< tt) in omega arith
+pub returns-in_err-a : goal.returns-in_err-a
+returns-in_err-a c x =
+    let s = c.args in
+    let e = c.in_err-a.field-0.0 in
+    let p = err_from_is_err_and c.from_residual.result c.from_residual.ensures.1 in
+    rw (p.1, p.2)
+    (wait_read c.requires.0 c.requires.1 c.in_err-a.ensures (expect_ended s.text.kinds.now s.text.long.now s.text.count 36 e) (expect_ended s.text.kinds.now s.text.long.now s.text.count 1 e) (expect_ended s.text.kinds.now s.text.long.now s.text.count 13 e) (expect_ended s.text.kinds.now s.text.long.now s.text.count 4 e) (expect_ended s.text.kinds.now s.text.long.now s.text.count 7 e)
+    (λ z. absurd (unread_ends e z)) x)
 
-pub expect-b-requires : goal.expect-b-requires
-expect-b-requires c =
-    let s = c.args in let h = c.requires.0 in
-    let i = kind_inside s.kinds.now s.n s.p.cursor.at 35 c.requires.2 (lit< tt) in
-    let b = begin_steps (flag_in s.long.now s.p.cursor.at) s.depth s.p.cursor.items h i h.few c.begin-a.ensures in
-    let ha = stepped_asks h b.steps in (lit< tt, cursor_asks ha)
-
-pub expect-c-requires : goal.expect-c-requires
-expect-c-requires c =
-    let s = c.args in let h = c.requires.0 in
-    let i = kind_inside s.kinds.now s.n s.p.cursor.at 35 c.requires.2 (lit< tt) in
-    let b = begin_steps (flag_in s.long.now s.p.cursor.at) s.depth s.p.cursor.items h i h.few c.begin-a.ensures in
-    let ha = stepped_asks h b.steps in let t0 = took_steps s.kinds.now s.long.now 36 (lit< tt) ha c.expect-b.ensures in
-    let h0 = stepped_asks ha t0.steps in (lit< tt, cursor_asks h0)
-
-pub expect-d-requires : goal.expect-d-requires
-expect-d-requires c =
-    let s = c.args in let h = c.requires.0 in
-    let i = kind_inside s.kinds.now s.n s.p.cursor.at 35 c.requires.2 (lit< tt) in
-    let b = begin_steps (flag_in s.long.now s.p.cursor.at) s.depth s.p.cursor.items h i h.few c.begin-a.ensures in
-    let ha = stepped_asks h b.steps in let t0 = took_steps s.kinds.now s.long.now 36 (lit< tt) ha c.expect-b.ensures in
-    let h0 = stepped_asks ha t0.steps in let t1 = took_steps s.kinds.now s.long.now 1 (lit< tt) h0 c.expect-c.ensures in
-    let h1 = stepped_asks h0 t1.steps in (lit< tt, cursor_asks h1)
-
-pub expect-e-requires : goal.expect-e-requires
-expect-e-requires c =
-    let s = c.args in let h = c.requires.0 in
-    let i = kind_inside s.kinds.now s.n s.p.cursor.at 35 c.requires.2 (lit< tt) in
-    let b = begin_steps (flag_in s.long.now s.p.cursor.at) s.depth s.p.cursor.items h i h.few
-    c.begin-a.ensures in let ha = stepped_asks h b.steps in
-    let t0 = took_steps s.kinds.now s.long.now 36 (lit< tt) ha c.expect-b.ensures in let h0 = stepped_asks ha t0.steps in
-    let t1 = took_steps s.kinds.now s.long.now 1 (lit< tt) h0 c.expect-c.ensures in let h1 = stepped_asks h0 t1.steps in
-    let t2 = took_steps s.kinds.now s.long.now 13 (lit< tt) h1 c.expect-d.ensures in let h2 = stepped_asks h1 t2.steps in
-    (lit< tt, cursor_asks h2)
-
-pub expect-f-requires : goal.expect-f-requires
-expect-f-requires c =
+pub expect-requires : goal.expect-requires
+expect-requires c =
     let s = c.args in
     let h = c.requires.0 in
-    let i = kind_inside s.kinds.now s.n s.p.cursor.at 35 c.requires.2 (lit< tt) in
-    let b = begin_steps (flag_in s.long.now s.p.cursor.at) s.depth s.p.cursor.items h i h.few
-    c.begin-a.ensures in let ha = stepped_asks h b.steps in
-    let t0 = took_steps s.kinds.now s.long.now 36 (lit< tt) ha c.expect-b.ensures in let h0 = stepped_asks ha t0.steps in
-    let t1 = took_steps s.kinds.now s.long.now 1 (lit< tt) h0 c.expect-c.ensures in let h1 = stepped_asks h0 t1.steps in
-    let t2 = took_steps s.kinds.now s.long.now 13 (lit< tt) h1 c.expect-d.ensures in let h2 = stepped_asks h1 t2.steps in
-    let t3 = took_steps s.kinds.now s.long.now 4 (lit< tt) h2 c.expect-e.ensures in let h3 = stepped_asks h2 t3.steps in (lit< tt, cursor_asks h3)
+    let q = listing_here s.p in
+    let i = kind_inside s.text.kinds.now s.text.count s.p.cursor.at 35 c.requires.1 (lit< tt) in
+    let b = begin_steps {p = q} (flag_in s.text.long.now s.p.cursor.at) s.depth s.p.cursor.items h i h.few c.in_ok-a.ensures in
+    let ha = stepped_asks h b.steps in
+    (lit< tt, cursor_asks ha)
 
-pub overflow_add-s : goal.overflow_add-s
-overflow_add-s c = let h = c.requires.0 in omega arith
+pub returns-in_err-b : goal.returns-in_err-b
+returns-in_err-b c x =
+    let s = c.args in
+    let e = c.in_err-b.field-0.0 in
+    let p = err_from_is_err_and c.from_residual-in_err-b.result c.from_residual-in_err-b.ensures.1 in
+    rw (p.1, p.2)
+    (statement_halted c.in_ok-a.a.statements e c.requires.0
+    (wait_read c.requires.0 c.requires.1 c.in_ok-a.ensures c.in_err-b.ensures (expect_ended s.text.kinds.now s.text.long.now s.text.count 1 e) (expect_ended s.text.kinds.now s.text.long.now s.text.count 13 e) (expect_ended s.text.kinds.now s.text.long.now s.text.count 4 e) (expect_ended s.text.kinds.now s.text.long.now s.text.count 7 e)
+    (λ z. absurd (unread_ends e z)) x))
 
-pub overflow_add-s-2 : goal.overflow_add-s-2
-overflow_add-s-2 c = let h = c.requires.0 in omega arith
+pub expect-requires-2 : goal.expect-requires-2
+expect-requires-2 c =
+    let s = c.args in
+    let h = c.requires.0 in
+    let q = listing_here s.p in
+    let i = kind_inside s.text.kinds.now s.text.count s.p.cursor.at 35 c.requires.1 (lit< tt) in
+    let b = begin_steps {p = q} (flag_in s.text.long.now s.p.cursor.at) s.depth s.p.cursor.items h i h.few c.in_ok-a.ensures in
+    let ha = stepped_asks h b.steps in
+    let hb = stepped_asks ha (took_steps s.text.kinds.now s.text.long.now 36 (lit< tt) ha c.in_ok-b.ensures).steps in
+    (lit< tt, cursor_asks hb)
+
+pub returns-in_err-c : goal.returns-in_err-c
+returns-in_err-c c x =
+    let s = c.args in
+    let e = c.in_err-c.field-0.0 in
+    let p = err_from_is_err_and c.from_residual-in_err-c.result c.from_residual-in_err-c.ensures.1 in
+    rw (p.1, p.2)
+    (statement_halted c.in_ok-a.a.statements e c.requires.0
+    (wait_read c.requires.0 c.requires.1 c.in_ok-a.ensures c.in_ok-b.ensures c.in_err-c.ensures (expect_ended s.text.kinds.now s.text.long.now s.text.count 13 e) (expect_ended s.text.kinds.now s.text.long.now s.text.count 4 e) (expect_ended s.text.kinds.now s.text.long.now s.text.count 7 e)
+    (λ z. absurd (unread_ends e z)) x))
+
+pub expect-requires-3 : goal.expect-requires-3
+expect-requires-3 c =
+    let s = c.args in
+    let h = c.requires.0 in
+    let q = listing_here s.p in
+    let i = kind_inside s.text.kinds.now s.text.count s.p.cursor.at 35 c.requires.1 (lit< tt) in
+    let b = begin_steps {p = q} (flag_in s.text.long.now s.p.cursor.at) s.depth s.p.cursor.items h i h.few c.in_ok-a.ensures in
+    let ha = stepped_asks h b.steps in
+    let hb = stepped_asks ha (took_steps s.text.kinds.now s.text.long.now 36 (lit< tt) ha c.in_ok-b.ensures).steps in
+    let hc = stepped_asks hb (took_steps s.text.kinds.now s.text.long.now 1 (lit< tt) hb c.in_ok-c.ensures).steps in
+    (lit< tt, cursor_asks hc)
+
+pub returns-in_err-d : goal.returns-in_err-d
+returns-in_err-d c x =
+    let s = c.args in
+    let e = c.in_err-d.field-0.0 in
+    let p = err_from_is_err_and c.from_residual-in_err-d.result c.from_residual-in_err-d.ensures.1 in
+    rw (p.1, p.2)
+    (statement_halted c.in_ok-a.a.statements e c.requires.0
+    (wait_read c.requires.0 c.requires.1 c.in_ok-a.ensures c.in_ok-b.ensures c.in_ok-c.ensures c.in_err-d.ensures (expect_ended s.text.kinds.now s.text.long.now s.text.count 4 e) (expect_ended s.text.kinds.now s.text.long.now s.text.count 7 e)
+    (λ z. absurd (unread_ends e z)) x))
+
+pub expect-requires-4 : goal.expect-requires-4
+expect-requires-4 c =
+    let s = c.args in
+    let h = c.requires.0 in
+    let q = listing_here s.p in
+    let i = kind_inside s.text.kinds.now s.text.count s.p.cursor.at 35 c.requires.1 (lit< tt) in
+    let b = begin_steps {p = q} (flag_in s.text.long.now s.p.cursor.at) s.depth s.p.cursor.items h i h.few c.in_ok-a.ensures in
+    let ha = stepped_asks h b.steps in
+    let hb = stepped_asks ha (took_steps s.text.kinds.now s.text.long.now 36 (lit< tt) ha c.in_ok-b.ensures).steps in
+    let hc = stepped_asks hb (took_steps s.text.kinds.now s.text.long.now 1 (lit< tt) hb c.in_ok-c.ensures).steps in
+    let hd = stepped_asks hc (took_steps s.text.kinds.now s.text.long.now 13 (lit< tt) hc c.in_ok-d.ensures).steps in
+    (lit< tt, cursor_asks hd)
+
+pub returns-in_err-e : goal.returns-in_err-e
+returns-in_err-e c x =
+    let s = c.args in
+    let e = c.in_err-e.field-0.0 in
+    let p = err_from_is_err_and c.from_residual-in_err-e.result c.from_residual-in_err-e.ensures.1 in
+    rw (p.1, p.2)
+    (statement_halted c.in_ok-a.a.statements e c.requires.0
+    (wait_read c.requires.0 c.requires.1 c.in_ok-a.ensures c.in_ok-b.ensures c.in_ok-c.ensures c.in_ok-d.ensures c.in_err-e.ensures (expect_ended s.text.kinds.now s.text.long.now s.text.count 7 e)
+    (λ z. absurd (unread_ends e z)) x))
+
+pub expect-requires-5 : goal.expect-requires-5
+expect-requires-5 c =
+    let s = c.args in
+    let h = c.requires.0 in
+    let q = listing_here s.p in
+    let i = kind_inside s.text.kinds.now s.text.count s.p.cursor.at 35 c.requires.1 (lit< tt) in
+    let b = begin_steps {p = q} (flag_in s.text.long.now s.p.cursor.at) s.depth s.p.cursor.items h i h.few c.in_ok-a.ensures in
+    let ha = stepped_asks h b.steps in
+    let hb = stepped_asks ha (took_steps s.text.kinds.now s.text.long.now 36 (lit< tt) ha c.in_ok-b.ensures).steps in
+    let hc = stepped_asks hb (took_steps s.text.kinds.now s.text.long.now 1 (lit< tt) hb c.in_ok-c.ensures).steps in
+    let hd = stepped_asks hc (took_steps s.text.kinds.now s.text.long.now 13 (lit< tt) hc c.in_ok-d.ensures).steps in
+    let he = stepped_asks hd (took_steps s.text.kinds.now s.text.long.now 4 (lit< tt) hd c.in_ok-e.ensures).steps in
+    (lit< tt, cursor_asks he)
+
+pub returns-in_err-f : goal.returns-in_err-f
+returns-in_err-f c x =
+    let s = c.args in
+    let e = c.in_err-f.field-0.0 in
+    let p = err_from_is_err_and c.from_residual-in_err-f.result c.from_residual-in_err-f.ensures.1 in
+    rw (p.1, p.2)
+    (statement_halted c.in_ok-a.a.statements e c.requires.0
+    (wait_read c.requires.0 c.requires.1 c.in_ok-a.ensures c.in_ok-b.ensures c.in_ok-c.ensures c.in_ok-d.ensures c.in_ok-e.ensures c.in_err-f.ensures
+    (λ z. absurd (unread_ends e z)) x))
 
 pub finish-requires : goal.finish-requires
 finish-requires c =
     let s = c.args in
     let h = c.requires.0 in
-    let i = kind_inside s.kinds.now s.n s.p.cursor.at 35 c.requires.2
-    (lit< tt) in let b = begin_steps (flag_in s.long.now s.p.cursor.at) s.depth s.p.cursor.items h i h.few
-    c.begin-a.ensures in let ha = stepped_asks h b.steps in
-    let t0 = took_steps s.kinds.now s.long.now 36 (lit< tt) ha c.expect-b.ensures in
-    let h0 = stepped_asks ha t0.steps in let t1 =
-    took_steps s.kinds.now s.long.now 1 (lit< tt) h0 c.expect-c.ensures in let h1 = stepped_asks h0 t1.steps in
-    let t2 = took_steps s.kinds.now s.long.now 13 (lit< tt) h1 c.expect-d.ensures in
-    let h2 = stepped_asks h1 t2.steps in let t3 = took_steps s.kinds.now s.long.now 4 (lit< tt) h2 c.expect-e.ensures in
-    let h3 = stepped_asks h2 t3.steps in let t4 = took_steps s.kinds.now s.long.now 7 (lit< tt) h3 c.expect-f.ensures in
-    let h4 = stepped_asks h3 t4.steps in let r =
-    stepped_then t0.steps (stepped_then t1.steps (stepped_then t2.steps (stepped_then t3.steps t4.steps))) in
-    ((λ z. let g = b.one (r.moves.began z) in let m = b.steps.moves in omega arith), (omega arith))
+    let q = listing_here s.p in
+    let i = kind_inside s.text.kinds.now s.text.count s.p.cursor.at 35 c.requires.1 (lit< tt) in
+    let b = begin_steps {p = q} (flag_in s.text.long.now s.p.cursor.at) s.depth s.p.cursor.items h i h.few c.in_ok-a.ensures in
+    let ha = stepped_asks h b.steps in
+    let hb = stepped_asks ha (took_steps s.text.kinds.now s.text.long.now 36 (lit< tt) ha c.in_ok-b.ensures).steps in
+    let hc = stepped_asks hb (took_steps s.text.kinds.now s.text.long.now 1 (lit< tt) hb c.in_ok-c.ensures).steps in
+    let hd = stepped_asks hc (took_steps s.text.kinds.now s.text.long.now 13 (lit< tt) hc c.in_ok-d.ensures).steps in
+    let he = stepped_asks hd (took_steps s.text.kinds.now s.text.long.now 4 (lit< tt) hd c.in_ok-e.ensures).steps in
+    let hf = stepped_asks he (took_steps s.text.kinds.now s.text.long.now 7 (lit< tt) he c.in_ok-f.ensures).steps in
+    let g = b.one refl in
+    let m = b.steps.moves in
+    omega arith
 
 pub returns : goal.returns
-returns c =
-    λ x. wait_read c.requires.0
-    c.requires.2
-    c.begin-a.ensures c.expect-b.ensures
-    c.expect-c.ensures c.expect-d.ensures
-    c.expect-e.ensures c.expect-f.ensures c.finish.ensures x
+returns c x =
+    wait_read c.requires.0 c.requires.1 c.in_ok-a.ensures c.in_ok-b.ensures c.in_ok-c.ensures c.in_ok-d.ensures c.in_ok-e.ensures c.in_ok-f.ensures
+    (λ z. c.finish.ensures) x

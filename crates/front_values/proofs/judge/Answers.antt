@@ -1,8 +1,13 @@
 -- `front_values::judge` meets its contract: the lowest place by position is exact. Assumes nothing.
+use Rattle.std.proofs.Common.{rules}
 use Rattle.spec_language.specs.Values.{values}
 use Rattle.front_offences.proofs.Judged.{judged}
+use Rattle.front_values.specs.Positions.{value_at}
 use Rattle.front_values.proofs.Exact.{exact}
 use Rattle.front_values.proofs.judge.Goals as goal
 
 pub returns : goal.returns
-returns c = judged values (exact _ _ _) c.lowest_place.ensures c.found.ensures
+returns c =
+    let t = c.args.tree.now in
+    judged values (exact _ _ _)
+    (rw c.min-end.ensures at (c.lowest_below.ensures (value_at t.decls.now t.starts.now t.shape.tokens) (λ j h r p. search rules)))

@@ -1,13 +1,11 @@
 -- `image_batch::due` meets its contract, by quotient and remainder. Assumes nothing.
-use borrow.Author.Rules.{rules}
-use Rattle.image_batch.proofs.DueLaws.{due_none, due_rest, due_whole}
+use mathlib.Core.Path.{◌∙◌}
+use borrow.Author.Tests.{ne_eqb}
+use Prim.Native.Nat.{◌%◌}
+use Rattle.image_batch.proofs.DueLaws.{due_rest}
 use Rattle.image_batch.proofs.due.Goals as goal
 
-pub returns-then-width-eq0 : goal.returns-then-width-eq0
-returns-then-width-eq0 c = due_none c.args.len c.args.count c.args.width c.if-width-eq0.true
-
-pub returns-then-len-width-ne0 : goal.returns-then-len-width-ne0
-returns-then-len-width-ne0 c = due_rest c.args.len c.args.count c.args.width c.if-len-width-ne0.true
-
-pub returns : goal.returns
-returns c = due_whole c.args.len c.args.count c.args.width (search rules) c.if-len-width-ne0.false
+pub returns-else-len-width-eq0 : goal.returns-else-len-width-eq0
+returns-else-len-width-eq0 c =
+    let a = c.args in
+    ne_eqb (a.len % a.width) 0 c.if-len-width-eq0.false ∙ due_rest a.len a.count a.width c.if-len-width-eq0.false

@@ -2,7 +2,6 @@
 use Prim.Native.Nat.{ℕ}
 use native.Mathlib.Omega.{arith}
 use lib.ListN.{replicate, length-replicate}
-use Rattle.image_flow.specs.Followers.{links}
 use Rattle.image_encoder.proofs.WriteLaws.{body_lines}
 use Rattle.image_encoder.proofs.put_body.Goals as goal
 
@@ -12,5 +11,5 @@ returns c =
     let few = c.requires.1 in
     let l = length-replicate {A = ℕ} 512 0 in
     let f = c.find.ensures in
-    body_lines a.codes.now a.rows.now a.n a.at (links (replicate 512 0) (replicate 512 0)) _ (replicate 512 0) _ a.image.now _ (omega arith)
+    body_lines a.codes.now a.rows.now a.n a.at _ _ (replicate 512 0) _ a.image.now _ (omega arith)
     (omega arith) (omega arith) (f.followed few) (f.reached few) c.put_lines.ensures

@@ -14,9 +14,9 @@ pub returns-then-op-eq-INTEGER : goal.returns-then-op-eq-INTEGER
 unfolding width_of
 returns-then-op-eq-INTEGER c =
     let s = c.args in
-    let st = cells_of s.stack.now s.tags.now s.depth in
+    let st = cells_of s.stack.now.values s.stack.now.tags s.depth in
     let w : c.width.result ≡ 5 = c.width.ensures.value in
-    saying (at_int s.input_types.now s.variable_types.now s.inputs.now s.variables.now s.code.now s.at st
+    saying (at_int s.inputs.now.kinds.now s.variables.now.kinds.now s.inputs.now.values.now s.variables.now.values.now s.code.now s.at st
     c.if-op-eq-INTEGER.true)
     (rw w at (c.push.ensures (leaf_of operators (integer_at s.code.now s.at)) c.integer-e.ensures))
 
@@ -24,9 +24,9 @@ pub returns-then-op-eq-STD_LOGIC : goal.returns-then-op-eq-STD_LOGIC
 unfolding width_of
 returns-then-op-eq-STD_LOGIC c =
     let s = c.args in
-    let st = cells_of s.stack.now s.tags.now s.depth in
+    let st = cells_of s.stack.now.values s.stack.now.tags s.depth in
     let w : c.width-then-op-eq-STD_LOGIC.result ≡ 2 = c.width-then-op-eq-STD_LOGIC.ensures.value in
-    saying (at_bit s.input_types.now s.variable_types.now s.inputs.now s.variables.now s.code.now s.at st
+    saying (at_bit s.inputs.now.kinds.now s.variables.now.kinds.now s.inputs.now.values.now s.variables.now.values.now s.code.now s.at st
     c.if-op-eq-STD_LOGIC.true)
     (rw w at (c.push-then-op-eq-STD_LOGIC.ensures (leaf_of operators (bit_at s.code.now s.at)) c.bit-e.ensures))
 
@@ -34,30 +34,30 @@ pub returns-then-op-eq-INPUT : goal.returns-then-op-eq-INPUT
 unfolding width_of
 returns-then-op-eq-INPUT c =
     let s = c.args in
-    let st = cells_of s.stack.now s.tags.now s.depth in
+    let st = cells_of s.stack.now.values s.stack.now.tags s.depth in
     let w : c.width-then-op-eq-INPUT.result ≡ 2 = c.width-then-op-eq-INPUT.ensures.value in
-    saying (at_input s.input_types.now s.variable_types.now s.inputs.now s.variables.now s.code.now s.at st
+    saying (at_input s.inputs.now.kinds.now s.variables.now.kinds.now s.inputs.now.values.now s.variables.now.values.now s.code.now s.at st
     c.if-op-eq-INPUT.true)
-    (rw w at (c.push-then-op-eq-INPUT.ensures (named_at s.code.now s.at (types_for s.input_types.now) s.inputs.now)
+    (rw w at (c.push-then-op-eq-INPUT.ensures (named_at s.code.now s.at (types_for s.inputs.now.kinds.now) s.inputs.now.values.now)
     c.named-e.ensures))
 
 pub returns-then-op-eq-VARIABLE : goal.returns-then-op-eq-VARIABLE
 unfolding width_of
 returns-then-op-eq-VARIABLE c =
     let s = c.args in
-    let st = cells_of s.stack.now s.tags.now s.depth in
+    let st = cells_of s.stack.now.values s.stack.now.tags s.depth in
     let w : c.width-then-op-eq-VARIABLE.result ≡ 2 = c.width-then-op-eq-VARIABLE.ensures.value in
-    saying (at_variable s.input_types.now s.variable_types.now s.inputs.now s.variables.now s.code.now s.at st
+    saying (at_variable s.inputs.now.kinds.now s.variables.now.kinds.now s.inputs.now.values.now s.variables.now.values.now s.code.now s.at st
     c.if-op-eq-VARIABLE.true)
-    (rw w at (c.push-then-op-eq-VARIABLE.ensures (named_at s.code.now s.at (types_for s.variable_types.now) s.variables.now)
+    (rw w at (c.push-then-op-eq-VARIABLE.ensures (named_at s.code.now s.at (types_for s.variables.now.kinds.now) s.variables.now.values.now)
     c.named-e-then-op-eq-VARIABLE.ensures))
 
 pub returns-then-operands-eq1 : goal.returns-then-operands-eq1
 returns-then-operands-eq1 c =
     let s = c.args in
-    let st = cells_of s.stack.now s.tags.now s.depth in
+    let st = cells_of s.stack.now.values s.stack.now.tags s.depth in
     saying
-    (at_unary s.input_types.now s.variable_types.now s.inputs.now s.variables.now s.at s.code.now st
+    (at_unary s.inputs.now.kinds.now s.variables.now.kinds.now s.inputs.now.values.now s.variables.now.values.now s.at s.code.now st
     c.if-op-eq-INTEGER.false c.if-op-eq-STD_LOGIC.false
     c.if-op-eq-INPUT.false c.if-op-eq-VARIABLE.false
     (sym c.operands.ensures ∙ c.if-operands-eq1.true))
@@ -66,9 +66,9 @@ returns-then-operands-eq1 c =
 pub returns : goal.returns
 returns c =
     let s = c.args in
-    let st = cells_of s.stack.now s.tags.now s.depth in
+    let st = cells_of s.stack.now.values s.stack.now.tags s.depth in
     saying
-    (at_binary s.input_types.now s.variable_types.now s.inputs.now s.variables.now s.at s.code.now st
+    (at_binary s.inputs.now.kinds.now s.variables.now.kinds.now s.inputs.now.values.now s.variables.now.values.now s.at s.code.now st
     c.if-op-eq-INTEGER.false c.if-op-eq-STD_LOGIC.false
     c.if-op-eq-INPUT.false c.if-op-eq-VARIABLE.false
     (λ z. c.if-operands-eq1.false (c.operands.ensures ∙ z)))

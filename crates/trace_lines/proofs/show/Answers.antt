@@ -2,10 +2,10 @@
 use Rattle.trace_lines.proofs.ShowLaws.{show_performed, show_refused}
 use Rattle.trace_lines.proofs.show.Goals as goal
 
-pub returns-in-Performed : goal.returns-in-Performed
-returns-in-Performed c = show_performed _ _ _ _ _ _ _ _ c.in-Performed.is c.performed_line.ensures
+pub returns-in-Ok : goal.returns-in-Ok
+returns-in-Ok c = show_performed _ _ _ _ _ _ _ _ c.in-Ok.is (rw c.from.ensures at c.performed_line.ensures)
 
-pub returns-in-NotPerformed : goal.returns-in-NotPerformed
-returns-in-NotPerformed c =
-    show_refused _ _ _ _ _ _ _ _ _ c.in-NotPerformed.is c.number.ensures
+pub returns-in-Err : goal.returns-in-Err
+returns-in-Err c =
+    show_refused _ _ _ _ _ _ _ _ _ c.in-Err.is c.number.ensures
     c.refused_line.ensures

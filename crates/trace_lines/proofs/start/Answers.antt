@@ -2,17 +2,17 @@
 use Rattle.trace_lines.proofs.ChunkLaws.{start_written, start_refused}
 use Rattle.trace_lines.proofs.start.Goals as goal
 
-pub returns-in-Written : goal.returns-in-Written
-returns-in-Written c =
+pub returns-in-Ok : goal.returns-in-Ok
+returns-in-Ok c =
     start_written c.compile.result _ _ _ _ _
     c.compile.ensures.0
     c.compile.ensures.1 _ _ _
-    c.in-Written.is c.begin.ensures
+    c.in-Ok.is c.begin.ensures
 
-pub returns-in-NotCompiled : goal.returns-in-NotCompiled
-returns-in-NotCompiled c =
+pub returns-in-Err : goal.returns-in-Err
+returns-in-Err c =
     start_refused c.compile.result _ _ _ _ _
     c.compile.ensures.0
     c.compile.ensures.1 _ _ _ _ _
-    c.in-NotCompiled.is c.number-number.ensures
-    c.place.ensures c.refused_text.ensures
+    c.in-Err.is c.number-number.ensures
+    c.place.ensures c.refused_text-size.ensures

@@ -9,8 +9,6 @@ use Rattle.api_c.proofs.record.from_state.Goals as goal
 
 pub returns : goal.returns
 returns c =
-    let fit : SFits w32 c.place_number-place.result = search rules in
-    c_of_state_lem c.args.s c.blank-slots.result c.copy.new.to c.copy-2.new.to (to_z w32 (of_z w32 c.place_number-place.result))
-    c.blank-slots.ensures (search rules)
-    (to_z-of_z fit ∙ c.place_number-place.ensures)
-    c.copy.ensures c.copy-2.ensures
+    let fit : SFits w32 c.from.result = search rules in
+    c_of_state_lem c.args.s c.blank-slots.result c.copy_from_slice.new.self c.copy_from_slice-2.new.self (to_z w32 (of_z w32 c.from.result))
+    c.blank-slots.ensures (search rules) (to_z-of_z fit ∙ c.from.ensures) c.copy_from_slice.ensures.after c.copy_from_slice-2.ensures.after

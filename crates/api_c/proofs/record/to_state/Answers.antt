@@ -12,8 +12,6 @@ use Rattle.api_c.proofs.record.to_state.Goals as goal
 
 pub returns : goal.returns
 returns c =
-    let fit : SFits w32 (get_or c.args.slots 0 (pos 0)) =
-    search rules in
-    state_of c.args.slots _ _ _
-    (c.place_from-place.ensures ∙ ap place_of_c (to_z-of_z fit))
-    c.copy.ensures c.copy-2.ensures
+    let fit : SFits w32 (get_or c.args.slots 0 (pos 0)) = search rules in
+    state_of c.args.slots _ _ _ (c.place_from-place.ensures ∙ ap place_of_c (to_z-of_z fit)) c.copy_from_slice.ensures.after
+    c.copy_from_slice-2.ensures.after

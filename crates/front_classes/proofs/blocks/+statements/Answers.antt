@@ -34,17 +34,16 @@ statement-if_statement-requires t c = omega arith
 pub statement-while_statement-requires : goal.statement-while_statement-requires
 statement-while_statement-requires t c = omega arith
 
-pub statement-returns-then-kind-eq-WAIT : goal.statement-returns-then-kind-eq-WAIT
-statement-returns-then-kind-eq-WAIT t c = wait_is (sym c.number-kind.ensures ∙ c.if-kind-eq-WAIT.true)
+pub statement-returns-in-0 : goal.statement-returns-in-0
+statement-returns-in-0 t c = wait_is (sym c.number.ensures ∙ c.in-0.is)
 
-pub statement-returns : goal.statement-returns
-statement-returns t c = plain_is (λ z. c.if-kind-eq-IF.false (c.number-kind.ensures ∙ z))
-    (λ z. c.if-kind-eq-WHILE.false (c.number-kind.ensures ∙ z)) (λ z. c.if-kind-eq-WAIT.false (c.number-kind.ensures ∙ z))
+pub statement-returns-in_default : goal.statement-returns-in_default
+statement-returns-in_default t c = plain_is (λ z. omega arith) (λ z. omega arith) (λ z. omega arith)
 
 pub while_statement-block-body-requires : goal.while_statement-block-body-requires
 while_statement-block-body-requires t c = omega arith
 
 pub while_statement-returns : goal.while_statement-returns
 while_statement-returns t c = while_is c.requires.0 c.requires.2 c.block-body.ensures
-    (c.place_at-place.ensures ∙ rw c.number.ensures) c.body_allowed.ensures c.offence-own.ensures c.while_class.ensures
+    (c.place-place.ensures ∙ rw c.number.ensures) c.body_allowed.ensures c.offence-own.ensures c.while_class.ensures
     c.lower.ensures

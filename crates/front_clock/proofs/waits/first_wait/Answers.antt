@@ -9,12 +9,12 @@ loop-j-init c = waiting_first _ _
 
 pub returns-then-rows-j-eq-WAIT : goal.returns-then-rows-j-eq-WAIT
 returns-then-rows-j-eq-WAIT c =
-    c.wide.ensures ∙
+    c.from.ensures ∙
     (waiting_found _ _ _ c.loop-j-test.true c.if-rows-j-eq-WAIT.true
-    c.loop-j.invariant ∙ ap (wait_from _ 0) c.at_most-end.ensures)
+    c.loop-j.invariant ∙ ap (wait_from _ 0) c.min-end.ensures)
 
 pub loop-j-preserved : goal.loop-j-preserved
 loop-j-preserved c = waiting_again _ _ _ c.loop-j-test.true c.if-rows-j-eq-WAIT.false c.loop-j.invariant
 
 pub returns : goal.returns
-returns c = waiting_stop _ _ _ c.loop-j-test.false c.loop-j.invariant ∙ ap (wait_from _ 0) c.at_most-end.ensures
+returns c = waiting_stop _ _ _ c.loop-j-test.false c.loop-j.invariant ∙ ap (wait_from _ 0) c.min-end.ensures

@@ -1,9 +1,12 @@
--- `front_scope::reads::readable` meets its contract: the test is that of `readable_in`. Assumes nothing.
-use Rattle.front_scope.proofs.Steps.{readable_output, readable_other}
+-- `front_scope::reads::readable` meets its contract: the tests are those of `readable_in`. Assumes nothing.
+use Rattle.std.proofs.Common.{rules}
+use Rattle.front_scope.specs.Positions.{readable_in}
 use Rattle.front_scope.proofs.reads.readable.Goals as goal
 
-pub returns-then-mode-eq-OUT : goal.returns-then-mode-eq-OUT
-returns-then-mode-eq-OUT c = readable_output _ c.if-mode-eq-OUT.true
+pub returns-then-mode-ne-OUT : goal.returns-then-mode-ne-OUT
+unfolding readable_in
+returns-then-mode-ne-OUT c = search rules
 
-pub returns : goal.returns
-returns c = readable_other _ c.if-mode-eq-OUT.false
+pub returns-else-mode-ne-OUT : goal.returns-else-mode-ne-OUT
+unfolding readable_in
+returns-else-mode-ne-OUT c = search rules

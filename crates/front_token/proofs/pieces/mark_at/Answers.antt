@@ -15,8 +15,8 @@ returns-then-opens_comment c =
     mark_comment _ c.args.at _ _
     (flag c.opens_comment.ensures c.if-opens_comment.true) c.comment_end.ensures
 
-pub returns : goal.returns
-returns c =
+pub returns-else-opens_comment : goal.returns-else-opens_comment
+returns-else-opens_comment c =
     c.fixed_at.ensures
     ∙ (ap (λ (l : List ℕ). placed (fixed_start fixed l) c.args.at)
     (drop-cons c.args.text.now c.args.at 0

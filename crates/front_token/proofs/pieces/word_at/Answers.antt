@@ -1,6 +1,5 @@
 -- `front_token::pieces::word_at` meets its contract: the part up to the end of the run is the word. Assumes nothing.
 use native.Mathlib.Omega.{arith}
-use borrow.Author.Tests.{not-true, not-false}
 use Rattle.spec_language.specs.Bytes.{in_word}
 use Rattle.front_token.proofs.ByteKinds.{flag}
 use Rattle.front_token.proofs.RunLaws.{run_within}
@@ -12,13 +11,10 @@ slice_bounds-word-end c =
     let w = run_within in_word c.args.text.now c.args.at c.requires.1 in
     let e = c.word_end-end.ensures in omega arith
 
-pub returns-then-not-well_made : goal.returns-then-not-well_made
-returns-then-not-well_made c = word_bad _ _ _ c.word_end-end.ensures (flag c.well_made.ensures (not-true _ c.if-not-well_made.true-raw))
+pub returns-else-well_made : goal.returns-else-well_made
+returns-else-well_made c = word_bad _ _ _ c.word_end-end.ensures (flag c.well_made.ensures c.if-well_made.false)
 
-pub returns : goal.returns
-returns c =
+pub returns-then-well_made : goal.returns-then-well_made
+returns-then-well_made c =
     word_good _ _ _ c.word_end-end.ensures _
-    (flag c.well_made.ensures (not-false _ c.if-not-well_made.false-raw)) c.word_kind.ensures
-
-pub slice_bounds-word-count : goal.slice_bounds-word-count
-slice_bounds-word-count c = let e = c.word_end-end.ensures in omega arith
+    (flag c.well_made.ensures c.if-well_made.true) c.word_kind.ensures

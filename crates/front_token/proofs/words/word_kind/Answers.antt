@@ -8,42 +8,14 @@ use Rattle.front_token.specs.Reserved.{of_size}
 use Rattle.front_token.proofs.WordLaws.{arms, by_none}
 use Rattle.front_token.proofs.words.word_kind.Goals as goal
 
-pub returns-in-2 : goal.returns-in-2
-unfolding of_size reserved bytes elem all
-returns-in-2 c = search arms
-
-pub returns-in-3 : goal.returns-in-3
-unfolding of_size reserved bytes elem all
-returns-in-3 c = search arms
-
-pub returns-in-4 : goal.returns-in-4
-unfolding of_size reserved bytes elem all
-returns-in-4 c = search arms
-
 pub returns-in-5 : goal.returns-in-5
-unfolding of_size reserved bytes elem all
+unfolding of_size reserved bytes
 returns-in-5 c = search arms
 
-pub returns-in-6 : goal.returns-in-6
-unfolding of_size reserved bytes elem all
-returns-in-6 c = search arms
-
-pub returns-in-7 : goal.returns-in-7
-unfolding of_size reserved bytes elem all
-returns-in-7 c = search arms
-
-pub returns-in-8 : goal.returns-in-8
-unfolding of_size reserved bytes elem all
-returns-in-8 c = search arms
-
-pub returns-in-9 : goal.returns-in-9
-unfolding of_size reserved bytes elem all
-returns-in-9 c = search arms
-
 pub returns-in-12 : goal.returns-in-12
-unfolding of_size reserved bytes elem all
+unfolding of_size reserved bytes
 returns-in-12 c = search arms
 
 pub returns-in_default : goal.returns-in_default
-unfolding of_size reserved bytes elem all
+unfolding reserved bytes elem all
 returns-in_default c = by_none (2 ∷ 3 ∷ 4 ∷ 5 ∷ 6 ∷ 7 ∷ 8 ∷ 9 ∷ 12 ∷ []) c.args.word.now refl c.in_default.in_default-own.rest

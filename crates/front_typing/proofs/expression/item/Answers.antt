@@ -1,7 +1,6 @@
 -- `front_typing::expression::item` meets its contract: an operand, an operator of one operand or of two, by its code. Assumes nothing.
 use Rattle.base_codes.specs.Stack.{stack_of}
-use Rattle.front_layout.specs.Arrays.{number_in}
-use Rattle.front_typing.specs.Expressions.{name_code}
+use Rattle.front_typing.specs.Expressions.{sources_of, name_at, place_at}
 use Rattle.front_typing.proofs.StackLaws.{step_operand, step_unary, step_binary}
 use Rattle.front_typing.proofs.expression.item.Goals as goal
 
@@ -11,7 +10,7 @@ push-requires c = c.requires
 pub returns-then-operands-eq0 : goal.returns-then-operands-eq0
 returns-then-operands-eq0 c =
     let s = c.args in
-    step_operand s.c (name_code s.owners.now s.decls.now s.d s.i) (number_in s.places.now s.n s.i)
+    step_operand s.c (name_at (sources_of s.tree.now) s.i) (place_at (sources_of s.tree.now) s.i)
     c.operand_type-t.result c.operands-operands.result
     (stack_of 0 s.stack.now s.p.depth) s.p.lowest c.operands-operands.ensures c.if-operands-eq0.true
     c.operand_type-t.ensures c.push.ensures
@@ -22,10 +21,10 @@ unary-requires c = c.requires
 pub returns-then-operands-eq1 : goal.returns-then-operands-eq1
 returns-then-operands-eq1 c =
     let s = c.args in
-    step_unary s.c (name_code s.owners.now s.decls.now s.d s.i) (number_in s.places.now s.n s.i)
-    c.place_at-place.result c.operands-operands.result
+    step_unary s.c (name_at (sources_of s.tree.now) s.i) (place_at (sources_of s.tree.now) s.i)
+    c.place-place.result c.operands-operands.result
     (stack_of 0 s.stack.now s.p.depth) s.p.lowest c.operands-operands.ensures
-    c.if-operands-eq0.false c.if-operands-eq1.true c.place_at-place.ensures c.unary.ensures
+    c.if-operands-eq0.false c.if-operands-eq1.true c.place-place.ensures c.unary.ensures
 
 pub binary-requires : goal.binary-requires
 binary-requires c = c.requires
@@ -33,7 +32,7 @@ binary-requires c = c.requires
 pub returns : goal.returns
 returns c =
     let s = c.args in
-    step_binary s.c (name_code s.owners.now s.decls.now s.d s.i) (number_in s.places.now s.n s.i)
-    c.place_at-place.result c.operands-operands.result
+    step_binary s.c (name_at (sources_of s.tree.now) s.i) (place_at (sources_of s.tree.now) s.i)
+    c.place-place.result c.operands-operands.result
     (stack_of 0 s.stack.now s.p.depth) s.p.lowest c.operands-operands.ensures
-    c.if-operands-eq0.false c.if-operands-eq1.false c.place_at-place.ensures c.binary.ensures
+    c.if-operands-eq0.false c.if-operands-eq1.false c.place-place.ensures c.binary.ensures

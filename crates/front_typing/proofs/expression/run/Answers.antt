@@ -1,12 +1,11 @@
--- `front_typing::expression::run` meets its contract. The invariant: the items from `m` on make of the stack what the whole makes. The measure is what is left.
--- Assumes nothing.
-use Rattle.front_typing.specs.Expressions.{sources}
+-- `front_typing::expression::run` meets its contract. The invariant: the items from `m` on make of the stack what the whole makes. Assumes nothing.
+use Rattle.front_typing.specs.Expressions.{sources_of}
 use Rattle.front_typing.proofs.StackLaws.{left_first, left_again, left_stop}
 use Rattle.front_typing.proofs.expression.run.Goals as goal
 
 pub loop-m-init : goal.loop-m-init
 loop-m-init c =
-    let s = c.args in left_first (sources s.codes.now s.indices.now s.places.now s.owners.now s.decls.now s.n s.d)
+    let s = c.args in left_first (sources_of s.tree.now)
     s.span.from s.span.to s.stack.now c.requires.0
 
 pub item-p-requires : goal.item-p-requires
@@ -16,12 +15,12 @@ pub loop-m-preserved : goal.loop-m-preserved
 loop-m-preserved c =
     let s = c.args in
     let m = c.loop-m in
-    left_again (sources s.codes.now s.indices.now s.places.now s.owners.now s.decls.now s.n s.d) s.span.from s.span.to
+    left_again (sources_of s.tree.now) s.span.from s.span.to
     m.stack _ m.p.depth m.p.lowest m.m c.item-p.result m.invariant c.loop-m-test.true
-    (rw c.wide_index-i.ensures at c.item-p.ensures)
+    (rw c.from-i.ensures at c.item-p.ensures)
 
 pub returns : goal.returns
 returns c =
     let s = c.args in left_stop
-    (sources s.codes.now s.indices.now s.places.now s.owners.now s.decls.now s.n s.d) s.span.from s.span.to
+    (sources_of s.tree.now) s.span.from s.span.to
     c.loop-m.stack c.loop-m.p c.loop-m.m c.loop-m.invariant c.loop-m-test.false

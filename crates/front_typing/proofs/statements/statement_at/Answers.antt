@@ -1,30 +1,24 @@
 -- `front_typing::statements::statement_at` meets its contract: its numbers are those of the row. Assumes nothing.
-use Rattle.front_typing.specs.Expressions.{sources}
+use mathlib.Core.Path.{◌∙◌}
+use Rattle.front_typing.specs.Expressions.{sources_of}
 use Rattle.front_typing.proofs.StatementLaws.{statement_judged, statement_outside}
 use Rattle.front_typing.proofs.statements.statement_at.Goals as goal
 
 pub expression-e-requires : goal.expression-e-requires
-expression-e-requires c = c.if-to-le-TEXT.true
+expression-e-requires c = c.if-to-gt-TEXT.false
 
-pub returns-then-to-le-TEXT : goal.returns-then-to-le-TEXT
-returns-then-to-le-TEXT c =
+pub returns-then-to-gt-TEXT : goal.returns-then-to-gt-TEXT
+returns-then-to-gt-TEXT c =
     let s = c.args in
-    let field = c.field-to in
-    let if1 = c.if-to-le-TEXT in
-    let field2 = c.field-from in
-    let expression = c.expression-e in
-    let field3 = c.field-i in
-    let field4 = c.field in
-    let wanted-type = c.wanted_type-wanted in
-    let fitting = c.fits in
-    let place_at = c.place_at in
-    statement_judged (sources s.codes.now s.indices.now s.places.now s.owners.now s.decls.now s.n s.d) s.rows.now s.j
-    field4.result field3.result field2.result field.result wanted-type.result place_at.result c.offence-wrong.result c.lower.result
-    expression.result fitting.result field4.ensures field3.ensures field2.ensures field.ensures if1.true expression.ensures
-    wanted-type.ensures fitting.ensures place_at.ensures c.offence-wrong.ensures c.lower.ensures
+    statement_outside (sources_of s.tree.now) s.tree.now.rows.now s.j
+    c.from-to.result (c.from-to.ensures ∙ c.statement.ensures) c.if-to-gt-TEXT.true
 
 pub returns : goal.returns
 returns c =
     let s = c.args in
-    statement_outside (sources s.codes.now s.indices.now s.places.now s.owners.now s.decls.now s.n s.d) s.rows.now s.j
-    c.field-to.result c.field-to.ensures c.if-to-le-TEXT.false
+    statement_judged (sources_of s.tree.now) s.tree.now.rows.now s.j
+    c.statement-4.result c.from-i.result c.from-from.result c.from-to.result c.wanted_type-wanted.result c.place.result
+    c.offence-wrong.result c.lower.result c.expression-e.result c.fits.result
+    c.statement-4.ensures (c.from-i.ensures ∙ c.statement-3.ensures) (c.from-from.ensures ∙ c.statement-2.ensures) (c.from-to.ensures ∙ c.statement.ensures)
+    c.if-to-gt-TEXT.false c.expression-e.ensures c.wanted_type-wanted.ensures c.fits.ensures c.place.ensures c.offence-wrong.ensures
+    c.lower.ensures

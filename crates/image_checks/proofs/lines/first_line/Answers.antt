@@ -10,4 +10,4 @@ returns-then-place-eq-BEGINNING c =
 
 pub returns : goal.returns
 returns c =
-    let a = c.args in record { value = (λ t s code e h. c.word2.ensures.value ∙ from_wait s a.lines.now code t e a.place c.if-place-eq-BEGINNING.false h); upper_bound = search rules }
+    let a = c.args in record { value = (λ t s code e h. (rw c.from.ensures at c.word2.ensures.value) ∙ from_wait s a.lines.now code t e a.place c.if-place-eq-BEGINNING.false h); upper_bound = search rules }

@@ -1,11 +1,7 @@
-use Prim.Native.Nat.{◌-◌}
 use mathlib.Core.Path.{◌≡◌}
-use lib.ListN.{length, drop}
+use lib.ListN.{drop}
 use Rattle.image_checks.specs.Places.{wrong_from}
 use Rattle.image_checks.proofs.rows.first_wrong.Given as goal
 
 abbrev pub invariant-loop-k : goal.invariant-loop-k
 invariant-loop-k l = wrong_from l.signature l.k (drop l.k l.inputs) ≡ wrong_from l.signature 0 l.inputs
-
-abbrev pub decreases-loop-k : goal.decreases-loop-k
-decreases-loop-k l = length l.inputs - l.k

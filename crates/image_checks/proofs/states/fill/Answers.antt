@@ -1,10 +1,9 @@
--- `image_checks::states::fill` meets its contract. The loop's invariant: the first `k` slots hold what they are to hold. The measure is what is left of
--- the slots. Assumes nothing.
+-- `image_checks::states::fill` meets its contract. The loop's invariant: the first `k` slots hold what they are to hold. Assumes nothing.
 use Prim.Native.Nat.{◌<◌}
-use mathlib.Core.Path.{refl, ◌∙◌}
+use mathlib.Core.Path.{◌≡◌, ◌∙◌}
 use native.Mathlib.Omega.{arith}
 use borrow.Author.Rules.{rules}
-use lib.ListN.{length, length-set}
+use lib.ListN.{length}
 use lib.Seq.{take_all}
 use mir.Syntax.{w32}
 use mir.Val.{SFits}
@@ -15,50 +14,22 @@ use Rattle.image_checks.specs.Places.{initials_at}
 use Rattle.image_checks.proofs.Steps.{filled_at}
 use Rattle.image_checks.proofs.states.fill.Goals as goal
 
-pub loop-k-init : goal.loop-k-init
-loop-k-init c = (refl, search rules, refl)
-
-pub overflow_mul-k : goal.overflow_mul-k
-overflow_mul-k c = omega arith
-
-pub overflow_add-at : goal.overflow_add-at
-overflow_add-at c = omega arith
-
-pub overflow_add-at-in-loop-k : goal.overflow_add-at-in-loop-k
-overflow_add-at-in-loop-k c = omega arith
-
-pub offset_bounds-slots-k : goal.offset_bounds-slots-k
-offset_bounds-slots-k c = omega arith
-
-pub bounds-slots-k : goal.bounds-slots-k
-bounds-slots-k c = omega arith
-
-pub overflow_add-k : goal.overflow_add-k
-overflow_add-k c = omega arith
-
-pub loop-k-smaller : goal.loop-k-smaller
-loop-k-smaller c = omega arith
-
 pub loop-k-preserved : goal.loop-k-preserved
 loop-k-preserved c =
     let a = c.args in
     let m = length a.slots.now in
     let p = pad_length m (initials_at a.signature.now a.at a.n) in
-    let h : c.loop-k.k < length c.loop-k.slots = c.loop-k-test.true in
-    let j : c.loop-k.k < m = omega arith in
+    let j = c.loop-k-test.true in
+    let h : c.loop-k.k < length c.loop-k.slots = omega arith in
     let g : c.loop-k.k < length (pad m (initials_at a.signature.now a.at a.n)) = omega arith in
-    let fit : SFits w32 c.initial.result = search rules in (
-      simp length-set c.loop-k.invariant.0,
-      omega arith,
-      row_more _ _ _ _ h g c.loop-k.invariant.2 (to_z-of_z fit ∙ c.initial.ensures ∙ filled_at a.signature.now a.at a.n m c.loop-k.k j),
-    )
-
-pub shape_of-slots : goal.shape_of-slots
-shape_of-slots c = c.loop-k.invariant.0
+    let fit : SFits w32 c.initial.result = search rules in
+    row_more _ _ _ _ h g c.loop-k.invariant (to_z-of_z fit ∙ c.initial.ensures ∙ filled_at a.signature.now a.at a.n m c.loop-k.k j)
 
 pub returns : goal.returns
 returns c =
     let a = c.args in
     let m = length a.slots.now in
     let p = pad_length m (initials_at a.signature.now a.at a.n) in
-    row_whole _ _ _ _ c.loop-k.invariant.0 c.loop-k.invariant.1 c.loop-k-test.false c.loop-k.invariant.2 ∙ take_all m _ (omega arith)
+    let e : length c.loop-k.slots ≡ m = c.loop-k.auto.slots in
+    let t = c.loop-k-test.false in
+    row_whole _ _ _ _ e (omega arith) (omega arith) c.loop-k.invariant ∙ take_all m _ (omega arith)

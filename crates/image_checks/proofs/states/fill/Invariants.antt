@@ -1,4 +1,3 @@
-use Prim.Native.Nat.{◌≤◌, ◌-◌}
 use mathlib.Core.Path.{◌≡◌}
 use lib.ListN.{length, take}
 use Rattle.spec_semantics.specs.Records.{pad}
@@ -6,7 +5,4 @@ use Rattle.image_checks.specs.Places.{initials_at}
 use Rattle.image_checks.proofs.states.fill.Given as goal
 
 abbrev pub invariant-loop-k : goal.invariant-loop-k
-invariant-loop-k l = (length l.slots ≡ length l.initial.slots) × (l.k ≤ length l.initial.slots) × (take l.k l.slots ≡ take l.k (pad (length l.initial.slots) (initials_at l.signature l.at l.n)))
-
-abbrev pub decreases-loop-k : goal.decreases-loop-k
-decreases-loop-k l = length l.initial.slots - l.k
+invariant-loop-k l = take l.k l.slots ≡ take l.k (pad (length l.initial.slots) (initials_at l.signature l.at l.n))

@@ -1,39 +1,34 @@
 -- `image_checks::states::state_ok` meets its contract: place, outputs and variables in turn, each by its bytes. Assumes nothing.
-use mathlib.Core.Path.{◌≡◌, sym, ◌∙◌}
+use mathlib.Core.Path.{◌≡◌, ◌∙◌}
+use mathlib.Core.Bool.{◌&&◌}
+use native.Mathlib.Omega.{arith}
 use borrow.Author.Rules.{rules}
-use lib.ListN.{length}
-use Rattle.image_checks.proofs.Judged.{place_wrong, outputs_wrong, variables_judged}
+use lib.ListN.{length, get_or}
+use Rattle.std.proofs.lemmas.Grind.{common_steps}
+use Rattle.image_checks.specs.Places.{outputs_at, variables_at, slots_at, place_at}
+use Rattle.image_checks.proofs.Judged.{state_judged}
 use Rattle.image_checks.proofs.states.state_ok.Goals as goal
 
-pub returns-then-not-placed : goal.returns-then-not-placed
-returns-then-not-placed c =
+pub returns-then-slots_ok : goal.returns-then-slots_ok
+returns-then-slots_ok c =
+    let a = c.args in
     -- a state record has 16 and 32 slots
-    let o : length c.args.s.outputs ≡ 16 = search rules in
-    let v : length c.args.s.variables ≡ 32 = search rules in
-    place_wrong c.args.signature.now c.args.lines.now c.args.s o v
-    (sym c.place_ok-placed.ensures ∙ c.if-not-placed.true)
+    let o : length a.s.outputs ≡ 16 = search rules in
+    let v : length a.s.variables ≡ 32 = search rules in
+    let g = a.signature.now in
+    let q : c.slots_ok-then-slots_ok.result
+    ≡ (place_at a.lines.now a.s.place && (slots_at g (outputs_at g) (get_or g 1 0) a.s.outputs && slots_at g (variables_at g) (get_or g 2 0) a.s.variables)) =
+    grind (arith, common_steps) in
+    λ t code e. q ∙ state_judged g a.lines.now a.s o v t code e
 
-pub returns-then-not-right : goal.returns-then-not-right
-returns-then-not-right c =
+pub returns-else-slots_ok : goal.returns-else-slots_ok
+returns-else-slots_ok c =
+    let a = c.args in
     -- a state record has 16 and 32 slots
-    let o : length c.args.s.outputs ≡ 16 = search rules in
-    let v : length c.args.s.variables ≡ 32 = search rules in
-    outputs_wrong c.args.signature.now c.args.lines.now c.args.s o v
-    (sym c.place_ok-placed.ensures ∙ c.if-not-placed.false)
-    c.outputs_at.result c.count.result
-    c.outputs_at.ensures.value c.count.ensures.value
-    (sym c.slots_ok-right.ensures ∙ c.if-not-right.true)
-
-pub returns : goal.returns
-returns c =
-    -- a state record has 16 and 32 slots
-    let o : length c.args.s.outputs ≡ 16 = search rules in
-    let v : length c.args.s.variables ≡ 32 = search rules in
-    λ t code e. c.slots_ok.ensures
-    ∙ variables_judged c.args.signature.now c.args.lines.now c.args.s o v
-    (sym c.place_ok-placed.ensures ∙ c.if-not-placed.false)
-    c.outputs_at.result c.count.result
-    c.outputs_at.ensures.value c.count.ensures.value
-    (sym c.slots_ok-right.ensures ∙ c.if-not-right.false)
-    c.variables_at.result c.count-2.result
-    c.variables_at.ensures.value c.count-2.ensures.value t code e
+    let o : length a.s.outputs ≡ 16 = search rules in
+    let v : length a.s.variables ≡ 32 = search rules in
+    let g = a.signature.now in
+    let q : c.if-place_ok.value
+    ≡ (place_at a.lines.now a.s.place && (slots_at g (outputs_at g) (get_or g 1 0) a.s.outputs && slots_at g (variables_at g) (get_or g 2 0) a.s.variables)) =
+    grind (arith, common_steps) in
+    λ t code e. q ∙ state_judged g a.lines.now a.s o v t code e

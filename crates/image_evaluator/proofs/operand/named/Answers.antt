@@ -14,7 +14,7 @@ unfolding width_of
 returns-then-code-at c =
     let w : c.width.result ≡ 2 = c.width.ensures.value in
     name_short c.args.code.now c.args.at
-    c.args.kinds.now c.args.row.now (rw w at c.if-code-at.true)
+    c.args.row.now.kinds.now c.args.row.now.values.now (rw w at c.if-code-at.true)
 
 pub bounds-code-at : goal.bounds-code-at
 unfolding width_of
@@ -23,25 +23,25 @@ bounds-code-at c =
     let h = c.if-code-at.false in
     omega arith
 
-pub returns-then-kinds-k : goal.returns-then-kinds-k
+pub returns-then-row-k : goal.returns-then-row-k
 unfolding width_of
-returns-then-kinds-k c =
+returns-then-row-k c =
     let w : c.width.result ≡ 2 = c.width.ensures.value in
     name_unknown c.args.code.now
-    c.args.at c.args.kinds.now
-    c.args.row.now (rw w at c.if-code-at.false)
-    (rw c.wide-k.ensures.value at c.if-kinds-k.true)
+    c.args.at c.args.row.now.kinds.now
+    c.args.row.now.values.now (rw w at c.if-code-at.false)
+    (rw c.from-k.ensures at c.if-row-k.true)
 
 pub returns : goal.returns
 unfolding width_of
 returns c =
     let w : c.width.result ≡ 2 =
     c.width.ensures.value in
-    let k = c.wide-k.ensures.value in
+    let k = c.from-k.ensures in
     let fit : SFits w32 c.number-v.result = search rules in
     rw (to_z-of_z fit, c.number-v.ensures, c.tag-t.ensures, k)
     (name_found c.args.code.now
     c.args.at
-    c.args.kinds.now
-    c.args.row.now
-    (rw w at c.if-code-at.false) (rw k at c.if-kinds-k.false))
+    c.args.row.now.kinds.now
+    c.args.row.now.values.now
+    (rw w at c.if-code-at.false) (rw k at c.if-row-k.false))

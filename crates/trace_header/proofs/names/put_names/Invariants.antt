@@ -1,11 +1,7 @@
-use mathlib.Core.Path.{◌≡◌}
-use Prim.Native.Nat.{◌-◌, min}
+use Prim.Native.Nat.{min}
 use Rattle.trace_header.specs.Positions.{label_at}
 use Rattle.trace_header.proofs.Putting.{Lists}
 use Rattle.trace_header.proofs.names.put_names.Given as goal
 
 abbrev pub invariant-loop-k : goal.invariant-loop-k
-invariant-loop-k l = (l.end ≡ min l.count 32) × Lists (label_at l.text l.starts l.sizes) l.initial.out l.m (min l.count 32) l.end l.out l.next l.k
-
-abbrev pub decreases-loop-k : goal.decreases-loop-k
-decreases-loop-k l = l.end - l.k
+invariant-loop-k l = Lists (label_at l.text l.starts l.sizes) l.initial.out l.m (min l.count 32) l.k-end l.out l.next l.k

@@ -1,7 +1,0 @@
--- `front_token::bytes::byte_at` meets its contract: past the end there is 0. Assumes nothing.
-use mathlib.Core.Path.{sym}
-use lib.ListN.{get_or-eq_default}
-use Rattle.front_token.proofs.bytes.byte_at.Goals as goal
-
-pub returns : goal.returns
-returns c = sym (get_or-eq_default c.args.text.now 0 c.if-at-text.false)
