@@ -1,5 +1,5 @@
 //! Keeps the documents true: writes the parts of them that can be computed (the table of crates, their graph), and finds names, paths and numbers in them
-//! that do not exist. It reads README.md, tests/README.md and docs/*.md but docs/LANDINGS.md and docs/PORT.md, which are history, and speak in the
+//! that do not exist. It reads README.md, tests/README.md and docs/*.md but docs/LANDINGS.md, docs/PORT.md and docs/DESIGN-PASS.md, which are history, and speak in the
 //! names of their day, and docs/source, which has the documents that the repository is held to and says nothing of the repository.
 
 pub mod bounds;

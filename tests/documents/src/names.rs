@@ -132,7 +132,7 @@ fn code_path(content: &str) -> Option<Vec<String>> {
     (parts.len() > 1 && parts.iter().all(is_name)).then_some(parts)
 }
 
-/// Whether a path in code leads to a name: a crate first, or a module of the owner, or of any crate.
+/// Whether a path in code leads to a name: a crate first, or a module of the owner, or of any crate, or a type that stands in one source file with what it has.
 fn path_in_code(project: &Project, path: &[String], owner: Option<&str>) -> Option<String> {
     let written = path.join("::");
     let (first, rest) = (&path[0], &path[1..]);
@@ -143,12 +143,14 @@ fn path_in_code(project: &Project, path: &[String], owner: Option<&str>) -> Opti
     }
     let last = &rest[rest.len() - 1];
     let end = format!("/src/{first}.rt");
+    let is_type = first.starts_with(char::is_uppercase);
     let inside = owner.map(|name| format!("crates/{name}/"));
     let has_it = |file: &&String| {
         inside
             .as_ref()
             .is_none_or(|folder| file.starts_with(folder))
-            && file.ends_with(&end)
+            && (file.ends_with(&end)
+                || is_type && file.ends_with(".rt") && has_block(project, file, first))
             && project.has_word_in(file, last)
     };
     let found = project.files.iter().find(has_it);
@@ -159,6 +161,24 @@ fn path_in_code(project: &Project, path: &[String], owner: Option<&str>) -> Opti
             "`{written}`: no crate has a module {first} with {last}"
         )),
     }
+}
+
+/// Whether a source file has a block of a type or a trait by this name: `struct`, `enum`, `trait` or `impl`.
+fn has_block(project: &Project, file: &str, name: &str) -> bool {
+    let begins = |line: &str| {
+        let words: Vec<&str> = line
+            .split(|c: char| !is_word(c))
+            .filter(|w| !w.is_empty())
+            .collect();
+        let opens = words
+            .iter()
+            .position(|w| ["struct", "enum", "trait", "impl"].contains(w));
+        opens.is_some_and(|i| words[i + 1..].contains(&name))
+    };
+    project.text(file).is_ok_and(|text| {
+        text.lines()
+            .any(|line| !line.starts_with("//") && begins(line))
+    })
 }
 
 /// The names in what stands in backticks: the whole, if it is one word; else those of its words that can only be names.

@@ -6,6 +6,9 @@ use std::fs;
 use std::io;
 use std::path::{Path, PathBuf};
 
+/// The documents that speak in the names of their day.
+const HISTORY: [&str; 3] = ["docs/LANDINGS.md", "docs/PORT.md", "docs/DESIGN-PASS.md"];
+
 /// A line of crates.txt, with the header comment of the crate's first source file.
 pub struct Crate {
     pub name: String,
@@ -96,7 +99,7 @@ impl Project {
             })
     }
 
-    /// README.md, what stands in docs/, but for the history (landings, the port) and the sources, and tests/README.md.
+    /// README.md, what stands in docs/, but for the history (landings, the port, the design pass) and the sources, and tests/README.md.
     pub fn documents(&self) -> Vec<Document> {
         let is_document = |f: &&String| {
             ["README.md", "tests/README.md"].contains(&f.as_str())
@@ -106,9 +109,7 @@ impl Project {
         self.files
             .iter()
             .filter(is_document)
-            .filter(|f| {
-                !["docs/LANDINGS.md", "docs/PORT.md"].contains(&f.as_str()) && !is_source(f)
-            })
+            .filter(|f| !HISTORY.contains(&f.as_str()) && !is_source(f))
             .map(|f| Document::new(f, &self.text(f).unwrap_or_default()))
             .collect()
     }
