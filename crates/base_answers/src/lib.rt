@@ -2,12 +2,15 @@
 // What the public operations take and answer: the state record, the refusals of document 01's table, and what a call that was done tells; each answers a `Result`.
 pub mod numbers;
 
-ghost use Rattle.std.specs.Prelude.{◌≡◌, Err};
+ghost use Rattle.std.specs.Prelude.{◌≡◌, ℕ, Err};
 ghost use Rattle.base_codes.specs.Fault.{number_of as fault_number};
 ghost use Rattle.base_answers.specs.Answers.{number_of, place_of, operator_refusal};
 
 use base_codes::fault::Fault;
 use base_codes::limit;
+
+// The row "zero divisor" of the table.
+const ZERO_DIVISOR: u8 = 18;
 
 // "A place (512 for the beginning, else a wait's line), 16 output and 32 variable slots".
 #[derive(Clone, Copy, Debug, PartialEq, Eq)]
@@ -70,14 +73,42 @@ pub struct FreshState {
     pub answer: Result<(), Refusal>,
 }
 
-// The refusal of an operator on a line: 18 for a zero divisor, else 16.
-pub fn operator_refusal(why: Fault, line: usize) -> Refusal
-    ensures { result ≡ operator_refusal (fault_number why) line }
-{
-    match why {
-        Fault::ZeroDivisor => Refusal::ZeroDivisor(line),
-        Fault::OutOfRange | Fault::NoExpression => Refusal::OutOfRange(line),
+// What tells by which row of the table an operator is refused: a fault, or the row's number itself.
+pub trait Numbered {
+    ghost number: { Self → ℕ };
+
+    fn number(self) -> u8
+        ensures { result ≡ number self };
+}
+
+impl Numbered for Fault {
+    ghost number = { fault_number };
+
+    fn number(self) -> u8 {
+        match self {
+            Fault::NoExpression => 13,
+            Fault::OutOfRange => 16,
+            Fault::ZeroDivisor => ZERO_DIVISOR,
+        }
     }
+}
+
+impl Numbered for u8 {
+    ghost number = { λ n. n };
+
+    fn number(self) -> u8 {
+        self
+    }
+}
+
+// The refusal of an operator on a line: 18 for a zero divisor, else 16.
+pub fn operator_refusal<N: Numbered>(why: N, line: usize) -> Refusal
+    ensures { result ≡ operator_refusal (N.number why) line }
+{
+    if why.number() == ZERO_DIVISOR {
+        return Refusal::ZeroDivisor(line);
+    }
+    Refusal::OutOfRange(line)
 }
 
 // A refused cycle: the state as it came.

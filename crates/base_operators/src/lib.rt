@@ -146,7 +146,7 @@ fn apply_by_table(stack: &mut [i32; limit::ITEMS], i: usize, op: u8, t: u8) -> R
 }
 
 // The same for + and - of integers, without a look at the table.
-fn apply_sum(stack: &mut [i32; limit::ITEMS], i: usize, op: u8) -> Result<(), Fault>
+pub fn apply_sum(stack: &mut [i32; limit::ITEMS], i: usize, op: u8) -> Result<(), Fault>
     requires { (length stack.old ≡ ITEMS) × (i + 1 < ITEMS) × (PLUS ≤ op) × (op ≤ MINUS) }
     ensures { Applied (binary_by (binary_for op) (some (plain integer)) (get_or stack.old i (pos 0)) (get_or stack.old (i + 1) (pos 0)))
         stack.old i stack.new result }

@@ -1,9 +1,10 @@
 #![tactic(auto)]
-// 32-bit integers of document 01, exact: sums and products through 64 bits, quotients by the division that tells what the machine does not divide,
-// two's complement, the values of a type. No other crate computes with signed numbers.
-ghost use Rattle.std.specs.Prelude.{◌≡◌, cond, ◌+ℤ◌, ◌-ℤ◌, ◌*ℤ◌, neg_ℤ};
+// 32-bit integers of document 01, exact: sums and products through 64 bits, quotients behind tests of what the machine does not divide,
+// two's complement, the values of a type. The operators of a text that can be refused are computed here and nowhere else.
+ghost use Rattle.std.specs.Prelude.{◌≡◌, ◌&&◌, cond, negsuc, ◌+ℤ◌, ◌-ℤ◌, ◌*ℤ◌, neg_ℤ};
 ghost use Rattle.std.specs.Int.Signed.{quot_z, rem_z};
 ghost use Rattle.spec_design.specs.Expression.{fine};
+ghost use Rattle.spec_design.specs.Types.{eq_z};
 ghost use Rattle.base_codes.specs.Fault.{outcome};
 ghost use Rattle.spec_semantics.specs.Division.{to_sign, mod_z, by_nonzero};
 ghost use Rattle.spec_semantics.specs.Evaluation.{as_integer, bit_of, is_one};
@@ -57,14 +58,23 @@ pub fn multiply(x: i32, y: i32) -> Result<i32, Fault>
     narrow((x as i64) * (y as i64))
 }
 
-// The operator /, which cuts toward zero as the machine's does. One quotient is no integer, that of the least integer by -1.
+// The one quotient of integers that is no integer; the machine divides neither these two nor any number by 0.
+fn least_by_minus_one(x: i32, y: i32) -> bool
+    ensures { result ≡ (eq_z x (negsuc 2147483647) && eq_z y (negsuc 0)) }
+{
+    x == i32::MIN && y == -1
+}
+
+// The operator /, which cuts toward zero as the machine's does.
 pub fn divide(x: i32, y: i32) -> Result<i32, Fault>
     ensures { outcome result ≡ by_nonzero y (as_integer (quot_z x y)) }
 {
     if y == 0 {
         Err(Fault::ZeroDivisor)
+    } else if least_by_minus_one(x, y) {
+        Err(Fault::OutOfRange)
     } else {
-        x.checked_div(y).ok_or(Fault::OutOfRange)
+        Ok(x / y)
     }
 }
 
@@ -85,7 +95,10 @@ pub fn modulus(x: i32, y: i32) -> Result<i32, Fault>
     if y == 0 {
         return Err(Fault::ZeroDivisor);
     }
-    Ok(to_sign(x.wrapping_rem(y), y))
+    if least_by_minus_one(x, y) {
+        return Ok(0);
+    }
+    Ok(to_sign(x % y, y))
 }
 
 // The operator rem, with the sign of the left operand, as the machine's has.
@@ -95,7 +108,10 @@ pub fn remainder(x: i32, y: i32) -> Result<i32, Fault>
     if y == 0 {
         return Err(Fault::ZeroDivisor);
     }
-    Ok(x.wrapping_rem(y))
+    if least_by_minus_one(x, y) {
+        return Ok(0);
+    }
+    Ok(x % y)
 }
 
 // The number of a std_logic or a boolean: 1 where it is true.

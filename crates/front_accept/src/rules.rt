@@ -37,13 +37,13 @@ pub(crate) fn judge(text: &[u8], sizes: &[u16; limit::TEXT], tree: &Tree) -> Res
     if let Some(place) = front_typing::judge(tree) {
         return Err(Refusal::WrongType(place));
     }
-    if let Some(place) = front_values::judge(tree) {
+    if let Some(place) = front_values::judge(tree.starts, tree.shape, tree.decls) {
         return Err(Refusal::NoValue(place));
     }
     if let Some(place) = front_clock::judge(tree) {
         return Err(Refusal::WrongClock(place));
     }
-    if let Some(place) = front_classes::judge(tree) {
+    if let Some(place) = front_classes::judge(tree.starts, tree.shape, tree.rows) {
         return Err(Refusal::WrongClass(place));
     }
     Ok(())

@@ -7,7 +7,6 @@ use Rattle.front_layout.specs.Tokens.{token_at}
 use Rattle.front_layout.specs.Entries.{body_entries}
 use Rattle.front_layout.specs.Arrays.{TokensIn, RowsIn}
 use Rattle.front_offences.specs.declared.Shape.{Shape}
-use Rattle.front_offences.specs.declared.tree.Tree.{Tree}
 use Rattle.front_offences.specs.Judged.{Judged}
 use Rattle.front_classes.specs.Positions.{lowest_in}
 
@@ -21,5 +20,5 @@ pub record Held (starts : List ℕ) (p : Shape) (rows : List ℕ) (t : Text) : T
 
 -- the stage's answer: the lowest place by position; and for such a tree the lowest offence of refusal 9,
 -- "while with a classed body that is not C; if none, process body not C"
-abbrev pub Judges : Tree → Option ℕ → Type 0
-Judges tree r = Judged (lowest_in tree.starts.now tree.shape tree.rows.now) (Held tree.starts.now tree.shape tree.rows.now) loops r
+abbrev pub Judges : List ℕ → Shape → List ℕ → Option ℕ → Type 0
+Judges starts p rows r = Judged (lowest_in starts p rows) (Held starts p rows) loops r

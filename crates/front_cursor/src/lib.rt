@@ -1,8 +1,9 @@
 #![tactic(auto)]
 // A cursor over token arrays: the kind of a token, and the steps that take one token or refuse it.
-ghost use Rattle.std.specs.Prelude.{◌≡◌, ◌+◌, ◌<◌, ◌≤◌, eqb};
+ghost use Rattle.std.specs.Prelude.{◌≡◌, ◌+◌, ◌<◌, ◌≤◌, eqb, false};
+ghost use Rattle.spec_grammar.specs.Reader.{choose};
 ghost use Rattle.front_layout.specs.Tokens.{kind_in, flag_in};
-ghost use Rattle.front_cursor.specs.Reading.{Asks, here, as_read, item_at, expect_one};
+ghost use Rattle.front_cursor.specs.Reading.{Read, Asks, here, as_read, item_at, expect_one};
 
 use base_codes::limit;
 
@@ -19,6 +20,30 @@ pub struct Cursor {
     pub at: usize,
     pub items: usize,
     pub written: usize,
+}
+
+// Where a reader is called: at a cursor, or with what the reader before it answered. What has refused is handed back.
+pub trait Reached {
+    ghost read: { Self → Read };
+
+    fn reached(self) -> Result<Cursor, Unread>
+        ensures { as_read result ≡ read self };
+}
+
+impl Reached for Cursor {
+    ghost read = { here };
+
+    fn reached(self) -> Result<Cursor, Unread> {
+        Ok(self)
+    }
+}
+
+impl Reached for Result<Cursor, Unread> {
+    ghost read = { as_read };
+
+    fn reached(self) -> Self {
+        self
+    }
 }
 
 // The tokens of a text as readers see them: the kind of each, a 1 where one passes a limit wherever it stands, and how many there are.
@@ -40,10 +65,11 @@ impl Tokens<'_> {
     }
 
     // Takes the token as an item of an expression, or refuses it by a limit.
-    pub fn item(self, q: Cursor) -> Result<Cursor, Unread>
-        requires { (q.at < 16384) × (q.items ≤ 64) }
-        ensures { as_read result ≡ item_at (flag_in self.entry.long.now q.at) (here q) }
+    pub fn item<Q: Reached>(self, q: Q) -> Result<Cursor, Unread>
+        requires { ((Q.read q).at < 16384) × ((Q.read q).items ≤ 64) }
+        ensures { as_read result ≡ item_at (flag_in self.entry.long.now (Q.read q).at) (Q.read q) }
     {
+        let q = q.reached()?;
         let at = q.at;
         if self.long[at] == 1 || q.items >= limit::ITEMS {
             return Err(Unread::LimitPassed(at));
@@ -56,10 +82,11 @@ impl Tokens<'_> {
     }
 
     // Takes the token if it has the kind; refuses it otherwise, or by a limit.
-    pub fn expect(self, q: Cursor, kind: u8) -> Result<Cursor, Unread>
-        requires { (0 < kind) × Asks self.count (here q) }
-        ensures { as_read result ≡ expect_one self.entry.kinds.now self.entry.long.now self.entry.count kind (here q) }
+    pub fn expect<Q: Reached>(self, q: Q, kind: u8) -> Result<Cursor, Unread>
+        requires { (0 < kind) × Asks self.count (Q.read q) }
+        ensures { as_read result ≡ expect_one self.entry.kinds.now self.entry.long.now self.entry.count kind (Q.read q) }
     {
+        let q = q.reached()?;
         let at = q.at;
         if self.kind_at(at) != kind {
             return Err(Unread::NoSentence(at));
@@ -70,11 +97,14 @@ impl Tokens<'_> {
         Ok(Cursor { at: at + 1, ..q })
     }
 
-    // Whether a token of this kind stands there.
-    pub fn follows(self, q: Cursor, kind: u8) -> bool
+    // Whether the reader has not refused and a token of this kind stands there.
+    pub fn follows<Q: Reached>(self, q: Q, kind: u8) -> bool
         requires { self.count ≤ 16384 }
-        ensures { result ≡ eqb (kind_in self.entry.kinds.now self.entry.count q.at) kind }
+        ensures { result ≡ choose (eqb (Q.read q).fault 0) (eqb (kind_in self.entry.kinds.now self.entry.count (Q.read q).at) kind) false }
     {
+        let Ok(q) = q.reached() else {
+            return false;
+        };
         self.kind_at(q.at) == kind
     }
 }

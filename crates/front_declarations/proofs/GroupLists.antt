@@ -24,6 +24,7 @@ use Rattle.front_layout.specs.Headings.{Heading, group_headings, groups_names, W
 use Rattle.front_declarations.specs.Rows.{declared_by}
 use Rattle.front_declarations.specs.Readers.{AsksGroup, PortsOver, VariableOver, VariablesOver}
 use Rattle.front_declarations.proofs.Steps.{halted, from_halted, asks_header, moves_header, stay_header, took_plain}
+use Rattle.front_declarations.proofs.Groups.{port_ended}
 use Rattle.front_declarations.proofs.Picks.{next_port_rule, pick_next_port}
 use Rattle.front_declarations.proofs.Values.{Kept, took_kept, inside_token}
 use Rattle.front_layout.proofs.NameRows.{names_wrote_none, names_wrote_then}
@@ -146,6 +147,11 @@ ports_read {kinds} {long} {n} {p} {a} {r} {before} {middle} {after} u v e = reco
       };
 }
 
+-- what has refused reads no group of ports
+pub ports_ended : {kinds long : List ℕ} {n : ℕ} {p : HeaderRead} (l : List ℕ) → AsksGroup n p → (p.cursor.fault ≡ 0 → ⊥)
+    → PortsOver ports groups_names kinds long n p l p l
+ports_ended l a f = ports_read (port_ended l a f) (ports_none l a) (λ z. absurd (f z))
+
 -- The loop over variables: the groups have grown by those read; the flag says whether there were any.
 pub record VariablesOn (ts : List Token) (p r : HeaderRead) (before after : List ℕ) : Type 0 where
   pub flag : Bool
@@ -225,6 +231,11 @@ variables_read {kinds} {long} {n} {p} {r} {before} {after} u e = record {
         };
       };
 }
+
+-- what has refused reads no group of variables
+pub variables_ended : {kinds long : List ℕ} {n : ℕ} {p : HeaderRead} (l : List ℕ) → AsksHeader n p → (p.cursor.fault ≡ 0 → ⊥)
+    → VariablesOver kinds long n p l p l
+variables_ended l a f = variables_read (variables_none l a) (λ z. absurd (f z))
 
 -- groups that were refused, whatever the counts are
 pub variables_halted : {kinds long : List ℕ} {n : ℕ} {p : HeaderRead} {before after : List ℕ} (a : HeaderRead) (e : Unread)

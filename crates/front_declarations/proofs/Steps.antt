@@ -8,6 +8,7 @@ use native.Mathlib.Numerals.{add-one}
 use borrow.Author.Tests.{le-ltb, lt-ltb, leb-true, leb-false, eqb-true, eqb-false}
 use lib.Dec.{eqb, leb, ltb}
 use lib.ListN.{length}
+use Rattle.std.specs.Prelude.{Result, Ok, Err}
 use Rattle.spec_grammar.specs.Token.{Token}
 use Rattle.base_codes.specs.Token.{NAME}
 use Rattle.spec_grammar.specs.Grammar.{NonTerminal, Says, plain, declares, Sym, tk, Fun}
@@ -18,7 +19,13 @@ use Rattle.front_cursor.specs.declared.Unread.{Unread}
 use Rattle.front_cursor.specs.Reading.{Read, unread, meter, Fine, Asks, Moves, refuse, step, expect_at}
 use Rattle.front_cursor.proofs.Measures.{three, or_true}
 use Rattle.front_cursor.proofs.Steps.{kind_is, kind_inside, from_stays, expect_at_lem, expect_moves, expect_written, expect_less, unread_ends, token_not, token_over, token_taken, over_plain}
-use Rattle.front_declarations.specs.Headers.{HeaderRead, heading_of, header_at, from_header, refuse_header, declare_at, name_at, take_at, AsksHeader, MovesHeader, Grown}
+use Rattle.front_declarations.specs.declared.Header.{Header}
+use Rattle.front_declarations.specs.Headers.{HeaderRead, header_here, heading_of, header_at, as_header, header_after, from_header, refuse_header, declare_at, name_at, take_at, AsksHeader, MovesHeader, Grown}
+
+-- called where a reader goes on, it answers what it does from there
+pub after_header : (p : Header) (r : Result Header Unread) → as_header p r ≡ header_after (header_here p) r
+after_header p (Ok r) = refl
+after_header p (Err e) = refl
 
 pub fine : {n : ℕ} {p : HeaderRead} (b : Bool) → AsksHeader n p → Fine 0 (heading_of b p)
 fine b a = record { statements = omega arith; inputs = a.inputs; outputs = a.outputs; vars = a.vars }

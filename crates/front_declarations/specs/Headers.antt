@@ -35,6 +35,16 @@ abbrev pub as_header : Header → Result Header Unread → HeaderRead
 as_header p (Ok r) = header_here r
 as_header p (Err e) = header_at (unread e) (header_here p)
 
+-- what a reader of the heading is called with: where it has refused, no name is counted
+abbrev pub header_read : Result Header Unread → HeaderRead
+header_read (Ok p) = header_here p
+header_read (Err e) = record { cursor = unread e; waiting = 0; inputs = 0; outputs = 0; vars = 0 }
+
+-- what a reader of the heading answers that was called at p, which may have refused: where the answer is a refusal, the counts are those of p
+abbrev pub header_after : HeaderRead → Result Header Unread → HeaderRead
+header_after p (Ok r) = header_here r
+header_after p (Err e) = header_at (unread e) p
+
 -- what comes of the text where the reader of the heading stands at p
 abbrev pub from_header : (ts : List Token) (S : NonTerminal) (b : Bool) (p : HeaderRead) (γ : List Sym) → Fun γ (Says S) → Outcome (Says S)
 from_header ts S b p γ κ = from ts S 0 1 (heading_of b p) p.cursor 0 γ κ

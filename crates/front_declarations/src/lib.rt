@@ -7,7 +7,7 @@ ghost use Rattle.spec_grammar.specs.Grammar.{port as port_part, ports as ports_p
 ghost use Rattle.front_layout.specs.Tokens.{kind_in};
 ghost use Rattle.front_cursor.specs.Reading.{Asks, here, as_read};
 ghost use Rattle.front_layout.specs.Headings.{set_decl, store_decls, group_headings, groups_names};
-ghost use Rattle.front_declarations.specs.Headers.{header_here, as_header, declare_at, take_at, take_name, inputs_at, outputs_at, mode_at, type_kind, literal_kind, value_at, init_at, tail_at, AsksHeader};
+ghost use Rattle.front_declarations.specs.Headers.{HeaderRead, header_here, header_read, as_header, header_after, declare_at, take_at, take_name, inputs_at, outputs_at, mode_at, type_kind, literal_kind, value_at, init_at, tail_at, AsksHeader};
 ghost use Rattle.front_declarations.specs.Rows.{row_of, rows_of, declared_by, mode_of, type_of, init_of, value_from, shape_at, store_group};
 ghost use Rattle.front_declarations.specs.Readers.{NamesOver, AsksGroup, PortsOver, VariableOver, VariablesOver};
 
@@ -25,6 +25,30 @@ pub struct Header {
     pub inputs: usize,
     pub outputs: usize,
     pub vars: usize,
+}
+
+// Where a reader of the heading is called: where one stands, or with what the reader before it answered. What has refused is handed back.
+pub trait ReachedHeader {
+    ghost read: { Self → HeaderRead };
+
+    fn reached(self) -> Result<Header, Unread>
+        ensures { header_read result ≡ read self };
+}
+
+impl ReachedHeader for Header {
+    ghost read = { header_here };
+
+    fn reached(self) -> Result<Header, Unread> {
+        Ok(self)
+    }
+}
+
+impl ReachedHeader for Result<Header, Unread> {
+    ghost read = { header_read };
+
+    fn reached(self) -> Self {
+        self
+    }
 }
 
 // What the names of a group have in common: mode, type, kind of initial value, index of the value's first token, index of the group's first name.
@@ -85,8 +109,17 @@ fn next_name(text: Tokens, p: Header, variables: bool) -> Result<Header, Unread>
     name(text, Header { cursor, ..p }, variables)
 }
 
-// Names with commas.
-pub fn names(text: Tokens, p: Header, variables: bool) -> Result<Header, Unread>
+// Names with commas, where the reader has not refused.
+pub fn names<P: ReachedHeader>(text: Tokens, p: P, variables: bool) -> Result<Header, Unread>
+    requires { AsksHeader text.count (P.read p) }
+    ensures { NamesOver text.entry.kinds.now text.entry.long.now text.entry.count (P.read p) variables (header_after (P.read p) result) }
+{
+    let p = p.reached()?;
+    name_list(text, p, variables)
+}
+
+// A name, and further names with commas.
+fn name_list(text: Tokens, p: Header, variables: bool) -> Result<Header, Unread>
     requires { AsksHeader text.count (header_here p) }
     ensures { NamesOver text.entry.kinds.now text.entry.long.now text.entry.count (header_here p) variables (as_header p result) }
 {
@@ -355,8 +388,21 @@ fn variable_group(
     Ok(e)
 }
 
+// The groups of ports, where the reader has not refused.
+pub fn ports<P: ReachedHeader>(
+    text: Tokens,
+    p: P,
+    decls: &mut [u16; declaration::ROWS],
+) -> Result<Header, Unread>
+    requires { AsksGroup text.count (P.read p) }
+    ensures { PortsOver ports_part groups_names text.entry.kinds.now text.entry.long.now text.entry.count (P.read p) decls.old (header_after (P.read p) result) decls.new }
+{
+    let p = p.reached()?;
+    port_groups(text, p, decls)
+}
+
 // The groups of ports, parted by semicolons.
-pub fn ports(
+fn port_groups(
     text: Tokens,
     p: Header,
     decls: &mut [u16; declaration::ROWS],
@@ -372,8 +418,21 @@ pub fn ports(
     Ok(a)
 }
 
+// The groups of variables, where the reader has not refused.
+pub fn variables<P: ReachedHeader>(
+    text: Tokens,
+    p: P,
+    decls: &mut [u16; declaration::ROWS],
+) -> Result<Header, Unread>
+    requires { AsksHeader text.count (P.read p) }
+    ensures { VariablesOver text.entry.kinds.now text.entry.long.now text.entry.count (P.read p) decls.old (header_after (P.read p) result) decls.new }
+{
+    let p = p.reached()?;
+    variable_groups(text, p, decls)
+}
+
 // The groups of variables, or none.
-pub fn variables(
+fn variable_groups(
     text: Tokens,
     p: Header,
     decls: &mut [u16; declaration::ROWS],

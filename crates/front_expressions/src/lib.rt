@@ -1,5 +1,5 @@
 #![tactic(auto)]
-// The readers of expressions: tokens to postfix items in lent arrays. Expression, simple expression, product and primary call each other in a cycle,
+// The readers of expressions: tokens to postfix items in lent arrays. Chain, simple expression, product and primary call each other in a cycle,
 // the tokens left falling; factors, terms and chains are loops. An operator waits on the call stack and is written behind its operands.
 ghost use Rattle.std.specs.Prelude.{◌≡◌, ℕ, ◌+◌, ◌<◌, ◌≤◌, true, false};
 ghost use Rattle.spec_grammar.specs.Grammar.{primary as primary_part, factor as factor_part, term as term_part, simple as simple_part, relation as relation_part, expression as expression_part};
@@ -13,7 +13,7 @@ ghost use Rattle.front_expressions.specs.Tests.{leaf_code};
 ghost use Rattle.front_expressions.specs.Readers.{Tail, sum, product as product_tail, operator_of, ReadsOver, PartlyOver, OneTurn};
 
 use base_codes::{limit, operation, token};
-use front_cursor::{Cursor, Tokens, Unread};
+use front_cursor::{Cursor, Reached, Tokens, Unread};
 
 // Writes an item behind the others.
 fn put(
@@ -65,7 +65,7 @@ fn parenthesised(
         return Err(Unread::LimitPassed(q.at));
     }
     let a = Cursor { at: q.at + 1, ..q };
-    let b = expression(text, a, parens + 1, codes, tokens)?;
+    let b = chain(text, a, parens + 1, codes, tokens)?;
     text.expect(b, token::RP)
 }
 
@@ -268,9 +268,9 @@ fn joined(
     Ok(put(codes, tokens, b, code, at))
 }
 
-// An expression: a relation, or a chain of them joined by `and` alone, `or` alone or `xor` alone.
+// A relation, or a chain of them joined by `and` alone, `or` alone or `xor` alone.
 #[cycle(expression)]
-pub fn expression(
+fn chain(
     text: Tokens,
     q: Cursor,
     parens: usize,
@@ -290,4 +290,19 @@ pub fn expression(
         a = joined(text, a, parens, codes, tokens)?;
     }
     Ok(a)
+}
+
+// An expression: a chain, where the reader has not refused.
+pub fn expression<Q: Reached>(
+    text: Tokens,
+    q: Q,
+    parens: usize,
+    codes: &mut [u8; limit::TEXT],
+    tokens: &mut [u16; limit::TEXT],
+) -> Result<Cursor, Unread>
+    requires { (parens ≤ 16) × Asks text.count (Q.read q) }
+    ensures { ReadsOver expression_part postfix text.entry.kinds.now text.entry.long.now text.entry.count (Q.read q) parens (arrays codes.old tokens.old) (as_read result) (arrays codes.new tokens.new) }
+{
+    let q = q.reached()?;
+    chain(text, q, parens, codes, tokens)
 }

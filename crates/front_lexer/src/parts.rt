@@ -1,11 +1,12 @@
 // Parts of a text, and what later stages ask of them: a number's value, and whether two names are the same.
-ghost use Rattle.std.specs.Prelude.{◌≡◌, map, ◌+◌, ◌-◌, ◌*◌, min, ◌≤◌, ◌<◌};
+ghost use Rattle.std.specs.Prelude.{◌≡◌, eqb, map, ◌+◌, ◌-◌, ◌*◌, min, ◌≤◌, ◌<◌};
 ghost use Rattle.spec_language.specs.Bytes.{lower};
 ghost use Rattle.spec_language.specs.Words.{value};
 ghost use Rattle.spec_language.specs.Lexing.{equal};
 ghost use Rattle.front_token.specs.Places.{part};
 
 use base_codes::limit;
+use front_token::bytes;
 
 // So many bytes from a place; past the text's end there are none.
 pub fn part_of<'a>(text: &'a [u8], start: usize, size: usize) -> &'a [u8]
@@ -52,9 +53,26 @@ pub fn number_value(text: &[u8], start: usize, size: usize) -> u64
     digits_value(part_of(text, start, size))
 }
 
+// Two bytes are the same without regard to case. Most of those that are the same are so as they stand.
+fn same_byte(a: u8, b: u8) -> bool
+    ensures { result ≡ eqb (lower a) (lower b) }
+{
+    a == b || bytes::lower_case(a) == bytes::lower_case(b)
+}
+
+// Two words are the same without regard to case.
+fn same_folded(a: &[u8], b: &[u8]) -> bool
+    ensures { result ≡ equal (map lower a.now) (map lower b.now) }
+{
+    a.len() == b.len() && a.iter().zip(b).all(|(x, y)| same_byte(*x, *y))
+}
+
 // Two parts of a text are the same without regard to case.
 pub fn same_name(text: &[u8], start_a: usize, size_a: usize, start_b: usize, size_b: usize) -> bool
     ensures { result ≡ equal (map lower (part text.now start_a size_a)) (map lower (part text.now start_b size_b)) }
 {
-    part_of(text, start_a, size_a).eq_ignore_ascii_case(part_of(text, start_b, size_b))
+    same_folded(
+        part_of(text, start_a, size_a),
+        part_of(text, start_b, size_b),
+    )
 }

@@ -163,6 +163,28 @@ fn numbers(p: EntityUnit, q: ArchitectureUnit, r: ProcessUnit) -> Parsed
     }
 }
 
+// The three parts of a text, one after another, with nothing behind them; the first refusal met is the text's.
+fn read(
+    text: Tokens,
+    codes: &mut [u8; limit::TEXT],
+    tokens: &mut [u16; limit::TEXT],
+    rows: &mut [u16; statement::ROWS],
+    decls: &mut [u16; declaration::ROWS],
+) -> Result<Parsed, Unread>
+    requires { text.count ≤ 16384 }
+    ensures { ParsesOver text.entry.kinds.now text.entry.long.now text.entry.count (lent (output (arrays codes.old tokens.old) rows.old) decls.old) (lent (output (arrays codes.new tokens.new) rows.new) decls.new) result }
+{
+    let p = entity(text, decls)?;
+    let q = architecture(text, p.header, decls)?;
+    let r = process(text, q.header, codes, tokens, rows)?;
+    let n = text.count;
+    let last = r.listing.cursor;
+    if last.at < n {
+        return Err(Unread::NoSentence(last.at));
+    }
+    Ok(numbers(p, q, r))
+}
+
 // Reads a text of n tokens: kinds has their kinds, long a 1 where a name or a number passes its limit.
 // Items go to codes and tokens, statements to rows, declared names to decls. No text has more than 16384 tokens.
 // A refusal's token is the first that cannot continue, the number of tokens being the text's end.
@@ -185,12 +207,5 @@ pub fn parse(
         long,
         count: n,
     };
-    let p = entity(text, decls)?;
-    let q = architecture(text, p.header, decls)?;
-    let r = process(text, q.header, codes, tokens, rows)?;
-    let last = r.listing.cursor;
-    if last.at < n {
-        return Err(Unread::NoSentence(last.at));
-    }
-    Ok(numbers(p, q, r))
+    read(text, codes, tokens, rows, decls)
 }

@@ -28,6 +28,16 @@ abbrev pub as_listing : ℕ → Result Listing Unread → ListingRead
 as_listing s (Ok r) = listing_here r
 as_listing s (Err e) = listing (unread e) s
 
+-- what a reader of statements is called with: where it has refused, no statement is counted
+abbrev pub listing_read : Result Listing Unread → ListingRead
+listing_read (Ok p) = listing_here p
+listing_read (Err e) = listing (unread e) 0
+
+-- what a reader of statements answers that was called at p, which may have refused: where the answer is a refusal, the number of statements is that of p
+abbrev pub listing_after : ListingRead → Result Listing Unread → ListingRead
+listing_after p (Ok r) = listing_here r
+listing_after p (Err e) = listing (unread e) p.statements
+
 -- the head of a nested statement as it was read or refused
 pub record HeadRead : Type 0 where
   pub listing : ListingRead

@@ -9,7 +9,7 @@ ghost use Rattle.front_cursor.specs.Reading.{Asks, here, as_read, expect_one};
 ghost use Rattle.front_layout.specs.Items.{Arrays, arrays};
 ghost use Rattle.front_layout.specs.Entries.{body_entries};
 ghost use Rattle.front_layout.specs.Rows.{row, set_row, output};
-ghost use Rattle.front_statements.specs.Listings.{listing_here, as_listing, as_head, begin_at, fresh_at, is_assigning, row_kind, is_start, Small, AsksListing};
+ghost use Rattle.front_statements.specs.Listings.{ListingRead, listing_here, listing_read, as_listing, listing_after, as_head, begin_at, fresh_at, is_assigning, row_kind, is_start, Small, AsksListing};
 ghost use Rattle.front_statements.specs.Readers.{first_of, OpeningOver, ReadsLinesOver, StatementOver, ElseOver};
 
 use base_codes::{limit, statement, token};
@@ -21,6 +21,30 @@ use front_expressions::expression;
 pub struct Listing {
     pub cursor: Cursor,
     pub statements: usize,
+}
+
+// Where a reader of statements is called: where one stands, or with what the reader before it answered. What has refused is handed back.
+pub trait ReachedListing {
+    ghost read: { Self → ListingRead };
+
+    fn reached(self) -> Result<Listing, Unread>
+        ensures { listing_read result ≡ read self };
+}
+
+impl ReachedListing for Listing {
+    ghost read = { listing_here };
+
+    fn reached(self) -> Result<Listing, Unread> {
+        Ok(self)
+    }
+}
+
+impl ReachedListing for Result<Listing, Unread> {
+    ghost read = { listing_read };
+
+    fn reached(self) -> Self {
+        self
+    }
 }
 
 // The head of a nested statement, read: where the reader stands behind it, and where the items of its condition end.
@@ -231,7 +255,7 @@ fn if_statement(
     ensures { StatementOver text.entry.kinds.now text.entry.long.now text.entry.count (listing_here p) depth (output (arrays codes.old tokens.old) rows.old) (as_listing p.statements result) (output (arrays codes.new tokens.new) rows.new) }
 {
     let o = opening(text, p, depth, token::THEN, codes, tokens)?;
-    let c = body(text, o.listing, depth + 1, codes, tokens, rows)?;
+    let c = statement_list(text, o.listing, depth + 1, codes, tokens, rows)?;
     let d = else_part(text, c, depth + 1, codes, tokens, rows)?;
     let i = end_of(text, d.cursor, token::IF)?;
     finish(
@@ -261,7 +285,7 @@ fn while_statement(
     ensures { StatementOver text.entry.kinds.now text.entry.long.now text.entry.count (listing_here p) depth (output (arrays codes.old tokens.old) rows.old) (as_listing p.statements result) (output (arrays codes.new tokens.new) rows.new) }
 {
     let o = opening(text, p, depth, token::LOOP, codes, tokens)?;
-    let c = body(text, o.listing, depth + 1, codes, tokens, rows)?;
+    let c = statement_list(text, o.listing, depth + 1, codes, tokens, rows)?;
     let i = end_of(text, c.cursor, token::LOOP)?;
     finish(
         rows,
@@ -295,7 +319,7 @@ fn else_part(
     }
     let e = text.expect(q, token::ELSE)?;
     let a = Listing { cursor: e, ..p };
-    body(text, a, depth, codes, tokens, rows)
+    statement_list(text, a, depth, codes, tokens, rows)
 }
 
 // A statement, by the kind of its first token.
@@ -324,7 +348,7 @@ fn statement(
 
 // A list of statements, at least one.
 #[cycle(statement)]
-pub fn body(
+fn statement_list(
     text: Tokens,
     p: Listing,
     depth: usize,
@@ -340,6 +364,22 @@ pub fn body(
         a = statement(text, a, depth, codes, tokens, rows)?;
     }
     Ok(a)
+}
+
+// A list of statements, where the reader has not refused.
+pub fn body<P: ReachedListing>(
+    text: Tokens,
+    p: P,
+    depth: usize,
+    codes: &mut [u8; limit::TEXT],
+    tokens: &mut [u16; limit::TEXT],
+    rows: &mut [u16; statement::ROWS],
+) -> Result<Listing, Unread>
+    requires { (depth ≤ 17) × AsksListing text.count (P.read p) }
+    ensures { ReadsLinesOver body_part body_entries text.entry.kinds.now text.entry.long.now text.entry.count (P.read p) depth (output (arrays codes.old tokens.old) rows.old) (listing_after (P.read p) result) (output (arrays codes.new tokens.new) rows.new) }
+{
+    let p = p.reached()?;
+    statement_list(text, p, depth, codes, tokens, rows)
 }
 
 // Whether a statement begins with a token of this kind.

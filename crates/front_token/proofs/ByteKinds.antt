@@ -4,7 +4,9 @@ use mathlib.Core.Bool.{Bool, true, false, ◌||◌}
 use mathlib.Core.Logic.{◌⊎◌, inl, inr}
 use mathlib.Core.List.{List}
 use Prim.Native.Nat.{ℕ}
+use native.Mathlib.Omega.{arith}
 use lib.Dec.{eqb}
+use lib.ListN.{length, get_or}
 use borrow.Author.Tests.{eqb-true, eqb-false, eq-eqb, ne_eqb}
 use denote.Enum.Bare.{sameb, tag_one}
 use denote.Enum.Declared.{tag_of}
@@ -14,15 +16,31 @@ use Rattle.front_token.specs.declared.kinds.ByteKind.{ByteKind}
 use Rattle.front_token.specs.declared.kinds.ByteKind.TheVariants.{Letter, Digit, Underscore, Blank, Quote, Mark, Other}
 use Rattle.front_token.specs.contracts.kinds.ByteKind.{the_type}
 use Rattle.front_token.specs.Kinds.{Kinds, named}
-use Rattle.front_token.proofs.Entries.{values, value_at}
+use Rattle.front_token.proofs.Entries.{every, entry}
 
 -- the kind of each byte
 abbrev pub kind_at : ℕ → ByteKind
 kind_at b = named (byte_kind b)
 
--- a table of the kinds of the 256 bytes
-pub kinds_by : (table : List ByteKind) → table ≡ values kind_at 0 256 → Kinds table
-kinds_by table e = record { each = λ b h. rw e (value_at kind_at 256 b Other h) }
+tag_is : (k : B.ByteKind) → tag_of the_type (named k) ≡ kind_code k
+tag_is B.letter = refl
+tag_is B.digit = refl
+tag_is B.underscore = refl
+tag_is B.blank = refl
+tag_is B.quote = refl
+tag_is B.mark = refl
+tag_is B.none = refl
+
+-- the entry x of the byte b is the kind of that byte
+unfoldable pub right : ℕ → ByteKind → Bool
+right b x = eqb (tag_of the_type x) (kind_code (byte_kind b))
+
+-- a table of 256 entries that are all right
+pub kinds_by : (table : List ByteKind) → length table ≡ 256 → every right 0 table ≡ true → Kinds table
+unfolding right
+kinds_by table n e = record {
+  each = λ b h. tag_one the_type tt (get_or table b Other) (kind_at b) (eqb-true (tag_of the_type (get_or table b Other)) (kind_code (byte_kind b)) (entry right Other table e b (omega arith)) ∙ sym (tag_is (byte_kind b)));
+}
 
 -- what a call computes, told by a test on its answer
 pub flag : {x q r : Bool} → r ≡ x → r ≡ q → x ≡ q
@@ -58,15 +76,6 @@ eqb_comm a b = go (eqb a b) refl
     go : (q : Bool) → eqb a b ≡ q → q ≡ eqb b a
     go true e = sym (eq-eqb b a (sym (eqb-true a b e)))
     go false e = sym (ne_eqb b a (λ f. eqb-false a b e (sym f)))
-
-tag_is : (k : B.ByteKind) → tag_of the_type (named k) ≡ kind_code k
-tag_is B.letter = refl
-tag_is B.digit = refl
-tag_is B.underscore = refl
-tag_is B.blank = refl
-tag_is B.quote = refl
-tag_is B.mark = refl
-tag_is B.none = refl
 
 -- a comparison with a kind says whether the byte is of it
 pub same_kind : (k : B.ByteKind) (b : ℕ) (r : ByteKind) → r ≡ kind_at b → sameb the_type r (named k) ≡ is k b

@@ -6,7 +6,6 @@ use Rattle.spec_language.specs.Values.{values}
 use Rattle.front_layout.specs.Arrays.{TokensIn}
 use Rattle.front_layout.specs.Headings.{headings, DeclsIn}
 use Rattle.front_offences.specs.declared.Shape.{Shape}
-use Rattle.front_offences.specs.declared.tree.Tree.{Tree}
 use Rattle.front_offences.specs.Judged.{Judged}
 use Rattle.front_values.specs.Positions.{lowest_in}
 
@@ -18,5 +17,5 @@ pub record Held (starts : List ℕ) (p : Shape) (decls : List ℕ) (t : Text) : 
   pub of_decls : DeclsIn tokens (headings t) decls p.names
 
 -- the stage's answer: the lowest place by position; and for such a tree the lowest offence of refusal 7
-abbrev pub Judges : Tree → Option ℕ → Type 0
-Judges tree r = Judged (lowest_in tree.starts.now tree.shape tree.decls.now) (Held tree.starts.now tree.shape tree.decls.now) values r
+abbrev pub Judges : List ℕ → Shape → List ℕ → Option ℕ → Type 0
+Judges starts p decls r = Judged (lowest_in starts p decls) (Held starts p decls) values r

@@ -7,6 +7,7 @@ ghost use Rattle.base_codes.specs.Operation.{width_of};
 ghost use Rattle.image_encoder.specs.Emitted.{op_bytes};
 
 use base_codes::operation;
+use image_words::byte_of;
 
 // How many bytes a two-byte number has.
 const WORD: usize = 2;
@@ -77,7 +78,7 @@ pub(crate) fn put_op(image: &mut [u8], at: usize, code: u8, arg: i32) -> usize
     }
     put(image, at, code);
     if width != 1 {
-        put(image, at + 1, arg.to_le_bytes()[0]);
+        put(image, at + 1, byte_of(base_signed::to_bits(arg), 0));
     }
     width
 }

@@ -2,9 +2,9 @@
 // Evaluates the postfix code of a line on a stack of values, each a number with its type.
 mod operand;
 
-ghost use Rattle.std.specs.Prelude.{◌≡◌, ◌+◌, ◌<◌, length};
+ghost use Rattle.std.specs.Prelude.{◌≡◌, ◌+◌, ◌<◌, ◌≤◌, true, length};
 ghost use Rattle.spec_design.specs.Expression.{Out};
-ghost use Rattle.base_codes.specs.Operation.{unary_for, binary_for};
+ghost use Rattle.base_codes.specs.Operation.{PLUS, MINUS, unary_for, binary_for};
 ghost use Rattle.image_evaluator.specs.Position.{ROOM, next_of, fetch_at, pushed, pushed_within};
 ghost use Rattle.base_codes.specs.Fault.{outcome};
 ghost use Rattle.image_evaluator.specs.Value.{Cell, machine_for, code_value, part_value, evaluated_of};
@@ -12,7 +12,7 @@ ghost use Rattle.image_evaluator.specs.Operators.{unary_next, binary_next};
 ghost use Rattle.image_evaluator.specs.Stack.{cells_of, Room, Says};
 
 use base_codes::fault::Fault;
-use base_codes::{limit, operation};
+use base_codes::{limit, operation, types};
 
 // The value of an expression: the number of its type, and its number.
 #[derive(Clone, Copy)]
@@ -86,7 +86,15 @@ fn apply_unary(stack: &mut Stack, depth: usize, op: u8, at: usize) -> Result<Pro
     Ok(Progress { depth: i + 1, at })
 }
 
-// Applies an operator of two operands; the left one lies below the right one.
+// Whether the operator is + or - of integers.
+fn is_sum(op: u8, t: u8) -> bool
+    ensures { result ≡ true → (t ≡ 1) × ((PLUS ≤ op) × (op ≤ MINUS)) }
+{
+    t == types::INTEGER && operation::PLUS <= op && op <= operation::MINUS
+}
+
+// Applies an operator of two operands; the left one lies below the right one. Sums come first and by themselves: most operators are sums, and the refusal of one is
+// then tested where it is found, and not once more behind the table's answer.
 fn apply_binary(stack: &mut Stack, depth: usize, op: u8, at: usize) -> Result<Progress, Fault>
     requires { Room stack.old.values stack.old.tags depth }
     ensures { Says stack.new.values stack.new.tags result (binary_next (binary_for op) at (cells_of stack.old.values stack.old.tags depth)) }
@@ -99,6 +107,11 @@ fn apply_binary(stack: &mut Stack, depth: usize, op: u8, at: usize) -> Result<Pr
     let t = stack.tags[i];
     if t != stack.tags[j] {
         return Err(Fault::NoExpression);
+    }
+    if is_sum(op, t) {
+        base_operators::apply_sum(&mut stack.values, i, op)?;
+        stack.tags[i] = operation::result_type(op, t);
+        return Ok(Progress { depth: i + 1, at });
     }
     base_operators::apply_binary(&mut stack.values, i, op, t)?;
     stack.tags[i] = operation::result_type(op, t);

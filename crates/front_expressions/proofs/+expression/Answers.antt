@@ -26,22 +26,22 @@ use Rattle.front_expressions.proofs.Sums.{product_read, relation_plain, relation
 use Rattle.base_codes.specs.Token.{one_of, operands, adding, multiplying, relational, logical}
 use Rattle.front_expressions.proofs.+expression.Goals as goal
 
-pub expression-returns-in_err-a : goal.expression-returns-in_err-a
-expression-returns-in_err-a t c =
+pub chain-returns-in_err-a : goal.chain-returns-in_err-a
+chain-returns-in_err-a t c =
     let p = err_from_is_err_and c.from_residual.result c.from_residual.ensures.1 in
     rw (p.1, p.2) (expression_plain c.in_err-a.ensures (λ z. absurd (unread_ends _ z)))
 
-pub expression-returns-then-not-is_logical : goal.expression-returns-then-not-is_logical
-expression-returns-then-not-is_logical t c =
+pub chain-returns-then-not-is_logical : goal.chain-returns-then-not-is_logical
+chain-returns-then-not-is_logical t c =
     expression_plain c.in_ok-a.ensures
     (λ z. subst (λ (k : ℕ). one_of k logical ≡ false) c.kind_at-kind.ensures
     (sym c.is_logical.ensures ∙ denied c.is_logical.result c.if-not-is_logical.true-raw))
 
-pub expression-loop-text-init : goal.expression-loop-text-init
-expression-loop-text-init t c = chained_none _ (asks_after c.requires.1 c.in_ok-a.ensures.moves)
+pub chain-loop-text-init : goal.chain-loop-text-init
+chain-loop-text-init t c = chained_none _ (asks_after c.requires.1 c.in_ok-a.ensures.moves)
 
-pub expression-returns-in_err-a-2 : goal.expression-returns-in_err-a-2
-expression-returns-in_err-a-2 t c =
+pub chain-returns-in_err-a-2 : goal.chain-returns-in_err-a-2
+chain-returns-in_err-a-2 t c =
     let s = c.args in
     let l = sym c.is_logical.ensures ∙ affirmed c.is_logical.result c.if-not-is_logical.false-raw in
     let p = err_from_is_err_and c.from_residual-in_err-a-2.result c.from_residual-in_err-a-2.ensures.1 in
@@ -50,8 +50,8 @@ expression-returns-in_err-a-2 t c =
     (chained_again (kind_in s.text.kinds.now s.text.count c.loop-text.a.at) l (eqb-true _ _ (sym c.follows.ensures ∙ c.loop-text-test.true))
     c.loop-text.invariant c.in_err-a-2.ensures).turns (λ z. absurd (unread_ends _ z)))
 
-pub expression-loop-text-smaller : goal.expression-loop-text-smaller
-expression-loop-text-smaller t c =
+pub chain-loop-text-smaller : goal.chain-loop-text-smaller
+chain-loop-text-smaller t c =
     let s = c.args in
     let o = c.in_ok-a.ensures.moves in
     let i = c.loop-text.invariant.moves in
@@ -61,15 +61,15 @@ expression-loop-text-smaller t c =
     let m = (chained_again (kind_in s.text.kinds.now s.text.count c.loop-text.a.at) l e c.loop-text.invariant c.in_ok-a-2.ensures).moves in
     omega arith
 
-pub expression-loop-text-preserved : goal.expression-loop-text-preserved
-expression-loop-text-preserved t c =
+pub chain-loop-text-preserved : goal.chain-loop-text-preserved
+chain-loop-text-preserved t c =
     let s = c.args in
     chained_again (kind_in s.text.kinds.now s.text.count c.loop-text.a.at)
     (sym c.is_logical.ensures ∙ affirmed c.is_logical.result c.if-not-is_logical.false-raw)
     (eqb-true _ _ (sym c.follows.ensures ∙ c.loop-text-test.true)) c.loop-text.invariant c.in_ok-a-2.ensures
 
-pub expression-returns : goal.expression-returns
-expression-returns t c =
+pub chain-returns : goal.chain-returns
+chain-returns t c =
     expression_chain c.kind_at-kind.result
     (sym c.is_logical.ensures ∙ affirmed c.is_logical.result c.if-not-is_logical.false-raw)
     c.in_ok-a.ensures (sym c.kind_at-kind.ensures)

@@ -5,8 +5,8 @@ use Rattle.front_expressions.specs.Readers.{sum, product as product_tail, TurnOv
 use Rattle.front_expressions.proofs.Sums.{Chained}
 use Rattle.front_expressions.proofs.+expression.Given as goal
 
-abbrev pub decreases-expression : goal.decreases-expression
-decreases-expression l = 10 * (l.text.count - l.q.at) + 9
+abbrev pub decreases-chain : goal.decreases-chain
+decreases-chain l = 10 * (l.text.count - l.q.at) + 9
 
 abbrev pub decreases-factor : goal.decreases-factor
 decreases-factor l = 10 * (l.text.count - l.q.at) + 2
@@ -38,11 +38,11 @@ decreases-simple l = 10 * (l.text.count - l.q.at) + 6
 abbrev pub decreases-term : goal.decreases-term
 decreases-term l = 10 * (l.text.count - l.q.at) + 5
 
-abbrev pub invariant-expression-loop-text : goal.invariant-expression-loop-text
-invariant-expression-loop-text l = Chained l.kind l.text.kinds.now l.text.long.now l.text.count (here l.initial.a) l.parens (arrays l.initial.codes l.initial.tokens) (here l.a) (arrays l.codes l.tokens)
+abbrev pub invariant-chain-loop-text : goal.invariant-chain-loop-text
+invariant-chain-loop-text l = Chained l.kind l.text.kinds.now l.text.long.now l.text.count (here l.initial.a) l.parens (arrays l.initial.codes l.initial.tokens) (here l.a) (arrays l.codes l.tokens)
 
-abbrev pub decreases-expression-loop-text : goal.decreases-expression-loop-text
-decreases-expression-loop-text l = (l.text.count - l.a.at)
+abbrev pub decreases-chain-loop-text : goal.decreases-chain-loop-text
+decreases-chain-loop-text l = (l.text.count - l.a.at)
 
 abbrev pub invariant-product-loop-text : goal.invariant-product-loop-text
 invariant-product-loop-text l = TurnOver product_tail l.text.kinds.now l.text.long.now l.text.count (here l.initial.a) l.parens (arrays l.initial.codes l.initial.tokens) (here l.a) (arrays l.codes l.tokens)

@@ -11,45 +11,45 @@ use Rattle.front_statements.proofs.Bodies.{statement_refused, further_none, furt
 use Rattle.front_statements.proofs.Nested.{else_none, else_ended, else_read, if_refused, if_read, while_refused, while_read}
 use Rattle.front_statements.proofs.+statement.Goals as goal
 
-pub body-returns-in_err-a : goal.body-returns-in_err-a
-body-returns-in_err-a t c =
+pub statement_list-returns-in_err-a : goal.statement_list-returns-in_err-a
+statement_list-returns-in_err-a t c =
     let p = err_from_is_err_and c.from_residual.result c.from_residual.ensures.1 in
     rw (p.1, p.2)
     (body_read c.in_err-a.ensures (further_none _ (asks_listing c.requires.1 c.in_err-a.ensures.moves)) (λ z. absurd (unread_ends _ z)))
 
-pub body-loop-text-init : goal.body-loop-text-init
-body-loop-text-init t c = further_none _ (asks_listing c.requires.1 c.in_ok-a.ensures.moves)
+pub statement_list-loop-text-init : goal.statement_list-loop-text-init
+statement_list-loop-text-init t c = further_none _ (asks_listing c.requires.1 c.in_ok-a.ensures.moves)
 
-pub body-statement-requires-in-loop-text : goal.body-statement-requires-in-loop-text
-body-statement-requires-in-loop-text t c =
+pub statement_list-statement-requires-in-loop-text : goal.statement_list-statement-requires-in-loop-text
+statement_list-statement-requires-in-loop-text t c =
     let o = c.in_ok-a.ensures.moves in
     let i = c.loop-text.invariant.moves in (
       omega arith,
       (c.requires.0, asks_listing (asks_listing c.requires.1 c.in_ok-a.ensures.moves) c.loop-text.invariant.moves),
     )
 
-pub body-returns-in_err-a-2 : goal.body-returns-in_err-a-2
-body-returns-in_err-a-2 t c =
+pub statement_list-returns-in_err-a-2 : goal.statement_list-returns-in_err-a-2
+statement_list-returns-in_err-a-2 t c =
     let p = err_from_is_err_and c.from_residual-in_err-a-2.result c.from_residual-in_err-a-2.ensures.1 in
     rw (p.1, p.2)
     (lines_halted c.loop-text.a.statements _ c.requires.1 (body_read c.in_ok-a.ensures
     (further_again c.loop-text.invariant (sym (ap is_start c.kind_at.ensures) ∙ (sym c.begins_statement.ensures ∙ c.loop-text-test.true)) c.in_err-a-2.ensures)
     (λ z. absurd (unread_ends _ z))))
 
-pub body-loop-text-smaller : goal.body-loop-text-smaller
-body-loop-text-smaller t c =
+pub statement_list-loop-text-smaller : goal.statement_list-loop-text-smaller
+statement_list-loop-text-smaller t c =
     let o = c.in_ok-a.ensures.moves in
     let i = c.loop-text.invariant.moves in
     let m = c.in_ok-a-2.ensures.moves in
     let f = c.in_ok-a-2.ensures.further refl in
     omega arith
 
-pub body-loop-text-preserved : goal.body-loop-text-preserved
-body-loop-text-preserved t c =
+pub statement_list-loop-text-preserved : goal.statement_list-loop-text-preserved
+statement_list-loop-text-preserved t c =
     further_again c.loop-text.invariant (sym (ap is_start c.kind_at.ensures) ∙ (sym c.begins_statement.ensures ∙ c.loop-text-test.true)) c.in_ok-a-2.ensures
 
-pub body-returns : goal.body-returns
-body-returns t c =
+pub statement_list-returns : goal.statement_list-returns
+statement_list-returns t c =
     body_read c.in_ok-a.ensures c.loop-text.invariant
     (λ z. sym (ap is_start c.kind_at.ensures) ∙ (sym c.begins_statement.ensures ∙ c.loop-text-test.false))
 
@@ -65,8 +65,8 @@ else_part-returns-in_err-e t c =
     rw (p.1, p.2)
     (else_read h (sym c.kind_at.ensures ∙ c.if-kind_at-ne-ELSE.false) c.in_err-e.ensures (body_ended _ (stepped_asks h u.steps) (unread_ends _)))
 
-pub else_part-body-requires : goal.else_part-body-requires
-else_part-body-requires t c =
+pub else_part-statement_list-requires : goal.else_part-statement_list-requires
+else_part-statement_list-requires t c =
     let s = c.args in
     let h = c.requires.1 in
     let u = took_steps s.text.kinds.now s.text.long.now 39 (lit< tt) h c.in_ok-e.ensures in
@@ -76,7 +76,7 @@ else_part-body-requires t c =
 
 pub else_part-returns : goal.else_part-returns
 else_part-returns t c =
-    else_read c.requires.1 (sym c.kind_at.ensures ∙ c.if-kind_at-ne-ELSE.false) c.in_ok-e.ensures c.body.ensures
+    else_read c.requires.1 (sym c.kind_at.ensures ∙ c.if-kind_at-ne-ELSE.false) c.in_ok-e.ensures c.statement_list.ensures
 
 pub if_statement-opening-requires : goal.if_statement-opening-requires
 if_statement-opening-requires t c =
@@ -88,8 +88,8 @@ if_statement-returns-in_err-o t c =
     let p = err_from_is_err_and c.from_residual.result c.from_residual.ensures.1 in
     rw (p.1, p.2) (if_refused _ c.requires.2 c.in_err-o.ensures (unread_ends _))
 
-pub if_statement-body-requires : goal.if_statement-body-requires
-if_statement-body-requires t c =
+pub if_statement-statement_list-requires : goal.if_statement-statement_list-requires
+if_statement-statement_list-requires t c =
     let op = c.in_ok-o.ensures in
     let h = asks_listing op.asks op.moves in
     let x = op.opened refl in
@@ -194,8 +194,8 @@ while_statement-returns-in_err-o t c =
     let p = err_from_is_err_and c.from_residual.result c.from_residual.ensures.1 in
     rw (p.1, p.2) (while_refused _ c.requires.2 c.in_err-o.ensures (unread_ends _))
 
-pub while_statement-body-requires : goal.while_statement-body-requires
-while_statement-body-requires t c =
+pub while_statement-statement_list-requires : goal.while_statement-statement_list-requires
+while_statement-statement_list-requires t c =
     let op = c.in_ok-o.ensures in
     let h = asks_listing op.asks op.moves in
     let x = op.opened refl in

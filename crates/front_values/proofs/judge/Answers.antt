@@ -8,6 +8,6 @@ use Rattle.front_values.proofs.judge.Goals as goal
 
 pub returns : goal.returns
 returns c =
-    let t = c.args.tree.now in
+    let a = c.args in
     judged values (exact _ _ _)
-    (rw c.min-end.ensures at (c.lowest_below.ensures (value_at t.decls.now t.starts.now t.shape.tokens) (λ j h r p. search rules)))
+    (rw c.min-end.ensures at (c.lowest_below.ensures (value_at a.decls.now a.starts.now a.shape.tokens) (λ j h r p. search rules)))

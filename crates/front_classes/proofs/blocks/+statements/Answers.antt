@@ -45,5 +45,5 @@ while_statement-block-body-requires t c = omega arith
 
 pub while_statement-returns : goal.while_statement-returns
 while_statement-returns t c = while_is c.requires.0 c.requires.2 c.block-body.ensures
-    (c.place-place.ensures ∙ rw c.number.ensures) c.body_allowed.ensures c.offence-own.ensures c.while_class.ensures
+    (c.place_at-place.ensures ∙ rw c.number-i.ensures) c.body_allowed.ensures c.offence-own.ensures c.while_class.ensures
     c.lower.ensures

@@ -16,7 +16,7 @@ abbrev pub decreases-while_statement : goal.decreases-while_statement
 decreases-while_statement l = 4 * (l.end - l.at) + 1
 
 abbrev pub invariant-block-loop-at : goal.invariant-block-loop-at
-invariant-block-loop-at l = Resting l.tree.rows.now l.tree.starts.now l.tree.shape.tokens l.from l.to l.at l.class l.lowest
+invariant-block-loop-at l = Resting l.process.rows.now l.process.starts.now l.process.tokens l.from l.to l.at l.class l.lowest
 
 abbrev pub decreases-block-loop-at : goal.decreases-block-loop-at
 decreases-block-loop-at l = l.to - l.at

@@ -1,7 +1,7 @@
 use Prim.Native.Nat.{◌-◌}
 use Rattle.front_declarations.specs.Headers.{header_here}
 use Rattle.front_declarations.proofs.GroupLists.{VariablesOnOver}
-use Rattle.front_declarations.proofs.variables.Given as goal
+use Rattle.front_declarations.proofs.variable_groups.Given as goal
 
 abbrev pub invariant-loop-text : goal.invariant-loop-text
 invariant-loop-text l = VariablesOnOver l.text.kinds.now l.text.long.now l.text.count (header_here l.initial.a) l.initial.decls (header_here l.a) l.decls
