@@ -14,7 +14,7 @@ use Rattle.spec_design.specs.Expression.{Unary, sign, invert, Binary, plus, minu
 use Rattle.spec_design.specs.Expression.{divide, modulo, remainder, Out, fault}
 use Rattle.spec_design.specs.Expression.{sum_type, order_type, equality_type, logical_type, type_of_unary, type_of_binary}
 use Rattle.spec_semantics.specs.Evaluation.{as_integer, differ, binary_result, apply_unary, apply_binary}
-use Rattle.base_codes.specs.Operation.{PLUS, AND, unary_code, binary_code, unary_for, binary_for}
+use Rattle.base_codes.specs.Operation.{PLUS, AND, NOT, unary_code, binary_code, unary_for, binary_for}
 use Rattle.base_codes.specs.Types.{tag_of, type_of_tag}
 use Rattle.base_codes.proofs.OperationLaws.{unary_code_lem, binary_code_lem, unary_is, binary_is}
 use Rattle.base_codes.proofs.TypeLaws.{tag_type}
@@ -157,6 +157,12 @@ one_bit k x = by_unary (λ o. unary_by o (some boolean) x ≡ unary_by o (some (
 pub unary_tag : (u : ExprTy) (k t : ℕ) (x : ℤ) {r : Out ℤ} → t ≡ tag_of u → r ≡ unary_by (unary_for k) (some u) x → r ≡ unary_on k t x
 unfolding unary_on
 unary_tag u k t x h e = e ∙ sym (ap (λ (w : Option ExprTy). unary_by (unary_for k) w x) (ap type_of_tag h ∙ tag_type u))
+
+-- not, of what is no integer
+pub not_on : (u : ExprTy) (t : ℕ) (x : ℤ) → t ≡ tag_of u → (t ≡ tag_of (plain integer) → ⊥) → unary_on NOT t x ≡ unary_by (some invert) (some boolean) x
+not_on (plain std_logic) t x h f = sym (unary_tag (plain std_logic) NOT t x h (one_bit NOT x))
+not_on (plain integer) t x h f = absurd (f h)
+not_on boolean t x h f = sym (unary_tag boolean NOT t x h refl)
 
 pub binary_tag : (u : ExprTy) (k t : ℕ) (x y : ℤ) {r : Out ℤ} → t ≡ tag_of u → r ≡ binary_by (binary_for k) (some u) x y
     → r ≡ binary_on k t x y

@@ -1,10 +1,10 @@
 #![tactic(auto)]
 // The operators of document 01 by number, type by type: the one table, for the image's evaluator and for the direct run. An operator that is added gets a
 // line here, in the function of each type that it takes; a type that is added gets a function and a line in `unary` and `binary`.
-ghost use Rattle.std.specs.Prelude.{◌≡◌, ◌+◌, ◌≤◌, ◌<◌, length, get_or, ℤ, pos};
+ghost use Rattle.std.specs.Prelude.{◌≡◌, ◌+◌, ◌≤◌, ◌<◌, length, get_or, ℤ, pos, Ok};
 ghost use Rattle.std.proofs.Math.Option.{some};
 ghost use Rattle.spec_design.specs.Types.{std_logic, integer, plain, boolean};
-ghost use Rattle.spec_design.specs.Expression.{fine};
+ghost use Rattle.spec_design.specs.Expression.{invert, fine};
 ghost use Rattle.spec_semantics.specs.Evaluation.{bit_of};
 ghost use Rattle.base_codes.specs.Operation.{PLUS, MINUS, AND, unary_for, binary_for};
 ghost use Rattle.base_codes.specs.Limit.{ITEMS};
@@ -104,12 +104,19 @@ fn one_integer(op: u8, x: i32) -> Result<i32, Fault>
     }
 }
 
+// `not` of a number that stands for true or false.
+fn inverted(x: i32) -> i32
+    ensures { fine result ≡ unary_by (some invert) (some boolean) x }
+{
+    base_signed::from_bool(!base_signed::is_one(x))
+}
+
 // A number that stands for true or false.
 fn one_logical(op: u8, x: i32) -> Result<i32, Fault>
     ensures { outcome result ≡ unary_by (unary_for op) (some boolean) x }
 {
     match op {
-        operation::NOT => logic(!base_signed::is_one(x)),
+        operation::NOT => Ok(inverted(x)),
         _ => Err(Fault::NoExpression),
     }
 }
@@ -133,6 +140,14 @@ pub fn apply_unary(stack: &mut [i32; limit::ITEMS], i: usize, op: u8, t: u8) -> 
 {
     stack[i] = unary(op, t, stack[i])?;
     Ok(())
+}
+
+// `not` of a std_logic or a boolean, without a look at the table: it is never refused.
+pub fn apply_not(stack: &mut [i32; limit::ITEMS], i: usize)
+    requires { (length stack.old ≡ ITEMS) × (i < ITEMS) }
+    ensures { Applied (unary_by (some invert) (some boolean) (get_or stack.old i (pos 0))) stack.old i stack.new (Ok tt) }
+{
+    stack[i] = inverted(stack[i]);
 }
 
 // Applies an operator of two operands of the type t, which stand at i and behind it, by the table.

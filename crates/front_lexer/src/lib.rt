@@ -48,7 +48,7 @@ pub fn lex(
     Ok(n)
 }
 
-// The token that starts at a place, as that part of the text, or an empty part. Pieces after the place are not read.
+// The token that starts at a place, as that part of the text, or an empty part. Pieces after the place are not read; blanks are passed here, as in `lex`.
 pub fn token_at<'a>(text: &'a [u8], place: usize) -> &'a [u8]
     ensures { result.now ≡ token_at text.now place }
 {
@@ -58,15 +58,19 @@ pub fn token_at<'a>(text: &'a [u8], place: usize) -> &'a [u8]
         if place < i {
             return &[];
         }
-        match pieces::piece_at(&table, text, i) {
-            Piece::Gap(end) => i = end,
-            Piece::Token(_, end) => {
-                if i == place {
-                    return &text[i..end];
+        if bytes::is_blank(&table, text[i]) {
+            i += 1;
+        } else {
+            match pieces::piece_at(&table, text, i) {
+                Piece::Gap(end) => i = end,
+                Piece::Token(_, end) => {
+                    if i == place {
+                        return &text[i..end];
+                    }
+                    i = end;
                 }
-                i = end;
+                Piece::Nothing => return &[],
             }
-            Piece::Nothing => return &[],
         }
     }
     &[]

@@ -38,7 +38,7 @@ pub(crate) fn is_underscore(table: &[ByteKind; BYTES], b: u8) -> bool
     kind_of(table, b) == ByteKind::Underscore
 }
 
-// Asked in the lexer's loop, which passes blanks itself.
+// Asked in the lexer's loops, which pass blanks themselves.
 pub fn is_blank(table: &[ByteKind; BYTES], b: u8) -> bool
     requires { Kinds table.now }
     ensures { result ≡ is blank b }

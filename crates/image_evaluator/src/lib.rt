@@ -2,10 +2,12 @@
 // Evaluates the postfix code of a line on a stack of values, each a number with its type.
 mod operand;
 
-ghost use Rattle.std.specs.Prelude.{◌≡◌, ◌+◌, ◌<◌, ◌≤◌, true, length};
+ghost use Rattle.std.specs.Prelude.{◌≡◌, ◌↔◌, ◌+◌, ◌<◌, ◌≤◌, true, length};
+ghost use Rattle.spec_design.specs.Types.{integer, plain};
 ghost use Rattle.spec_design.specs.Expression.{Out};
-ghost use Rattle.base_codes.specs.Operation.{PLUS, MINUS, unary_for, binary_for};
+ghost use Rattle.base_codes.specs.Operation.{NOT, PLUS, MINUS, unary_for, binary_for};
 ghost use Rattle.image_evaluator.specs.Position.{ROOM, next_of, fetch_at, pushed, pushed_within};
+ghost use Rattle.base_codes.specs.Types.{tag_of};
 ghost use Rattle.base_codes.specs.Fault.{outcome};
 ghost use Rattle.image_evaluator.specs.Value.{Cell, machine_for, code_value, part_value, evaluated_of};
 ghost use Rattle.image_evaluator.specs.Operators.{unary_next, binary_next};
@@ -71,7 +73,15 @@ fn push(
     keep(stack, depth, e, at)
 }
 
-// Applies an operator of one operand.
+// Whether the operator is `not`, of what is no integer: of a std_logic or a boolean.
+fn is_not(op: u8, t: u8) -> bool
+    ensures { result ≡ true ↔ (op ≡ NOT) × (t ≡ tag_of (plain integer) → ⊥) }
+{
+    op == operation::NOT && t != types::INTEGER
+}
+
+// Applies an operator of one operand. `not` of a std_logic or a boolean comes first and by itself, as sums do below: it is never refused and keeps its operand's
+// type, so that nothing is tested behind it and no tag stored.
 fn apply_unary(stack: &mut Stack, depth: usize, op: u8, at: usize) -> Result<Progress, Fault>
     requires { Room stack.old.values stack.old.tags depth }
     ensures { Says stack.new.values stack.new.tags result (unary_next (unary_for op) at (cells_of stack.old.values stack.old.tags depth)) }
@@ -81,6 +91,10 @@ fn apply_unary(stack: &mut Stack, depth: usize, op: u8, at: usize) -> Result<Pro
     }
     let i = depth - 1;
     let t = stack.tags[i];
+    if is_not(op, t) {
+        base_operators::apply_not(&mut stack.values, i);
+        return Ok(Progress { depth: i + 1, at });
+    }
     base_operators::apply_unary(&mut stack.values, i, op, t)?;
     stack.tags[i] = operation::result_type(op, t);
     Ok(Progress { depth: i + 1, at })
@@ -88,7 +102,7 @@ fn apply_unary(stack: &mut Stack, depth: usize, op: u8, at: usize) -> Result<Pro
 
 // Whether the operator is + or - of integers.
 fn is_sum(op: u8, t: u8) -> bool
-    ensures { result ≡ true → (t ≡ 1) × ((PLUS ≤ op) × (op ≤ MINUS)) }
+    ensures { result ≡ true ↔ (t ≡ tag_of (plain integer)) × (PLUS ≤ op) × (op ≤ MINUS) }
 {
     t == types::INTEGER && operation::PLUS <= op && op <= operation::MINUS
 }

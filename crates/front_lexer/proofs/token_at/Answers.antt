@@ -3,7 +3,8 @@ use mathlib.Core.Path.{refl, sym, ◌∙◌}
 use native.Mathlib.Omega.{arith}
 use borrow.Author.Tests.{eq-eqb, ne_eqb}
 use Rattle.spec_language.specs.Lexer.{token_at}
-use Rattle.front_lexer.proofs.Advance.{gapped, tokened, stopped, nothing_left, token_past}
+use Rattle.front_lexer.proofs.Advance.{gapped, blank_gapped, tokened, stopped, nothing_left, token_past}
+use Rattle.front_token.proofs.ByteKinds.{flag}
 use borrow.Author.Rules.{rules}
 use Rattle.front_lexer.proofs.token_at.Goals as goal
 
@@ -13,6 +14,11 @@ loop-i-init c = (search rules, refl)
 
 pub returns-then-place-i : goal.returns-then-place-i
 returns-then-place-i c = sym (token_past _ 0 _ _ c.if-place-i.true) ∙ c.loop-i.invariant.1
+
+pub loop-i-preserved-then-is_blank : goal.loop-i-preserved-then-is_blank
+loop-i-preserved-then-is_blank c =
+    let g = blank_gapped _ _ c.loop-i-test.true (flag c.is_blank.ensures c.if-is_blank.true) in
+    (g.within, sym (g.hands _) ∙ c.loop-i.invariant.1)
 
 pub loop-i-smaller-in-Gap : goal.loop-i-smaller-in-Gap
 loop-i-smaller-in-Gap c =

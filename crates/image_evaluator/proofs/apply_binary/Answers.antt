@@ -53,7 +53,7 @@ returns-in_err-apply_sum c =
     let x = get_or a i (pos 0) in
     let y = get_or a j (pos 0) in
     let k : i + 1 ≡ j = omega arith in
-    let w : get_or t i 0 ≡ 1 = (c.is_sum.ensures c.if-is_sum.true).0 in
+    let w : get_or t i 0 ≡ 1 = (c.is_sum.ensures.0 c.if-is_sum.true).0 in
     let summed : Applied (binary_on s.op (get_or t i 0) x (get_or a (i + 1) (pos 0))) a i c.apply_sum.new.stack c.apply_sum.result = rw (w, integer_on) c.apply_sum.ensures in
     let e : c.from_residual.result ≡ Err c.in_err-apply_sum.field-0.0 = search rules in
     rw e (halted c.in_err-apply_sum.field-0.0 (binary_on s.op (get_or t i 0) x y) a t i (result_for s.op (get_or t i 0)) s.at
@@ -75,7 +75,7 @@ returns-then-is_sum c =
     let x = get_or a i (pos 0) in
     let y = get_or a j (pos 0) in
     let k : i + 1 ≡ j = omega arith in
-    let w : get_or t i 0 ≡ 1 = (c.is_sum.ensures c.if-is_sum.true).0 in
+    let w : get_or t i 0 ≡ 1 = (c.is_sum.ensures.0 c.if-is_sum.true).0 in
     let summed : Applied (binary_on s.op (get_or t i 0) x (get_or a (i + 1) (pos 0))) a i c.apply_sum.new.stack c.apply_sum.result = rw (w, integer_on) c.apply_sum.ensures in
     let ok : IsOk c.apply_sum.result = search rules in
     went (binary_on s.op (get_or t i 0) x y) a t i c.result_type.result s.at
