@@ -1,6 +1,8 @@
 -- Laws of products and quotients of integers: which fit, what a quotient comes to, and the sign of a modulus. By cases on the signs. Assumes nothing.
 use Prim.Native.Nat.{ℕ, zero, suc, ◌*◌, ◌-◌, ◌≤◌, ◌<◌}
-use Rattle.std.specs.Prelude.{◌≡◌, refl, Bool, true, false, cond, ◌&&◌, ℤ, pos, negsuc, neg_ℤ, ◌+ℤ◌, ◌*ℤ◌}
+use Rattle.std.specs.Prelude.{◌≡◌, refl, Bool, true, false, cond, ◌&&◌, ℤ, pos, negsuc, neg_ℤ, ◌+ℤ◌, ◌*ℤ◌, Option, Some, None, SomeIff}
+use Rattle.std.specs.Int.{CanDivide}
+use Rattle.std.specs.Option.{ok_or}
 use mathlib.Core.Path.{sym, ◌∙◌}
 use mathlib.Core.Bool.{beq}
 use native.Mathlib.Omega.{arith}
@@ -13,12 +15,14 @@ use mir.Syntax.{w32, w64}
 use mir.Val.{SFits, of_z}
 use Rattle.spec_design.specs.Types.{eq_z, in_range}
 use Rattle.spec_design.specs.Expression.{Out, fine, fault}
+use Rattle.base_codes.specs.Fault.{outcome}
+use Rattle.base_codes.specs.declared.fault.Fault.TheVariants.{OutOfRange}
 use Rattle.spec_semantics.specs.Division.{negative, alike, to_sign, mod_z, by_nonzero}
 use Rattle.spec_semantics.specs.Evaluation.{as_integer}
 use Rattle.spec_semantics.proofs.Basic.{false_true, eq_z_true, and_left, and_right}
 use Rattle.spec_semantics.proofs.Divided.{mag_quot}
 use Rattle.spec_semantics.proofs.Faults.{by_other}
-use Rattle.base_signed.proofs.Range.{zero_bits, other_bits}
+use Rattle.base_signed.proofs.Range.{zero_bits, other_bits, integer_inside, integer_outside}
 
 -- PRODUCTS
 mag_below : (n m : ℕ) → n ≤ m → mag (neg_ℤ (pos n)) ≤ m
@@ -49,6 +53,12 @@ pub divisor_other : (y : ℤ) (o : Out ℤ) → (of_z w32 y ≡ 0 → ⊥) → o
 divisor_other y o h = sym (by_other y o (other_bits y h))
 
 -- QUOTIENTS
+-- what the library divides, told as an operator is: a quotient is an integer, or refused
+pub quotient : (x y : ℤ) (r : Option ℤ) → (of_z w32 y ≡ 0 → ⊥) → SomeIff r (CanDivide w32 x y) (quot_z x y)
+    → outcome (ok_or r OutOfRange) ≡ as_integer (quot_z x y)
+quotient x y None h n = sym (integer_outside (quot_z x y) (λ f. n (omega arith, f)))
+quotient x y (Some q) h e = rw e.1 (sym (integer_inside (quot_z x y) e.0.1))
+
 -- the least integer and -1
 least_is : (x y : ℤ) → (eq_z x (negsuc 2147483647) && eq_z y (negsuc 0)) ≡ true → (x ≡ negsuc 2147483647) × (y ≡ negsuc 0)
 least_is x y e =

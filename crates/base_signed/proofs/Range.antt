@@ -49,6 +49,15 @@ pub integer_high : (z : ℤ) → lt_z (pos 2147483647) z ≡ true → as_integer
 unfolding as_integer
 integer_high z e = rw (range_high z e)
 
+-- what is no integer
+pub integer_outside : (z : ℤ) → (SFits w32 z → ⊥) → as_integer z ≡ fault 16
+integer_outside z h = go (lt_z z (negsuc 2147483647)) refl (lt_z (pos 2147483647) z) refl
+  where
+    go : (a : Bool) → lt_z z (negsuc 2147483647) ≡ a → (b : Bool) → lt_z (pos 2147483647) z ≡ b → as_integer z ≡ fault 16
+    go true p b q = integer_low z p
+    go false p true q = integer_high z q
+    go false p false q = absurd (h (fits_range z p q))
+
 mag_cond : (t : Bool) (a b n : ℕ) → a ≤ n → b ≤ n → mag (cond t (negsuc a) (pos b)) ≤ n
 mag_cond true a b n p q = p
 mag_cond false a b n p q = q

@@ -8,6 +8,7 @@ use native.Mathlib.Numerals.{add-one}
 use lib.ListN.{length, get_or, drop, drop_of_length-le, length-drop, length-map}
 use lib.Seq.{drop-cons, take_all, take-nil}
 use Rattle.std.specs.Prelude.{IsTrue, ◌↔◌}
+use Rattle.std.specs.Char.{to_ascii_lowercase}
 use Rattle.std.proofs.lemmas.List.{get_or-map}
 use Rattle.spec_language.specs.Bytes.{lower}
 use Rattle.spec_language.specs.Words.{value}
@@ -15,6 +16,7 @@ use Rattle.spec_language.specs.Lexing.{equal}
 use Rattle.spec_language.proofs.Facts.{clash}
 use Rattle.spec_language.proofs.Lexing.{equal_is, equal_refl}
 use Rattle.front_token.specs.Places.{part}
+use Rattle.front_token.proofs.Lower.{lower_all}
 use Rattle.front_token.proofs.WordLaws.{spells_by}
 
 -- a part of a text, by where it ends
@@ -37,6 +39,15 @@ module _ (digits : List ℕ) (i v : ℕ) where
   pub value_end : length digits ≤ i → value v (drop i digits) ≡ v
   unfolding value
   value_end h = rw (drop_of_length-le digits h)
+
+-- two words are the same in lower case, as the library has it
+pub same_by : (a b : List ℕ) (r : Bool) → IsTrue r ↔ (map to_ascii_lowercase a ≡ map to_ascii_lowercase b) → r ≡ equal (map lower a) (map lower b)
+same_by a b r e = go r (rw (lower_all a, lower_all b) at e) (equal (map lower a) (map lower b)) refl
+  where
+    go : (r : Bool) → IsTrue r ↔ (map lower a ≡ map lower b) → (q : Bool) → equal (map lower a) (map lower b) ≡ q → r ≡ q
+    go true e q f = sym (equal_refl (map lower a)) ∙ (ap (equal (map lower a)) (e.0 refl) ∙ f)
+    go false e true f = clash (sym (e.1 (equal_is (map lower a) (map lower b) f)))
+    go false e false f = refl
 
 equal_comm : (a b : List ℕ) → equal a b ≡ equal b a
 equal_comm a b = go (equal a b) refl (equal b a) refl

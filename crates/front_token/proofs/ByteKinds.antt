@@ -16,7 +16,7 @@ use Rattle.front_token.specs.declared.kinds.ByteKind.{ByteKind}
 use Rattle.front_token.specs.declared.kinds.ByteKind.TheVariants.{Letter, Digit, Underscore, Blank, Quote, Mark, Other}
 use Rattle.front_token.specs.contracts.kinds.ByteKind.{the_type}
 use Rattle.front_token.specs.Kinds.{Kinds, named}
-use Rattle.front_token.proofs.Entries.{every, entry}
+use Rattle.front_token.proofs.Entries.{every, entry, values, value_at}
 
 -- the kind of each byte
 abbrev pub kind_at : ℕ → ByteKind
@@ -35,10 +35,14 @@ tag_is B.none = refl
 unfoldable pub right : ℕ → ByteKind → Bool
 right b x = eqb (tag_of the_type x) (kind_code (byte_kind b))
 
+-- a table of the kinds of the 256 bytes
+pub kinds_by : (table : List ByteKind) → table ≡ values kind_at 0 256 → Kinds table
+kinds_by table e = record { each = λ b h. rw e (value_at kind_at 256 b Other h) }
+
 -- a table of 256 entries that are all right
-pub kinds_by : (table : List ByteKind) → length table ≡ 256 → every right 0 table ≡ true → Kinds table
+pub kinds_tested : (table : List ByteKind) → length table ≡ 256 → every right 0 table ≡ true → Kinds table
 unfolding right
-kinds_by table n e = record {
+kinds_tested table n e = record {
   each = λ b h. tag_one the_type tt (get_or table b Other) (kind_at b) (eqb-true (tag_of the_type (get_or table b Other)) (kind_code (byte_kind b)) (entry right Other table e b (omega arith)) ∙ sym (tag_is (byte_kind b)));
 }
 
